@@ -105,21 +105,28 @@ fn steps_of(
 {
     let mut steps = Vec::with_capacity(alloc, derivations.len())?;
     for derivation in derivations {
-        steps.push(as_step(derivation))?;
+        steps.push(as_step(alloc, derivation)?)?;
     }
     Ok(steps)
 }
 
-fn as_step(derivation: Derivation) -> Step<Named<Constraint>>
-    ensures { step_of (named_of constraint_of) result ≡ derivation_of derivation }
+fn as_step(alloc: Global, derivation: Derivation) -> Result<Step<Named<Constraint>>, AllocError>
+    ensures { IfOk result (λ s. step_of (named_of constraint_of) s ≡ derivation_of derivation) }
 {
-    Step {
-        stated: Named {
-            name: derivation.name,
-            item: derivation.constraint,
-        },
-        reason: StepReason::from_reason(derivation.reason),
-        last: derivation.last,
+    let stated = Named {
+        name: derivation.name,
+        item: derivation.constraint,
+    };
+    match StepReason::from_reason(alloc, derivation.reason) {
+        Ok(reason) => Ok(Step {
+            stated,
+            reason,
+            last: derivation.last,
+        }),
+        Err(error) => {
+            drop(stated);
+            Err(error)
+        }
     }
 }
 

@@ -8,8 +8,7 @@ ghost use Rattle.vipr_tighten.specs.Dropping.{dropped_after};
 ghost use Rattle.vipr_tighten.specs.Passes.{NamedConstraint, StandFor};
 
 use std::alloc::{AllocError, Global};
-use vipr_cert::Reason;
-use vipr_write::{Step, StepReason};
+use vipr_write::Step;
 
 /// The largest number of derived constraints that have to be held at a time. The first step has
 /// the index `first`.
@@ -36,12 +35,9 @@ fn dropped_after<S>(step: &Step<S>, index: usize) -> Option<usize>
     requires { index < 2 ^ 32 }
     ensures { result ≡ dropped_after index (Some (kept_reason_of step.now.reason)) step.now.last }
 {
-    match &step.reason {
-        StepReason::Whole(Reason::Asm) => None,
-        _ => match step.last {
-            None => None,
-            Some(last) => Some((last as usize).max(index + 1)),
-        },
+    match step.last {
+        Some(last) if !step.reason.is_assumption() => Some((last as usize).max(index + 1)),
+        _ => None,
     }
 }
 

@@ -38,7 +38,7 @@ pub(crate) fn renumber<S: Drop>(
     for place in 0..steps.len() {
         let index = first + kept as u32;
         if marks[place] {
-            take_over(alloc, steps, kept, place, first, &table);
+            take_over(steps, kept, place, first, &table);
             kept += 1;
         }
         table.push(index)?;
@@ -49,14 +49,7 @@ pub(crate) fn renumber<S: Drop>(
 
 // Takes the step at a place over, behind the first `kept`: under its new indices, and as the last
 // reference of those that it refers to.
-fn take_over<S>(
-    alloc: Global,
-    steps: &mut [Step<S>],
-    kept: usize,
-    place: usize,
-    first: u32,
-    table: &[u32],
-)
+fn take_over<S>(steps: &mut [Step<S>], kept: usize, place: usize, first: u32, table: &[u32])
     requires behind { kept ≤ place }
     requires there { place < length steps.old }
     requires few { first + kept ≤ most_count }
@@ -67,7 +60,7 @@ fn take_over<S>(
     steps.swap(kept, place);
     let (front, back) = steps.split_at_mut(kept);
     let moved_item = &mut back[0];
-    renumber_references(alloc, moved_item, first, table);
+    renumber_references(moved_item, first, table);
     set_last(front, first, &moved_item.reason, first + kept as u32);
 }
 
@@ -97,13 +90,13 @@ fn renumber_entries<E: SumEntry>(entries: &mut Vec<E>, first: u32, table: &[u32]
 }
 
 // The reason of one entry under its new index, unless its multiplier is 0.
-fn renumbered_one(alloc: Global, entry: ShortEntry, first: u32, table: &[u32]) -> StepReason
+fn renumbered_one(entry: ShortEntry, first: u32, table: &[u32]) -> StepReason
     requires { entry.index < first + length table.now }
     ensures { kept_reason_of result
         ≡ lin (renumbered_entries (index_by first table.now) (entry_of entry ∷ [])) }
 {
     if entry.is_zero() {
-        StepReason::Lin(Vec::new(alloc))
+        StepReason::Empty
     } else {
         let mut moved = entry;
         moved.index = index_of(entry.index, first, table);
@@ -131,28 +124,29 @@ fn renumber_reason(reason: &mut Reason, first: u32, table: &[u32])
 }
 
 // Gives the reason of a step the new indices.
-fn renumber_step_reason(alloc: Global, reason: &mut StepReason, first: u32, table: &[u32])
+fn renumber_step_reason(reason: &mut StepReason, first: u32, table: &[u32])
     requires { NamesEarlier (first + length table.now) (Some (kept_reason_of reason.old)) }
     ensures { kept_reason_of reason.new
         ≡ renumbered_reason (index_by first table.now) (kept_reason_of reason.old) }
 {
     match reason {
-        StepReason::Whole(reason) => renumber_reason(reason, first, table),
-        StepReason::One(entry) => *reason = renumbered_one(alloc, *entry, first, table),
+        StepReason::Asm | StepReason::Empty => {}
+        StepReason::One(entry) => *reason = renumbered_one(*entry, first, table),
         StepReason::Lin(entries) => renumber_entries(entries, first, table),
         StepReason::Rnd(entries) => renumber_entries(entries, first, table),
+        StepReason::Whole(reason) => renumber_reason(reason, first, table),
     }
 }
 
 // Gives a step the new indices, and takes its last reference away.
-fn renumber_references<S>(alloc: Global, step: &mut Step<S>, first: u32, table: &[u32])
+fn renumber_references<S>(step: &mut Step<S>, first: u32, table: &[u32])
     requires { NamesEarlier (first + length table.now) (Some (kept_reason_of step.old.reason)) }
     ensures { (view : S → NamedConstraint) → step_of view step.new
         ≡ record (with_new_indices (index_by first table.now) (step_of view step.old)) {
           last = None;
         } }
 {
-    renumber_step_reason(alloc, &mut step.reason, first, table);
+    renumber_step_reason(&mut step.reason, first, table);
     step.last = None;
 }
 

@@ -208,9 +208,9 @@ tail : (start mid word : List ℕ)
 tail start mid word = simp append_assoc
 
 pub step_parts : (own row mid word : List ℕ)
-    → ((((((own ++ row) ++ codes " {") ++ mid) ++ codes " }") ++ 32 ∷ word) ++ codes "\n")
+    → (((((own ++ row) ++ (codes " {" ++ mid)) ++ codes " }") ++ 32 ∷ word) ++ codes "\n")
     ≡ (own ++ row) ++ (codes " {" ++ (mid ++ (codes " }" ++ (32 ∷ word ++ codes "\n"))))
-step_parts own row mid word = tail (own ++ row) mid word
+step_parts own row mid word = simp append_assoc
 
 pub first_of : (d : Derivation) (xs ys : List Derivation) (a b : Derivation) → a ∷ xs ≡ b ∷ ys
     → a ≡ b

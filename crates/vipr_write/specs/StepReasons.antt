@@ -1,5 +1,5 @@
 -- Reasons of steps as those of the definitions
-use Rattle.std.specs.Prelude.{◌≡◌, ◌≢◌, ℕ, ◌^◌, ◌<◌, List, ◌∷◌, [], map, length, All}
+use Rattle.std.specs.Prelude.{◌≡◌, ℕ, ◌^◌, ◌<◌, List, ◌∷◌, [], map, length, All}
 use Rattle.std.specs.Prelude.{FitsSigned, ⊤}
 use Rattle.std.specs.Int.{w32}
 use Rattle.vipr_spec.specs.Fraction.{ℚ, over}
@@ -8,7 +8,8 @@ use Rattle.vipr_cert.specs.Items.{reason_of}
 use Rattle.vipr_cert.specs.Reasons.{references_of}
 use Rattle.vipr_write.specs.declared.short_entry.ShortEntry.{ShortEntry}
 use Rattle.vipr_write.specs.declared.step_reason.StepReason.{StepReason}
-use Rattle.vipr_write.specs.declared.step_reason.StepReason.TheVariants.{Whole, One, Lin, Rnd}
+use Rattle.vipr_write.specs.declared.step_reason.StepReason.TheVariants.{Asm, Empty, One, Lin}
+use Rattle.vipr_write.specs.declared.step_reason.StepReason.TheVariants.{Rnd, Whole}
 use Rattle.vipr_write.specs.declared.step_reason.StepReferences.{StepReferences}
 use Rattle.vipr_write.specs.declared.step_reason.StepReferences.TheVariants as named
 
@@ -19,10 +20,12 @@ abbrev pub entry_of : ShortEntry → ℕ × ℚ
 entry_of e = (e.index, multiplier_of e)
 
 abbrev pub kept_reason_of : StepReason → is.Reason
-kept_reason_of (Whole r) = reason_of r
+kept_reason_of Asm = is.asm
+kept_reason_of Empty = is.lin []
 kept_reason_of (One e) = is.lin (entry_of e ∷ [])
-kept_reason_of (Lin es) = is.lin (map entry_of es.items)
-kept_reason_of (Rnd es) = is.rnd (map entry_of es.items)
+kept_reason_of (Lin es) = is.lin (map entry_of es.value.items)
+kept_reason_of (Rnd es) = is.rnd (map entry_of es.value.items)
+kept_reason_of (Whole r) = reason_of r.value
 
 abbrev pub kept_references_of : StepReferences → is.References
 kept_references_of (named.Whole rs) = references_of rs
@@ -37,11 +40,13 @@ IsShort x = FitsSigned w32 x.numer × (x.denom < 2 ^ 32)
 abbrev pub AreShort : List (ℕ × ℚ) → Type 0
 AreShort es = All (λ e. IsShort e.1) es
 
--- A reason is whole only if it names no entries or one that isn't short. A `lin` of one short
--- entry is kept in no vector.
+-- A reason is whole only if it names no entries or one that isn't short. A `lin` of no entries or
+-- of a short one is kept in no vector.
 abbrev pub IsShortest : StepReason → Type 0
-IsShortest (Whole r) = (es : List (ℕ × ℚ)) → is.reason_references (reason_of r) ≡ is.by_entries es
-    → AreShort es → ⊥
+IsShortest Asm = ⊤
+IsShortest Empty = ⊤
 IsShortest (One e) = ⊤
-IsShortest (Lin es) = length es.items ≢ 1
+IsShortest (Lin es) = 1 < length es.value.items
 IsShortest (Rnd es) = ⊤
+IsShortest (Whole r) = (es : List (ℕ × ℚ))
+    → is.reason_references (reason_of r.value) ≡ is.by_entries es → AreShort es → ⊥

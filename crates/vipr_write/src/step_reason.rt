@@ -1,12 +1,10 @@
 //! The reason of a step, which takes little memory.
-ghost use Rattle.std.specs.Prelude.{◌≡◌, ◌≤◌, ◌↔◌, ◌∷◌, ℕ, IfOk, IfSome, IsSome, length, map, pos};
+ghost use Rattle.std.specs.Prelude.{◌≡◌, ◌↔◌, ◌∷◌, ℕ, Some, IfOk, IfSome, IsSome, map, pos};
 ghost use Rattle.std.specs.Ordering.{int_eq};
 ghost use Rattle.vipr_spec.specs.Fraction.{ℚ};
 ghost use Rattle.vipr_spec.specs.Number.{number_text};
-ghost use Rattle.vipr_spec.specs.Certificate.{lin, reason_references, rnd};
-ghost use Rattle.vipr_spec.specs.Reading.{most_bytes};
+ghost use Rattle.vipr_spec.specs.Certificate.{is_assumption, lin, reason_references, rnd};
 ghost use Rattle.vipr_cert.specs.Items.{reason_of};
-ghost use Rattle.vipr_cert.specs.Reasons.{reason_word};
 ghost use Rattle.vipr_bytes.specs.Puts.{Puts};
 ghost use Rattle.vipr_write.specs.StepReasons.{entry_of, kept_reason_of, kept_references_of};
 ghost use Rattle.vipr_write.specs.StepReasons.{AreShort, IsShortest};
@@ -19,14 +17,18 @@ use vipr_bytes::Out;
 use vipr_cert::{Reason, References};
 use vipr_frac::Frac;
 
-/// Why the derived constraint of a step holds: a reason, or a sum whose entries are short.
+/// Why the derived constraint of a step holds: a reason, or a sum whose entries are short. It takes
+/// 16 bytes, and what is long is behind a pointer.
 #[derive(Debug, Drop)]
 pub enum StepReason {
-    Whole(Reason),
+    Asm,
+    /// `Lin` with no entries.
+    Empty,
     /// `Lin` with this entry alone.
     One(ShortEntry),
-    Lin(Vec<ShortEntry>),
-    Rnd(Vec<ShortEntry>),
+    Lin(Box<Vec<ShortEntry>>),
+    Rnd(Box<Vec<ShortEntry>>),
+    Whole(Box<Reason>),
 }
 
 /// What the reason of a step names, in the order of its text.
@@ -116,6 +118,9 @@ fn lin_of(alloc: Global, entries: &[(u32, Frac)]) -> Result<StepReason, AllocErr
     ensures reason { IfOk result (λ r. kept_reason_of r ≡ lin entries.now) }
     ensures shortest { IfOk result IsShortest }
 {
+    if entries.is_empty() {
+        return Ok(StepReason::Empty);
+    }
     if entries.len() == 1 {
         let (index, multiplier) = entries[0];
         if let Some(entry) = ShortEntry::of(index, &multiplier) {
@@ -123,8 +128,11 @@ fn lin_of(alloc: Global, entries: &[(u32, Frac)]) -> Result<StepReason, AllocErr
         }
     }
     match short_entries(alloc, entries)? {
-        Some(short) => Ok(StepReason::Lin(short)),
-        None => Ok(StepReason::Whole(Reason::Lin(Vec::from_slice(alloc, entries)?))),
+        Some(short) => Ok(StepReason::Lin(Box::new(alloc, short)?)),
+        None => {
+            let whole = Reason::Lin(Vec::from_slice(alloc, entries)?);
+            Ok(StepReason::Whole(Box::new(alloc, whole)?))
+        }
     }
 }
 
@@ -134,8 +142,11 @@ fn rnd_of(alloc: Global, entries: &[(u32, Frac)]) -> Result<StepReason, AllocErr
     ensures shortest { IfOk result IsShortest }
 {
     match short_entries(alloc, entries)? {
-        Some(short) => Ok(StepReason::Rnd(short)),
-        None => Ok(StepReason::Whole(Reason::Rnd(Vec::from_slice(alloc, entries)?))),
+        Some(short) => Ok(StepReason::Rnd(Box::new(alloc, short)?)),
+        None => {
+            let whole = Reason::Rnd(Vec::from_slice(alloc, entries)?);
+            Ok(StepReason::Whole(Box::new(alloc, whole)?))
+        }
     }
 }
 
@@ -152,15 +163,23 @@ impl StepReason {
         match reason {
             Reason::Lin(entries) => lin_of(alloc, entries),
             Reason::Rnd(entries) => rnd_of(alloc, entries),
-            whole => Ok(StepReason::Whole(whole.clone()?)),
+            Reason::Asm => Ok(StepReason::Asm),
+            whole => Ok(StepReason::Whole(Box::new(alloc, whole.clone()?)?)),
         }
     }
 
     /// The reason, whose entries are moved.
-    pub fn from_reason(reason: Reason) -> StepReason
-        ensures { kept_reason_of result ≡ reason_of reason }
+    ///
+    /// # Errors
+    ///
+    /// If an allocation is refused.
+    pub fn from_reason(alloc: Global, reason: Reason) -> Result<StepReason, AllocError>
+        ensures { IfOk result (λ r. kept_reason_of r ≡ reason_of reason) }
     {
-        StepReason::Whole(reason)
+        match reason {
+            Reason::Asm => Ok(StepReason::Asm),
+            whole => Ok(StepReason::Whole(Box::new(alloc, whole)?)),
+        }
     }
 
     /// The reason of which this is kept.
@@ -172,22 +191,23 @@ impl StepReason {
         ensures { IfOk result (λ r. reason_of r ≡ kept_reason_of self) }
     {
         match self {
-            StepReason::Whole(whole) => Ok(whole),
+            StepReason::Asm => Ok(Reason::Asm),
+            StepReason::Empty => Ok(Reason::Lin(Vec::new(alloc))),
             StepReason::One(entry) => Ok(Reason::Lin(long_entries(alloc, from_ref(&entry))?)),
             StepReason::Lin(short) => Ok(Reason::Lin(long_entries(alloc, &short)?)),
             StepReason::Rnd(short) => Ok(Reason::Rnd(long_entries(alloc, &short)?)),
+            StepReason::Whole(whole) => Ok(Box::into_inner(whole)),
         }
     }
 
-    /// The word of its rule.
-    pub(crate) fn word(&self) -> &'static str
-        ensures word { result.now ≡ reason_word (kept_reason_of self.now) }
-        ensures short { length result.now ≤ most_bytes }
+    /// Whether it is that of an assumption.
+    pub fn is_assumption(&self) -> bool
+        ensures { result ≡ is_assumption (Some (kept_reason_of self.now)) }
     {
         match self {
-            StepReason::Whole(whole) => whole.word(),
-            StepReason::One(_) | StepReason::Lin(_) => "lin",
-            StepReason::Rnd(_) => "rnd",
+            StepReason::Asm => true,
+            StepReason::Whole(whole) => matches!(**whole, Reason::Asm),
+            _ => false,
         }
     }
 
@@ -196,9 +216,11 @@ impl StepReason {
         ensures { kept_references_of result ≡ reason_references (kept_reason_of self.now) }
     {
         match self {
-            StepReason::Whole(whole) => StepReferences::Whole(whole.references()),
+            StepReason::Asm => StepReferences::Whole(References::Nothing),
+            StepReason::Empty => StepReferences::Short(&[]),
             StepReason::One(entry) => StepReferences::Short(from_ref(entry)),
-            StepReason::Lin(short) | StepReason::Rnd(short) => StepReferences::Short(short),
+            StepReason::Lin(short) | StepReason::Rnd(short) => StepReferences::Short(&**short),
+            StepReason::Whole(whole) => StepReferences::Whole(whole.references()),
         }
     }
 }

@@ -141,9 +141,9 @@ pub(crate) fn put_sense<O: Out>(out: &mut O, sense: Sense)
         (32 ∷ sense_word (sense_of sense)) }
 {
     match sense {
-        Sense::E => put_word(out, b"E"),
-        Sense::L => put_word(out, b"L"),
-        Sense::G => put_word(out, b"G"),
+        Sense::E => out.put(b" E"),
+        Sense::L => out.put(b" L"),
+        Sense::G => out.put(b" G"),
     }
 }
 
@@ -164,7 +164,7 @@ pub(crate) fn put_last<O: Out>(out: &mut O, last: Option<u32>)
         (32 ∷ last_word last) }
 {
     match last {
-        None => put_word(out, b"-1"),
+        None => out.put(b" -1"),
         Some(i) => put_index(out, i as usize),
     }
 }

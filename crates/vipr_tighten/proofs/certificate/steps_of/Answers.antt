@@ -10,7 +10,7 @@ use Rattle.vipr_tighten.proofs.certificate.steps_of.Goals as goal
 pub loop-derivation-preserved : goal.loop-derivation-preserved
 loop-derivation-preserved c =
     rw c.in_ok-push.ensures.items
-    (map_push (step_of (named_of constraint_of)) c.loop-derivation.steps.items c.as_step.result ∙ ap₂ (λ l x. l ++ x ∷ []) c.loop-derivation.invariant c.as_step.ensures ∙ sym (map_push derivation_of c.loop-derivation.yielded c.in-Some.derivation))
+    (map_push (step_of (named_of constraint_of)) c.loop-derivation.steps.items c.in_ok-as_step.field-0 ∙ ap₂ (λ l x. l ++ x ∷ []) c.loop-derivation.invariant c.in_ok-as_step.ensures ∙ sym (map_push derivation_of c.loop-derivation.yielded c.in-Some.derivation))
 
 pub returns : goal.returns
 returns c =
