@@ -1,71 +1,70 @@
--- Readings that a text is read by again, one after the other
-use Rattle.std.proofs.Common.{◌≡◌, ℕ, suc, ◌+◌, ◌-◌, ◌<◌, inl, inr, List, [], ◌∷◌, ◌++◌, map}
+-- Items of a text that are read again, one after the other
+use Rattle.std.proofs.Common.{◌≡◌, ℕ, zero, suc, ◌+◌, ◌-◌, ◌<◌, ◌≤◌, inl, inr, List, [], ◌∷◌, ◌++◌, map}
 use Rattle.std.proofs.Common.{length, filter, Option, Some, None, Result, Ok, Err, refl, sym, ap}
-use Rattle.std.proofs.Common.{◌∙◌}
-use Rattle.std.proofs.Common.{cond, true, subst, append_assoc, arith, OnOk}
+use Rattle.std.proofs.Common.{◌∙◌, append_assoc, arith, OnOk}
 use Rattle.std.specs.Option.{IsSome}
 use Rattle.std.specs.List.{enumerate_from}
 use Rattle.std.proofs.lemmas.List.{append-nil, length-append}
 use Rattle.std.proofs.lemmas.List.Elements.{filter-append}
 use Rattle.vipr_spec.specs.Input.{Input}
-use Rattle.vipr_spec.specs.Certificate.{Problem, Derivation}
-use Rattle.vipr_spec.specs.Reading.{Rest, Fault, refused, unread, Read, ◌>>=◌, read_each}
-use Rattle.vipr_spec.specs.Reading.{derivation_read}
+use Rattle.vipr_spec.specs.Certificate.{Named, Problem, Derivation}
+use Rattle.vipr_spec.specs.Constraint.{Row}
+use Rattle.vipr_spec.specs.Reading.{Rest, Fault, Read, ◌>>=◌, read_each, derivation_read}
+use Rattle.vipr_spec.specs.Reading.{derivations_read, problem_read}
 use Rattle.vipr_bytes.specs.Known.{IfKnown}
 use Rattle.vipr_scan.specs.Faults.{Fails}
 use Rattle.vipr_scan.specs.Giving.{rest_of}
 use Rattle.vipr_scan.specs.declared.error.TextError.{TextError}
-use Rattle.vipr_scan.specs.declared.error.TextError.TheVariants as error
-use Rattle.vipr_read.specs.Items.{Items, Knows, Remembers, Moves, HasPassed, NextIs}
+use Rattle.vipr_read.specs.Items.{Items as Reader, Knows, Remembers, Moves, HasNone, HasPassed}
+use Rattle.vipr_read.specs.Items.{NextItem}
 use Rattle.vipr_read.specs.Parsing.{with_front}
-use Rattle.vipr_explain.specs.Found.{Missed, WerePassed, wanted_among, is_wanted, numbered_of}
-use Rattle.vipr_explain.specs.Found.{KeepsNext, HasKeptItems, count_read}
+use Rattle.vipr_explain.specs.Found.{AreDerivationsRead, AreFoundItems, AreSolutionsRead, HasFault}
+use Rattle.vipr_explain.specs.Found.{IsBehind, Missed, count_read, head_read, is_wanted, numbered_of}
+use Rattle.vipr_explain.specs.Found.{solutions_read, wanted_among}
+use Rattle.vipr_explain.specs.declared.items.Items.{Items}
 use Rattle.vipr_explain.specs.declared.items.Numbered.{Numbered}
-
--- ---- what is missing
-
-pub missed_of : {Y : Type 0} (e : TextError) (r : Result Y Fault) → Fails e r → Missed e r
-missed_of (error.Refused c o) r h = (refused c o, h)
-missed_of error.Read r h = (unread, h)
-missed_of error.Memory r h = tt
-missed_of error.Spent r h = absurd h
-
--- what goes on after it is missing too
-pub missed_first : {X Y : Type 0} (m : TextError) (r : Result X Fault) (f : X → Result Y Fault)
-    → Missed m r → Missed m (r >>= f)
-missed_first (error.Refused c o) r f h = (h.0, rw h.1 refl)
-missed_first error.Read r f h = (h.0, rw h.1 refl)
-missed_first error.Memory r f h = tt
-missed_first error.Spent r f h = (h.0, rw h.1 refl)
-
-pub known_by : (o : Option Input) (P Q : Input → Type 0) → ((i : Input) → P i → Q i) → IfKnown o P
-    → IfKnown o Q
-known_by None P Q k h = tt
-known_by (Some i) P Q k h = λ short. k i (h short)
-
-pub on_ok : {T E : Type 0} (r : Result T E) (P Q : Type 0) → (P → Q) → OnOk r P → OnOk r Q
-on_ok (Ok x) P Q f h = f h
-on_ok (Err e) P Q f h = tt
-
--- ---- a reader that knows a problem
-
-pub still_knows : (old new : Items) (p : Problem) → Remembers old new → Knows old p → Knows new p
-still_knows old new p kept knows = record {
-  variables = kept.variables ∙ knows.variables;
-  constraints = kept.constraints ∙ knows.constraints;
-  objective = kept.objective ∙ knows.objective;
-}
-
-pub remembers_both : (a b c : Items) → Remembers a b → Remembers b c → Remembers a c
-remembers_both a b c first second = record {
-  variables = second.variables ∙ first.variables;
-  constraints = second.constraints ∙ first.constraints;
-  objective = second.objective ∙ first.objective;
-}
+use Rattle.vipr_explain.proofs.Lacks.{because, fault_behind, fault_first, missed_of}
 
 -- ---- so many in a row
 
 module _ {A : Type 0} (item : Rest → Read A) where
+  abbrev pub and_next : Read (List A) → Read (List A)
+  and_next read = read >>= λ xs. item xs.1 >>= λ x. Ok (xs.0 ++ x.0 ∷ [], x.1)
+
+  abbrev pub behind_first : A → Read (List A) → Read (List A)
+  behind_first x read = read >>= λ xs. Ok (x ∷ xs.0, xs.1)
+
+  first_stays : (x : A) (read : Read (List A)) → behind_first x (and_next read) ≡ and_next (behind_first x read)
+  first_stays x (Err e) = refl
+  first_stays x (Ok xs) = by (item xs.1)
+    where
+      by : (y : Read A) → behind_first x (y >>= λ z. Ok (xs.0 ++ z.0 ∷ [], z.1)) ≡ (y >>= λ z. Ok ((x ∷ xs.0) ++ z.0 ∷ [], z.1))
+      by (Ok z) = refl
+      by (Err e) = refl
+
+  each_behind : (n : ℕ) (y : Read A) → ((r : Rest) → read_each item (suc n) r ≡ and_next (read_each item n r))
+      → (y >>= λ x. behind_first x.0 (read_each item (suc n) x.1)) ≡ and_next (y >>= λ x. behind_first x.0 (read_each item n x.1))
+  each_behind n (Ok x) more = ap (behind_first x.0) (more x.1) ∙ first_stays x.0 (read_each item n x.1)
+  each_behind n (Err e) more = refl
+
+  -- one more is the next one behind so many
+  each_more : (n : ℕ) (r : Rest) → read_each item (suc n) r ≡ and_next (read_each item n r)
+  unfolding read_each
+  each_more zero r = refl
+  each_more (suc n) r = each_behind n (item r) (each_more n)
+
+  -- a fault behind so many is one of more
+  fault_of_more : (n more m : ℕ) (r s : Rest) (xs : List A) → m ≡ suc (more + n)
+      → read_each item n r ≡ Ok (xs, s) → HasFault (item s) → HasFault (read_each item m r)
+  fault_of_more n zero m r s xs e so_far next =
+      let one : m ≡ suc n = omega arith in
+      (next.0, rw one (rw (each_more n r, so_far, next.1) refl))
+  fault_of_more n (suc more) m r s xs e so_far next =
+      let one : m ≡ suc (m - 1) = omega arith in
+      rw one (rw (each_more (m - 1) r) (fault_first (read_each item (m - 1) r) _ (fault_of_more n more (m - 1) r s xs (omega arith) so_far next)))
+
+  -- ---- by what is left: of total, which began with the front
+
   regroup : (front : List A) (x : A) (read : Read (List A)) → with_front front (read >>= λ xs. Ok (x ∷ xs.0, xs.1)) ≡ with_front (front ++ x ∷ []) read
   regroup front x (Ok xs) = ap (λ (ys : List A). Ok (ys, xs.1)) (simp append_assoc)
   regroup front x (Err e) = refl
@@ -88,109 +87,170 @@ module _ {A : Type 0} (item : Rest → Read A) where
       let one : with_front front (read_each item n l) ≡ Ok (front, l) = rw e (ap (λ (xs : List A). Ok (xs, l)) (append-nil front)) in
       sym so_far ∙ one
 
-  fails_on : (m : TextError) (front : List A) (k : ℕ) (l : Rest) → Missed m (item l) → Missed m (with_front front (read_each item (suc k) l))
-  unfolding read_each
-  fails_on (error.Refused c o) front k l h = (h.0, rw h.1 refl)
-  fails_on error.Read front k l h = (h.0, rw h.1 refl)
-  fails_on error.Memory front k l h = tt
-  fails_on error.Spent front k l h = (h.0, rw h.1 refl)
-
-  -- the next one is missing
-  pub one_missed : (m : TextError) (front : List A) (n k : ℕ) (l : Rest) (total : Read (List A)) → n ≡ suc k
-      → Missed m (item l) → with_front front (read_each item n l) ≡ total → Missed m total
-  one_missed m front n k l total e h so_far =
-      subst (Missed m) (ap (λ j. with_front front (read_each item j l)) (sym e) ∙ so_far) (fails_on m front k l h)
-
-  pub next_missed : (m : TextError) (front : List A) (n : ℕ) (l : Rest) (total : Read (List A))
-      → Missed m (item l) → with_front front (read_each item n l) ≡ total → 0 < n → Missed m total
-  next_missed m front n l total h so_far some = one_missed m front n (n - 1) l total (omega arith) h so_far
-
   pub none_yet : (read : Read (List A)) → with_front [] read ≡ read
   none_yet (Ok xs) = refl
   none_yet (Err e) = refl
 
--- ---- those that are kept
+pub known_by : (o : Option Input) (P Q : Input → Type 0) → ((i : Input) → P i → Q i) → IfKnown o P
+    → IfKnown o Q
+known_by None P Q k h = tt
+known_by (Some i) P Q k h = λ short. k i (h short)
 
-pub numbered_more : {X : Type 0} (first : ℕ) (xs : List X) (x : X)
+pub on_ok : {T E : Type 0} (r : Result T E) (P Q : Type 0) → (P → Q) → OnOk r P → OnOk r Q
+on_ok (Ok x) P Q f h = f h
+on_ok (Err e) P Q f h = tt
+
+pub remembers_both : (a b c : Reader) → Remembers a b → Remembers b c → Remembers a c
+remembers_both a b c first second = record {
+  variables = second.variables ∙ first.variables;
+  constraints = second.constraints ∙ first.constraints;
+  objective = second.objective ∙ first.objective;
+}
+
+-- ---- a reader behind so many
+
+pub still_knows : (old new : Reader) (p : Problem) → Remembers old new → Knows old p → Knows new p
+still_knows old new p kept knows = record {
+  variables = kept.variables ∙ knows.variables;
+  constraints = kept.constraints ∙ knows.constraints;
+  objective = kept.objective ∙ knows.objective;
+}
+
+pub at_front : {A : Type 0} (item : Problem → Rest → Read A) (head : Read (Problem × ℕ)) (p : Problem)
+    (r : Reader) → Knows r p → IsSome r.rest → head ≡ Ok ((p, r.left), rest_of r.rest)
+    → IsBehind A item head p [] r
+unfolding read_each
+at_front item head p r knows known counted =
+    record {
+      knows = knows;
+      known = known;
+      start = rest_of r.rest;
+      counted = counted ∙ ap (λ n. Ok ((p, n), rest_of r.rest)) (omega arith);
+      read = refl;
+    }
+
+-- what is left behind a reading
+after : {A : Type 0} → Read (List A) → Rest
+after (Ok xs) = xs.1
+after (Err f) = rest_of None
+
+pub from_front : {A : Type 0} (item : Problem → Rest → Read A) (head : Read (Problem × ℕ)) (p : Problem)
+    (r : Reader) → IsBehind A item head p [] r → head ≡ Ok ((p, r.left), rest_of r.rest)
+unfolding read_each after
+from_front item head p r h =
+    h.counted ∙ ap (λ n. Ok ((p, n), h.start)) (omega arith) ∙ ap (λ s. Ok ((p, r.left), s)) (ap after h.read)
+
+pub counted_down : {X : Type 0} (old new : Reader) (o : Option X) → 0 < old.left
+    → Moves HasNone old new (Ok o) → old.left ≡ suc new.left
+counted_down old new None some moves = absurd (omega (arith, moves.none))
+counted_down old new (Some x) some moves = moves.counted
+
+module _ {A : Type 0} (item : Problem → Rest → Read A) (head : Read (Problem × ℕ)) (p : Problem)
+    (xs : List A) where
+  -- one more was read
+  pub one_behind : (x : A) (old new : Reader) → HasPassed old new
+      → (item p (rest_of old.rest) ≡ Ok (x, rest_of new.rest)) → IsSome new.rest
+      → IsBehind A item head p xs old → IsBehind A item head p (xs ++ x ∷ []) new
+  one_behind x old new passed one known h =
+      let size : length (xs ++ x ∷ []) ≡ suc (length xs) = omega (arith, length-append xs (x ∷ [])) in
+      record {
+        knows = still_knows old new p passed.remembers h.knows;
+        known = known;
+        start = h.start;
+        counted = h.counted ∙ ap (λ n. Ok ((p, n), h.start)) (omega (arith, size, passed.counted));
+        read = rw size (rw (each_more (item p) (length xs) h.start, h.read, one) refl);
+      }
+
+  -- so was the next one, if one was left
+  pub next_behind : {X : Type 0} (view : X → A) (ending : Rest → Result (Unit {0}) Fault)
+      (ended : Reader → Reader → Type 0) (old new : Reader) (o : Option X) → 0 < old.left
+      → Moves ended old new (Ok o) → NextItem view (item p) ending old new (Ok o)
+      → IsBehind A item head p xs old → (x : A) × IsBehind A item head p (xs ++ x ∷ []) new
+  next_behind view ending ended old new None some moves next h =
+      let none = (next h.known).0 in absurd (omega (arith, none))
+  next_behind view ending ended old new (Some x) some moves next h =
+      let one = next h.known in
+      (view x, one_behind (view x) old new moves one.1 one.2 h)
+
+  -- it wasn't, so it is missing of any number that goes on to it
+  pub none_behind : {X : Type 0} (view : X → A) (ending : Rest → Result (Unit {0}) Fault)
+      (old new : Reader) (e : TextError) (count : Problem × ℕ → ℕ) → 0 < old.left
+      → length xs < count (p, length xs + old.left) → NextItem view (item p) ending old new (Err e)
+      → IsBehind A item head p xs old
+      → Missed e (head >>= λ h. read_each (item h.0.0) (count h.0) h.1)
+  none_behind view ending old new e count some more next h = elim (next h.known) [
+    | inl ended ↦ absurd (omega (arith, ended.0))
+    | inr fails ↦ because e _ _ (λ fault. fault_behind head ((p, length xs + old.left), h.start) (λ h. read_each (item h.0.0) (count h.0) h.1) h.counted
+        (fault_of_more (item p) (length xs) (count (p, length xs + old.left) - (length xs + 1)) (count (p, length xs + old.left)) h.start (rest_of old.rest) xs (omega arith) h.read fault)) (missed_of e _ fails.1)
+  ]
+
+-- ---- the head of a text
+
+pub head_found : (text : Rest) (p : Problem) (ss : List (Named Row)) (r d : Reader)
+    → AreSolutionsRead text p ss r → r.left ≡ 0
+    → derivations_read p (rest_of r.rest) ≡ Ok (d.left, rest_of d.rest)
+    → head_read text ≡ Ok ((p, d.left), rest_of d.rest)
+head_found text p ss r d h none found =
+    let all : length ss + r.left ≡ length ss = omega (arith, none) in
+    rw (h.counted, all, h.read, found) refl
+
+pub head_missed : (text : Rest) (p : Problem) (ss : List (Named Row)) (r : Reader) (e : TextError)
+    → AreSolutionsRead text p ss r → r.left ≡ 0 → Fails e (derivations_read p (rest_of r.rest))
+    → Missed e (head_read text)
+head_missed text p ss r e h none fails =
+    let all : length ss + r.left ≡ length ss = omega (arith, none) in
+    because e _ _ (λ fault. (fault.0, rw (h.counted, all, h.read, fault.1) refl)) (missed_of e _ fails)
+
+pub solutions_missed : (text : Rest) (p : Problem) (r : Reader) (e : TextError)
+    → AreSolutionsRead text p [] r → Missed e (solutions_read (problem_read text) r.left)
+    → Missed e (head_read text)
+solutions_missed text p r e h missed =
+    let all : 0 + r.left ≡ r.left = omega arith in
+    because e _ _ (λ fault. (fault.0, rw (h.counted, all, rw h.counted at fault.1) refl)) missed
+
+-- ---- derivations, of which those that are wanted are kept
+
+numbered_more : {X : Type 0} (first : ℕ) (xs : List X) (x : X)
     → enumerate_from first (xs ++ x ∷ []) ≡ enumerate_from first xs ++ (first + length xs, x) ∷ []
 numbered_more first [] x = ap (λ n. (n, x) ∷ []) (omega arith)
 numbered_more first (y ∷ xs) x = ap (λ ys. (first, y) ∷ ys) (numbered_more (first + 1) xs x ∙ ap (λ n. enumerate_from (first + 1) xs ++ (n, x) ∷ []) (omega arith))
 
--- ---- one more call for an item, if one is to come
+-- so many derivations were read, and those of them that are wanted were kept
+pub record KeepsPartWay (text : Rest) (p : Problem) (wanted : List ℕ) (done : ℕ) (r : Reader)
+    (kept : List Numbered) : Type 0 where
+  pub read : List Derivation
+  pub behind : AreDerivationsRead text p read r
+  pub size : length read ≡ done
+  pub are : map numbered_of kept ≡ wanted_among wanted (length p.constraints) read
 
-pub passed : {X : Type 0} (ended : Items → Items → Type 0) (old new : Items) (o : Option X)
-    → (ended old new → old.left ≡ 0) → 0 < old.left → Moves ended old new (Ok o) → HasPassed old new
-passed ended old new None none some m = let z = none m in absurd (omega arith)
-passed ended old new (Some x) none some m = m
+pub keeps_more : (text : Rest) (p : Problem) (wanted : List ℕ) (done index : ℕ) (old new : Reader)
+    (d : Derivation) (before now : List Numbered) → index ≡ length p.constraints + done
+    → HasPassed old new → derivation_read p (rest_of old.rest) ≡ Ok (d, rest_of new.rest)
+    → IsSome new.rest
+    → map numbered_of now ≡ map numbered_of before ++ wanted_among wanted index (d ∷ [])
+    → KeepsPartWay text p wanted done old before → KeepsPartWay text p wanted (done + 1) new now
+keeps_more text p wanted done index old new d before now at passed one known kept so_far =
+    let first = length p.constraints in
+    let is = is_wanted wanted in
+    record {
+      read = so_far.read ++ d ∷ [];
+      behind = one_behind derivation_read _ p so_far.read d old new passed one known so_far.behind;
+      size = omega (arith, so_far.size, length-append so_far.read (d ∷ []));
+      are = kept ∙ ap (λ xs. xs ++ wanted_among wanted index (d ∷ [])) so_far.are
+          ∙ ap (λ n. wanted_among wanted first so_far.read ++ wanted_among wanted n (d ∷ [])) (omega (arith, at, so_far.size))
+          ∙ sym (ap (filter is) (numbered_more first so_far.read d) ∙ filter-append is (enumerate_from first so_far.read) ((first + length so_far.read, d) ∷ []));
+    }
 
-pub missed_next : {X Y : Type 0} (view : X → Y) (item : Rest → Read Y)
-    (ending : Rest → Result (Unit {0}) Fault) (old new : Items) (e : TextError) → 0 < old.left
-    → NextIs view item ending old new (Err e) → Missed e (item (rest_of old.rest))
-missed_next view item ending old new e some (inl h) = let z = h.0 in absurd (omega arith)
-missed_next view item ending old new e some (inr h) = missed_of e (item (rest_of old.rest)) h.1
-
--- of total, which began with the front, so many are left
-abbrev pub IsPartWay : {A : Type 0} → (Rest → Read A) → ℕ → Option Rest → Read (List A) → Type 0
-IsPartWay {A} item n rest total =
-    (front : List A) × IsSome rest × (with_front front (read_each item n (rest_of rest)) ≡ total)
-
-pub turned : {X Y : Type 0} (view : X → Y) (item : Rest → Read Y)
-    (ending : Rest → Result (Unit {0}) Fault) (old new : Items) (o : Option X) (n k : ℕ)
-    (total : Read (List Y)) → n ≡ suc k → 0 < old.left → NextIs view item ending old new (Ok o)
-    → IsPartWay item n old.rest total → IsPartWay item k new.rest total
-turned view item ending old new None n k total e some h so_far = let z = h.0 in absurd (omega arith)
-turned view item ending old new (Some x) n k total e some h so_far =
-    (so_far.0 ++ view x ∷ [], h.2, one_more item so_far.0 n k (rest_of old.rest) (rest_of new.rest) (view x) total e h.1 so_far.2)
-
-pub starts : {A : Type 0} (item : Rest → Read A) (n m : ℕ) (rest : Option Rest) → m ≡ n
-    → IsSome rest
-    → IsPartWay item m rest (read_each item n (rest_of rest))
-starts item n m rest e known = ([], known, ap (λ j. with_front [] (read_each item j (rest_of rest))) e ∙ none_yet item (read_each item n (rest_of rest)))
-
-pub ends : {A : Type 0} (item : Rest → Read A) (n : ℕ) (rest : Option Rest) (total : Read (List A))
-    → n ≡ 0 → IsPartWay item n rest total → WerePassed {A = List A} rest (Ok tt) total
-ends item n rest total e so_far = (so_far.0, all_read item so_far.0 n (rest_of rest) total e so_far.2, so_far.1)
-
--- ---- derivations, of which those that are wanted are kept
-
--- of total, which began with so many derivations, so many are left; those that are wanted were kept
-pub record KeepsPartWay (p : Problem) (wanted : List ℕ) (first done left : ℕ) (rest : Option Rest)
-    (now : List Numbered) (total : Read (List Derivation)) : Type 0 where
-  pub front : List Derivation
-  pub known : IsSome rest
-  pub part : with_front front (read_each (derivation_read p) left (rest_of rest)) ≡ total
-  pub size : length front ≡ done
-  pub kept : map numbered_of now ≡ wanted_among wanted first front
-
-pub keeps_more : (p : Problem) (wanted : List ℕ) (first done index n k : ℕ) (old new : Items)
-    (before now : List Numbered) (total : Read (List Derivation)) → n ≡ suc k → index ≡ first + done
-    → KeepsNext p wanted index old new before now
-    → KeepsPartWay p wanted first done n old.rest before total
-    → KeepsPartWay p wanted first (done + 1) k new.rest now total
-keeps_more p wanted first done index n k old new before now total e at next so_far = record {
-  front = so_far.front ++ next.read ∷ [];
-  known = next.known;
-  part = one_more (derivation_read p) so_far.front n k (rest_of old.rest) (rest_of new.rest) next.read total e next.one so_far.part;
-  size = length-append so_far.front (next.read ∷ []) ∙ ap (λ m. m + 1) so_far.size;
-  kept = next.kept ∙ ap (λ xs. xs ++ wanted_among wanted index (next.read ∷ [])) so_far.kept
-      ∙ ap (λ m. wanted_among wanted first so_far.front ++ wanted_among wanted m (next.read ∷ [])) (at ∙ ap (λ m. first + m) (sym so_far.size))
-      ∙ sym (ap (filter (is_wanted wanted)) (numbered_more first so_far.front next.read) ∙ filter-append (is_wanted wanted) (enumerate_from first so_far.front) ((first + length so_far.front, next.read) ∷ []));
+pub keeps_all : (text : Rest) (wanted : List ℕ) (done : ℕ) (r : Reader) (items : Items)
+    → done ≡ count_read wanted (length items.problem.constraints) (done + r.left)
+    → KeepsPartWay text items.problem wanted done r items.derivations.items
+    → AreFoundItems wanted text items
+keeps_all text wanted done r items all so_far = record {
+  count = length so_far.read + r.left;
+  behind = so_far.behind.start;
+  head = so_far.behind.counted;
+  read = so_far.read;
+  rest = rest_of r.rest;
+  each = rw (← so_far.size) at (ap (λ n. read_each (derivation_read items.problem) n so_far.behind.start) (sym all)) ∙ so_far.behind.read;
+  kept = so_far.are;
 }
-
-pub keeps_all : (p : Problem) (wanted : List ℕ) (done n : ℕ) (old new : Items)
-    (now : List Numbered) (count : ℕ) → n ≡ 0
-    → count ≡ count_read wanted (length p.constraints) old.left
-    → KeepsPartWay p wanted (length p.constraints) done n new.rest now
-    (read_each (derivation_read p) count (rest_of old.rest))
-    → HasKeptItems p wanted old new now
-keeps_all p wanted done n old new now count e counted so_far = record {
-  read = so_far.front;
-  each = ap (λ k. read_each (derivation_read p) k (rest_of old.rest)) (sym counted) ∙ all_read (derivation_read p) so_far.front n (rest_of new.rest) _ e so_far.part;
-  known = so_far.known;
-  kept = so_far.kept;
-}
-
--- one that is wanted is kept, and no other
-pub one_kept : (wanted : List ℕ) (index : ℕ) (d : Derivation) → is_wanted wanted (index, d) ≡ true
-    → wanted_among wanted index (d ∷ []) ≡ (index, d) ∷ []
-one_kept wanted index d is = ap (λ b. cond b ((index, d) ∷ []) []) is

@@ -1,5 +1,4 @@
 mod Again
-mod Heads
 mod Dropping
 mod Lacks
 mod Tokens

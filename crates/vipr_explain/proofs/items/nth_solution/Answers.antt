@@ -1,25 +1,45 @@
-use Rattle.std.proofs.Common.{◌<◌, Ok, arith}
-use Rattle.vipr_spec.specs.Reading.{solution_read}
+use Rattle.std.proofs.Common.{◌≡◌, ◌+◌, ◌<◌, ◌∷◌, ◌++◌, [], Ok, arith, inr, length, subst}
+use Rattle.std.proofs.lemmas.List.{length-append}
+use Rattle.vipr_spec.specs.Reading.{problem_read, read_each, solution_read}
 use Rattle.vipr_scan.specs.Giving.{rest_of}
 use Rattle.vipr_cert.specs.Items.{solution_of}
-use Rattle.vipr_explain.proofs.Again.{missed_next, still_knows}
-use Rattle.vipr_explain.proofs.Lacks.{err_is, nth_first_missed, nth_then_missed}
+use Rattle.vipr_read.specs.Items.{HasNone, Moves, NextItem}
+use Rattle.vipr_explain.specs.Found.{LacksListed}
+use Rattle.vipr_explain.proofs.Again.{none_behind, one_behind}
+use Rattle.vipr_explain.proofs.Lacks.{because, err_is}
 use Rattle.vipr_explain.proofs.items.nth_solution.Goals as goal
 
 pub returns-in_err-pass_solutions-clause-error : goal.returns-in_err-pass_solutions-clause-error
-returns-in_err-pass_solutions-clause-error g c p knows known =
-    let old = c.args.solutions.now in
-    let m = c.in_err-pass_solutions.field-0.0 in
-    err_is c.from_residual.result _ c.from_residual.ensures.1 (nth_first_missed p c.args.number old.left (rest_of old.rest) m (c.in_err-pass_solutions.ensures.read p knows known))
+returns-in_err-pass_solutions-clause-error c p text front =
+    err_is c.from_residual.result _ c.from_residual.ensures.1 (because c.in_err-pass_solutions.field-0.0 _ (LacksListed c.args.number (problem_read text)) (λ fault. inr fault)
+    (c.in_err-pass_solutions.ensures.error p text (c.args.number + 1) (omega arith) front))
 
 pub returns-in_err-solution-clause-error : goal.returns-in_err-solution-clause-error
-returns-in_err-solution-clause-error g c p knows known =
-    let old = c.args.solutions.now in
+returns-in_err-solution-clause-error c p text front =
     let mid = c.pass_solutions.new.solutions in
     let passed = c.in_ok-pass_solutions.ensures in
-    let front = passed.read p knows known in
+    let part = passed.read p text front in
     let e = c.in_err-solution.field-0.0 in
-    let some : 0 < mid.left = omega (arith, passed.left) in
-    err_is c.from_residual-in_err-solution.result _ c.from_residual-in_err-solution.ensures.1 (nth_then_missed p c.args.number old.left (rest_of old.rest) (rest_of mid.rest) front.0 e front.1
-    (missed_next solution_of (solution_read p) (λ _. Ok tt) mid c.next.new.self e some
-    (c.in_err-solution.ensures.read p (still_knows old mid p passed.remembers knows) front.2)))
+    err_is c.from_residual-in_err-solution.result _ c.from_residual-in_err-solution.ensures.1 (because e _ (LacksListed c.args.number (problem_read text)) (λ fault. inr fault)
+    (none_behind solution_read (problem_read text) p part.0 solution_of (λ _. Ok tt) mid c.next.new.self e (λ _. c.args.number + 1) (omega (arith, passed.left)) (omega (arith, part.2))
+    (c.in_err-solution.ensures.read p part.1.knows) part.1))
+
+pub returns-in-Some-clause-found : goal.returns-in-Some-clause-found
+returns-in-Some-clause-found c p text front =
+    let mid = c.pass_solutions.new.solutions in
+    let new = c.next.new.self in
+    let part = c.in_ok-pass_solutions.ensures.read p text front in
+    let moved = subst (λ o. Moves HasNone mid new (Ok o)) c.in-Some.is c.in_ok-solution.ensures.moves in
+    let next = subst (λ o. NextItem solution_of (solution_read p) (λ _. Ok tt) mid new (Ok o)) c.in-Some.is (c.in_ok-solution.ensures.read p part.1.knows) part.1.known in
+    let s = solution_of c.in-Some.solution in
+    let size : length (part.0 ++ s ∷ []) ≡ c.args.number + 1 = omega (arith, part.2, length-append part.0 (s ∷ [])) in
+    let behind = one_behind solution_read (problem_read text) p part.0 s mid new moved next.1 next.2 part.1 in
+    record {
+      count = length (part.0 ++ s ∷ []) + new.left;
+      behind = behind.start;
+      problem = behind.counted;
+      within = omega (arith, size);
+      before = part.0;
+      rest = rest_of new.rest;
+      solution = subst (λ n. read_each (solution_read p) n behind.start ≡ Ok (part.0 ++ s ∷ [], rest_of new.rest)) size behind.read;
+    }

@@ -1,46 +1,30 @@
-use Rattle.std.proofs.Common.{◌≡◌, ◌<◌, ◌+◌, ◌^◌, Ok, false}
-use Rattle.vipr_spec.specs.Reading.{◌>>=◌}
-use Rattle.std.specs.Option.{IsSome}
-use Rattle.std.proofs.lemmas.Result.{IfOk-weaker, err_from_is_err_and}
-use Rattle.vipr_spec.specs.Reading.{problem_read}
-use Rattle.vipr_bytes.specs.Known.{text_of}
-use Rattle.vipr_scan.specs.Giving.{rest_of}
-use Rattle.vipr_read.specs.Items.{Knows}
-use Rattle.vipr_explain.specs.Found.{Missed, Opens, beside, derivations_behind, head_read, text_input}
-use Rattle.vipr_explain.proofs.Again.{known_by, missed_first, still_knows}
-use Rattle.vipr_explain.proofs.Heads.{head_opened, ok_beside}
+use Rattle.std.proofs.Common.{arith}
+use Rattle.vipr_spec.specs.Reading.{derivation_read}
+use Rattle.vipr_explain.specs.Found.{head_read, text_rest}
+use Rattle.vipr_explain.proofs.Again.{at_front, head_found, head_missed, solutions_missed, still_knows}
 use Rattle.vipr_explain.proofs.items.open_derivations.Goals as goal
 
-pub returns-in_err-problem-clause-read : goal.returns-in_err-problem-clause-read
-returns-in_err-problem-clause-read c =
-    let q = err_from_is_err_and c.from_residual.result c.from_residual.ensures.1 in
-    let m = c.in_err-problem.field-0.0 in
-    rw (q.1, q.2) (known_by (text_input c.args.text.now) (λ i. Missed m (problem_read (text_of i))) (λ i. Missed m (head_read (text_of i)))
-    (λ i h. missed_first m (problem_read (text_of i)) (λ p. derivations_behind p.0.0 p.0.1 p.1 >>= λ d. Ok ((p.0.0, d.0), d.1)) h)
-    c.in_err-problem.ensures.read)
-
-pub returns-clause-read : goal.returns-clause-read
-returns-clause-read c =
+pub returns-in-Ok-finish-clause-read : goal.returns-in-Ok-finish-clause-read
+returns-in-Ok-finish-clause-read c =
+    let text = text_rest c.args.text.now in
     let p = c.in_ok-problem.problem in
-    let s = c.in_ok-problem.solutions in
-    let r = c.skip_solutions.result in
-    rw c.beside.ensures (known_by (text_input c.args.text.now)
-    (λ i. (problem_read (text_of i) ≡ Ok ((p, s.left), rest_of s.rest)) × IsSome s.rest)
-    (λ i. Opens (beside p r) (head_read (text_of i)))
-    (λ i h. head_opened (text_of i) p s r h.0 (c.skip_solutions.ensures.read p c.in_ok-problem.ensures.knows h.1))
-    c.in_ok-problem.ensures.read)
+    let mid = c.pass_solutions.new.solutions in
+    let d = c.in-Ok-finish.derivations in
+    let part = c.in-Ok.ensures.read p text c.in_ok-problem.ensures.read in
+    let found = c.in-Ok-finish.ensures.read p part.1.knows part.1.known in
+    at_front derivation_read (head_read text) p d (still_knows mid d p c.in-Ok-finish.ensures.remembers part.1.knows) found.1
+    (head_found text p part.0 mid d part.1 (omega (arith, c.in-Ok.ensures.left)) found.0)
 
-pub returns-clause-knows : goal.returns-clause-knows
-returns-clause-knows c =
+pub returns-in-Err-finish-clause-error : goal.returns-in-Err-finish-clause-error
+returns-in-Err-finish-clause-error c =
+    let text = text_rest c.args.text.now in
     let p = c.in_ok-problem.problem in
+    let part = c.in-Ok.ensures.read p text c.in_ok-problem.ensures.read in
+    head_missed text p part.0 c.pass_solutions.new.solutions c.in-Err-finish.missing part.1 (omega (arith, c.in-Ok.ensures.left)) (c.in-Err-finish.ensures.read p part.1.knows part.1.known)
+
+pub returns-in-Err-clause-error : goal.returns-in-Err-clause-error
+returns-in-Err-clause-error c =
+    let text = text_rest c.args.text.now in
     let s = c.in_ok-problem.solutions in
-    let r = c.skip_solutions.result in
-    rw c.beside.ensures (ok_beside p r (λ x. Knows x.1 x.0) (IfOk-weaker r _ _ (λ d h. still_knows s d p h c.in_ok-problem.ensures.knows) c.skip_solutions.ensures.remembers))
-
-pub returns-clause-working : goal.returns-clause-working
-returns-clause-working c =
-    rw c.beside.ensures (ok_beside c.in_ok-problem.problem c.skip_solutions.result (λ x. x.1.failed ≡ false) c.skip_solutions.ensures.working)
-
-pub returns-clause-counted : goal.returns-clause-counted
-returns-clause-counted c =
-    rw c.beside.ensures (ok_beside c.in_ok-problem.problem c.skip_solutions.result (λ x. x.1.constraints + x.1.left < 2 ^ 32) c.skip_solutions.ensures.counted)
+    let front = c.in_ok-problem.ensures.read in
+    solutions_missed text c.in_ok-problem.problem s c.in-Err.missing front (c.in-Err.ensures.error c.in_ok-problem.problem text s.left (omega arith) front)

@@ -1,41 +1,33 @@
-use Rattle.std.proofs.Common.{◌+◌, ◌-◌, ◌<◌, Ok, arith}
-use Rattle.std.proofs.lemmas.Result.{err_from_is_err_and}
-use Rattle.vipr_spec.specs.Reading.{solution_read}
-use Rattle.vipr_scan.specs.Giving.{rest_of}
+use Rattle.std.proofs.Common.{◌≡◌, ◌<◌, ◌∷◌, ◌++◌, [], Ok, arith, ◌∙◌}
+use Rattle.std.proofs.lemmas.List.{length-append}
+use Rattle.vipr_spec.specs.Reading.{problem_read, solution_read}
 use Rattle.vipr_cert.specs.Items.{solution_of}
 use Rattle.vipr_read.specs.Items.{HasNone}
-use Rattle.vipr_explain.proofs.Again.{ends, turned, passed, still_knows, remembers_both, one_missed}
-use Rattle.vipr_explain.proofs.Again.{missed_next}
+use Rattle.vipr_explain.proofs.Again.{counted_down, next_behind, none_behind}
+use Rattle.vipr_explain.proofs.Lacks.{err_is}
 use Rattle.vipr_explain.proofs.items.pass_solutions.Goals as goal
 
 pub loop-preserved : goal.loop-preserved
-loop-preserved g c =
+loop-preserved c =
     let old = c.loop.solutions in
     let new = c.next.new.self in
-    let so_far = c.loop.invariant in
+    let next = c.in_ok-next.ensures in
     let some : 0 < old.left = omega arith in
-    let step = passed HasNone old new c.in_ok-next.field-0 (λ none. none.none) some c.in_ok-next.ensures.moves in
     record {
-      left = omega (arith, step.counted);
-      remembers = remembers_both c.args.solutions.now old new so_far.remembers step.remembers;
-      read = λ p knows known.
-          let part = so_far.read p knows known in
-          turned solution_of (solution_read p) (λ _. Ok tt) old new c.in_ok-next.field-0 (c.args.count - c.loop.counter) (c.args.count - (c.loop.counter + 1)) _
-          (omega arith) some (c.in_ok-next.ensures.read p (still_knows c.args.solutions.now old p so_far.remembers knows) part.1) part;
+      left = omega (arith, counted_down old new c.in_ok-next.field-0 some next.moves);
+      read = λ p text front.
+          let part = c.loop.invariant.read p text front in
+          let more = next_behind solution_read (problem_read text) p part.0 solution_of (λ _. Ok tt) HasNone old new c.in_ok-next.field-0 some next.moves (next.read p part.1.knows) part.1 in
+          (part.0 ++ more.0 ∷ [], more.1, omega (arith, part.2, length-append part.0 (more.0 ∷ [])));
     }
 
-pub returns-in_err-next-clause-read : goal.returns-in_err-next-clause-read
-returns-in_err-next-clause-read g c p knows known =
-    let q = err_from_is_err_and c.from_residual.result c.from_residual.ensures.1 in
-    let old = c.loop.solutions in
-    let so_far = c.loop.invariant in
-    let e = c.in_err-next.field-0.0 in
-    let some : 0 < old.left = omega arith in
-    let part = so_far.read p knows known in
-    rw (q.1, q.2) (one_missed (solution_read p) e part.0 (c.args.count - c.loop.counter) (c.args.count - (c.loop.counter + 1)) (rest_of old.rest) _ (omega arith)
-    (missed_next solution_of (solution_read p) (λ _. Ok tt) old c.next.new.self e some (c.in_err-next.ensures.read p (still_knows c.args.solutions.now old p so_far.remembers knows) part.1))
-    part.2)
-
 pub returns-clause-read : goal.returns-clause-read
-returns-clause-read g c p knows known =
-    ends (solution_read p) (c.args.count - c.loop.counter) c.loop.solutions.rest _ (omega arith) (c.loop.invariant.read p knows known)
+returns-clause-read c p text front =
+    let part = c.loop.invariant.read p text front in
+    (part.0, part.1, part.2 ∙ omega arith)
+
+pub returns-in_err-next-clause-error : goal.returns-in_err-next-clause-error
+returns-in_err-next-clause-error c p text n within front =
+    let part = c.loop.invariant.read p text front in
+    err_is c.from_residual.result _ c.from_residual.ensures.1 (none_behind solution_read (problem_read text) p part.0 solution_of (λ _. Ok tt) c.loop.solutions c.next.new.self c.in_err-next.field-0.0 (λ _. n)
+    (omega arith) (omega (arith, part.2)) (c.in_err-next.ensures.read p part.1.knows) part.1)

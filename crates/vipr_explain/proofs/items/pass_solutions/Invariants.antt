@@ -1,16 +1,13 @@
-use Rattle.std.proofs.Common.{◌≡◌, ◌+◌, ◌-◌}
-use Rattle.std.specs.Option.{IsSome}
-use Rattle.vipr_spec.specs.Certificate.{Problem}
-use Rattle.vipr_spec.specs.Reading.{read_each, solution_read}
-use Rattle.vipr_scan.specs.Giving.{rest_of}
-use Rattle.vipr_read.specs.Items.{Knows, Remembers}
-use Rattle.vipr_explain.proofs.Again.{IsPartWay}
+use Rattle.std.proofs.Common.{◌≡◌, ◌+◌, [], List, length}
+use Rattle.vipr_spec.specs.Certificate.{Named, Problem}
+use Rattle.vipr_spec.specs.Constraint.{Row}
+use Rattle.vipr_spec.specs.Reading.{Rest}
+use Rattle.vipr_explain.specs.Found.{AreSolutionsRead}
 use Rattle.vipr_explain.proofs.items.pass_solutions.Given as goal
 
 abbrev pub invariant-loop : goal.invariant-loop
-invariant-loop g l = record {
+invariant-loop l = record {
   left : l.solutions.left + l.counter ≡ l.initial.solutions.left;
-  remembers : Remembers l.initial.solutions l.solutions;
-  read : (p : Problem) → Knows l.initial.solutions p → IsSome l.initial.solutions.rest →
-      IsPartWay (solution_read p) (l.count - l.counter) l.solutions.rest (read_each (solution_read p) l.count (rest_of l.initial.solutions.rest));
+  read : (p : Problem) (text : Rest) → AreSolutionsRead text p [] l.initial.solutions →
+      (ss : List (Named Row)) × AreSolutionsRead text p ss l.solutions × (length ss ≡ l.counter);
 }
