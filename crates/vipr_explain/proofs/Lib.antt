@@ -2,8 +2,7 @@ mod Again
 mod Dropping
 mod Lacks
 mod Tokens
-mod Finding
-mod Marking
+mod Walking
 mod NearOrder
 mod Nearing
 mod Gaps

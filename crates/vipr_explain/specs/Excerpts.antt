@@ -5,6 +5,10 @@ use Rattle.vipr_explain.specs.declared.text.Span.{Span}
 use Rattle.vipr_explain.specs.declared.text.Spot.{Spot}
 use Rattle.vipr_explain.specs.declared.excerpt.KnownPlace.{KnownPlace}
 
+-- the bytes of a text that this token has
+abbrev pub part_of : List ℕ → Span → List ℕ
+part_of text span = take span.size (drop span.spot.offset text)
+
 -- the most bytes that are shown before a place, and from it on
 abbrev pub most_shown : ℕ
 most_shown = 60

@@ -2,10 +2,10 @@
 use Rattle.std.specs.Prelude.{◌≡◌, ℕ, ◌&&◌, ◌||◌, ◌==◌, ◌∷◌, ◌++◌, [], Bool, true, false, List}
 use Rattle.std.specs.Prelude.{Option, fold, max, nat_lt, if◌then◌else◌}
 use Rattle.std.specs.List.{list_any}
-use Rattle.vipr_spec.specs.Tokens.{Token, text_tokens}
+use Rattle.vipr_spec.specs.Tokens.{text_tokens}
 use Rattle.vipr_explain.specs.Listed.{place_found}
 use Rattle.vipr_explain.specs.Progress.{at_start, index_of, passed}
-use Rattle.vipr_explain.specs.Words.{span_in}
+use Rattle.vipr_explain.specs.Words.{walked}
 use Rattle.vipr_explain.specs.declared.marks.ItemSort.{ItemSort}
 use Rattle.vipr_explain.specs.declared.marks.ItemSort.TheVariants as kind
 use Rattle.vipr_explain.specs.declared.marks.ItemPlace.{ItemPlace}
@@ -65,17 +65,23 @@ marked kind indices p span marks =
     if is_of kind p.section && list_any (λ i. i == index_of p) indices
     then marked_at p.wanted (index_of p) span marks else marks
 
--- the items of this kind and these indices among the tokens of a text from here on
-abbrev pub marks_from : ItemSort → List ℕ → List ℕ → TextProgress → List ItemPlace → List Token
-    → List ItemPlace
-marks_from kind indices text p marks [] = marks
-marks_from kind indices text p marks (t ∷ ts) = if is_past kind p (fold max 0 indices) then marks
-    else marks_from kind indices text (passed p t.bytes)
-    (marked kind indices p (span_in text t) marks) ts
+-- how far a text was read, and the marks of items of this kind and these indices so far
+abbrev pub Marking : Type 0
+Marking = TextProgress × List ItemPlace
+
+abbrev pub stops_marking : ItemSort → List ℕ → Marking → Bool
+stops_marking kind indices m = is_past kind m.0 (fold max 0 indices)
+
+abbrev pub marking_behind : ItemSort → List ℕ → Marking → List ℕ → Span → Marking
+marking_behind kind indices m word span = (passed m.0 word, marked kind indices m.0 span m.1)
 
 -- those of a text
+abbrev pub marking_in : ItemSort → List ℕ → List ℕ → Marking
+marking_in kind indices text = walked (stops_marking kind indices) (marking_behind kind indices)
+    text (at_start, []) (text_tokens text)
+
 abbrev pub marks_in : ItemSort → List ℕ → List ℕ → List ItemPlace
-marks_in kind indices text = marks_from kind indices text at_start [] (text_tokens text)
+marks_in kind indices text = (marking_in kind indices text).1
 
 -- these are the places of the constraints of these indices in a text
 abbrev pub AreMarksOf : List ℕ → List ℕ → List ItemPlace → Type 0

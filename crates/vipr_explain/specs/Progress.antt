@@ -181,7 +181,3 @@ passed_at wanted.Nothing p word = p
 -- behind one more token
 abbrev pub passed : TextProgress → List ℕ → TextProgress
 passed p word = passed_at p.wanted p word
-
-abbrev pub named_at : Wanted → List ℕ → List ℕ → List ℕ
-named_at wanted.Name name word = word
-named_at _ name word = name

@@ -1,59 +1,47 @@
 -- The token at a fault of a text
-use Rattle.std.specs.Prelude.{◌≡◌, ℕ, Bool, true, false, List, [], ◌∷◌, nat_le, if◌then◌else◌}
-use Rattle.vipr_spec.specs.Tokens.{Token, text_tokens}
-use Rattle.vipr_explain.specs.Excerpts.{IsPlaceAt}
-use Rattle.vipr_explain.specs.Places.{place_at, place_behind}
-use Rattle.vipr_explain.specs.Progress.{at_start, named_at, passed}
-use Rattle.vipr_explain.specs.Words.{span_of}
+use Rattle.std.specs.Prelude.{◌≡◌, ℕ, true, false, not, List, [], nat_le, if◌then◌else◌}
+use Rattle.vipr_spec.specs.Tokens.{text_tokens}
+use Rattle.vipr_explain.specs.Excerpts.{IsPlaceAt, part_of}
+use Rattle.vipr_explain.specs.Places.{place_behind}
+use Rattle.vipr_explain.specs.Progress.{at_start, passed}
+use Rattle.vipr_explain.specs.Words.{span_of, walked}
 use Rattle.vipr_explain.specs.declared.syntax.FaultToken.{FaultToken}
 use Rattle.vipr_explain.specs.declared.syntax.TextFault.{TextFault}
-use Rattle.vipr_explain.specs.declared.text.Spot.{Spot}
-use Rattle.vipr_explain.specs.declared.wanted.TextProgress.{TextProgress}
+use Rattle.vipr_explain.specs.declared.text.Span.{Span}
+use Rattle.vipr_explain.specs.declared.wanted.Wanted.{Wanted}
+use Rattle.vipr_explain.specs.declared.wanted.Wanted.TheVariants as wanted
 
--- how far a text was read: behind these tokens, in the item of this name; the token that was read
--- last, and whether the fault is behind it
-pub record TokenFound : Type 0 where
-  pub progress : TextProgress
-  pub name : List ℕ
-  pub word : List ℕ
-  pub spot : Spot
-  pub is_end : Bool
-
-abbrev pub found_at_start : TokenFound
+abbrev pub found_at_start : FaultToken
 found_at_start = record {
   progress = at_start;
-  name = [];
-  word = [];
-  spot = place_behind [];
+  name = span_of (place_behind []) [];
+  word = span_of (place_behind []) [];
   is_end = true;
 }
 
+abbrev pub named_at : Wanted → Span → Span → Span
+named_at wanted.Name name span = span
+named_at _ name span = name
+
 -- one more token: it is the one at the fault if it begins at this byte or behind it, else it is
 -- passed
-abbrev pub found_behind : ℕ → TokenFound → List ℕ → Spot → TokenFound
-found_behind offset f word spot = if nat_le offset spot.offset
-    then record f { word = word; spot = spot; is_end = false }
+abbrev pub found_behind : ℕ → FaultToken → List ℕ → Span → FaultToken
+found_behind offset f word span = if nat_le offset span.spot.offset
+    then record f { word = span; is_end = false }
     else record f {
       progress = passed f.progress word;
-      name = named_at f.progress.wanted f.name word;
-      word = word;
-      spot = spot;
+      name = named_at f.progress.wanted f.name span;
+      word = span;
     }
 
 -- the first token that begins at this byte or behind it, or the last one of the text
-abbrev pub found_from : List ℕ → ℕ → TokenFound → List Token → TokenFound
-found_from text offset f [] = f
-found_from text offset f (t ∷ ts) = if f.is_end
-    then found_from text offset (found_behind offset f t.bytes (place_at text t.offset)) ts else f
-
-pub record IsTokenFound (f : TokenFound) (k : FaultToken) : Type 0 where
-  pub progress : k.progress ≡ f.progress
-  pub name : k.name.now ≡ f.name
-  pub word : k.word.bytes.now ≡ f.word
-  pub spot : k.word.spot ≡ f.spot
-  pub is_end : k.is_end ≡ f.is_end
+abbrev pub found_in : List ℕ → ℕ → FaultToken
+found_in text offset =
+    walked (λ f. not f.is_end) (found_behind offset) text found_at_start (text_tokens text)
 
 -- what is found of the token at this byte of a text
 pub record IsFoundAt (text : List ℕ) (offset : ℕ) (f : TextFault) : Type 0 where
-  pub found : IsTokenFound (found_from text offset found_at_start (text_tokens text)) f.found
-  pub place : IsPlaceAt text (span_of f.found.word.spot f.found.word.bytes.now) f.place
+  pub found : f.found ≡ found_in text offset
+  pub name : f.name.now ≡ part_of text f.found.name
+  pub word : f.word.now ≡ part_of text f.found.word
+  pub place : IsPlaceAt text f.found.word f.place

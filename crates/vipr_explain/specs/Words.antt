@@ -1,5 +1,6 @@
 -- The tokens of a text, as they are read one by one
-use Rattle.std.specs.Prelude.{◌≡◌, ◌≤◌, ℕ, false, List, [], ◌∷◌, length, drop, Option, Some, None}
+use Rattle.std.specs.Prelude.{◌≡◌, ◌≤◌, ℕ, Bool, false, List, [], ◌∷◌, length, drop, Option, Some}
+use Rattle.std.specs.Prelude.{None, if◌then◌else◌}
 use Rattle.vipr_spec.specs.Tokens.{Token}
 use Rattle.vipr_scan.specs.Places.{tokens_in}
 use Rattle.vipr_scan.specs.declared.place.Position.{Position}
@@ -48,3 +49,12 @@ pub record GivesFirst (text : List ℕ) (ts : List Token) (new : Words) (w : Tex
 abbrev pub GivesWord : List ℕ → List Token → Words → Option TextWord → Type 0
 GivesWord text ts new (Some w) = GivesFirst text ts new w
 GivesWord text ts new None = ts ≡ []
+
+-- ---- a walk over the tokens
+
+-- what a state becomes over these tokens of a text, up to where it stops
+abbrev pub walked : {S : Type 0} → (S → Bool) → (S → List ℕ → Span → S) → List ℕ → S → List Token
+    → S
+walked stops next text s [] = s
+walked stops next text s (t ∷ ts) = if stops s then s
+    else walked stops next text (next s t.bytes (span_in text t)) ts

@@ -1,6 +1,6 @@
 //! A part of a line with carets below a place in it.
 ghost use Rattle.std.specs.Prelude.{◌≡◌, length, decimal, take, drop};
-ghost use Rattle.vipr_explain.specs.Excerpts.{IsPlaceAt, is_in_line, line_of};
+ghost use Rattle.vipr_explain.specs.Excerpts.{IsPlaceAt, is_in_line, line_of, part_of};
 ghost use Rattle.vipr_page.specs.Page.{line_byte};
 
 use crate::text::{Span, Spot};
@@ -95,6 +95,13 @@ impl<'a> KnownPlace<'a> {
             ""
         }
     }
+}
+
+/// The bytes of a text that a token has.
+pub(crate) fn part_of(text: &[u8], span: Span) -> &[u8]
+    ensures { result.now ≡ part_of text.now span }
+{
+    first(from(text, span.spot.offset), span.size as u64)
 }
 
 // The bytes of a text from an offset on.

@@ -1,9 +1,9 @@
 //! A fault of a text: its place, and what is wanted there.
 ghost use Rattle.std.specs.Prelude.{◌≡◌, ◌+◌, ◌↔◌, IsTrue, length};
-ghost use Rattle.vipr_explain.specs.Syntax.{TokenFound, IsTokenFound, IsFoundAt};
-ghost use Rattle.vipr_explain.specs.Syntax.{found_at_start, found_behind};
+ghost use Rattle.vipr_explain.specs.Syntax.{IsFoundAt, found_at_start, found_behind};
+ghost use Rattle.vipr_explain.specs.Words.{span_of};
 
-use crate::excerpt::{KnownPlace, PlaceLabel};
+use crate::excerpt::{KnownPlace, PlaceLabel, part_of};
 use crate::hints::{TokenFault, write_hints};
 use crate::text::{Span, Spot};
 use crate::wanted::{Section, TextProgress, Wanted};
@@ -16,42 +16,44 @@ use vipr_page::CutBytes;
 
 /// How far a text was read before the token at a fault, and that token.
 #[derive(Clone, Copy)]
-struct FaultToken<'a> {
+struct FaultToken {
     progress: TextProgress,
     /// The name of the item that the token is in, empty before that is read.
-    name: &'a [u8],
-    word: TextWord<'a>,
+    name: Span,
+    word: Span,
     /// Whether the text ends before the token. Then `word` is the last one.
     is_end: bool,
 }
 
-impl<'a> FaultToken<'a> {
+impl FaultToken {
     // Nothing was read.
-    fn start() -> FaultToken<'a>
-        ensures { IsTokenFound found_at_start result }
+    fn start() -> FaultToken
+        ensures { result ≡ found_at_start }
     {
-        let bytes = b"".as_slice();
-        let spot = Spot::start();
+        let nothing = Span {
+            spot: Spot::start(),
+            size: 0,
+        };
         FaultToken {
             progress: TextProgress::start(),
-            name: bytes,
-            word: TextWord { bytes, spot },
+            name: nothing,
+            word: nothing,
             is_end: true,
         }
     }
 
     // Takes the next token, which is passed if it is before this byte.
-    fn take(&mut self, word: TextWord<'a>, offset: u64)
-        ensures { (f : TokenFound) → IsTokenFound f self.old
-            → IsTokenFound (found_behind offset f word.entry.bytes.now word.entry.spot) self.new }
+    fn take(&mut self, word: TextWord<'_>, offset: u64)
+        ensures { self.new ≡ found_behind offset self.old word.entry.bytes.now
+            (span_of word.entry.spot word.entry.bytes.now) }
     {
-        self.word = word;
+        self.word = word.span();
         if word.spot.offset >= offset {
             self.is_end = false;
             return;
         }
         if let Wanted::Name = self.progress.wanted {
-            self.name = word.bytes;
+            self.name = self.word;
         }
         self.progress.pass(word.bytes);
     }
@@ -60,7 +62,9 @@ impl<'a> FaultToken<'a> {
 /// A fault of a text: the token at it, and its place.
 #[derive(Clone, Copy)]
 pub(crate) struct TextFault<'a> {
-    found: FaultToken<'a>,
+    found: FaultToken,
+    name: &'a [u8],
+    word: &'a [u8],
     /// Whether the text ends with the token's last byte.
     is_last: bool,
     place: KnownPlace<'a>,
@@ -80,9 +84,11 @@ impl<'a> TextFault<'a> {
             found.take(word, offset);
         }
         TextFault {
-            place: KnownPlace::of(text, found.word.span()),
-            is_last: ends_text(found.word.span(), text),
             found,
+            name: part_of(text, found.name),
+            word: part_of(text, found.word),
+            is_last: ends_text(found.word, text),
+            place: KnownPlace::of(text, found.word),
         }
     }
 
@@ -112,12 +118,12 @@ impl<'a> TextFault<'a> {
             "this was found"
         });
         self.place.write(f, file, label)?;
-        write_context(f, &found.progress, found.name)?;
+        write_context(f, &found.progress, self.name)?;
         let fault = TokenFault {
             cause,
             progress: found.progress,
-            name: found.name,
-            word: found.word.bytes,
+            name: self.name,
+            word: self.word,
             is_last: self.is_last && !found.is_end,
         };
         write_hints(f, fault)

@@ -1,0 +1,43 @@
+-- Walks over the tokens of a text
+use Rattle.std.proofs.Common.{◌≡◌, ℕ, Bool, true, false, List, [], ◌∷◌, refl, sym, ap, ◌∙◌}
+use Rattle.vipr_spec.specs.Tokens.{Token}
+use Rattle.vipr_explain.specs.Places.{place_at}
+use Rattle.vipr_explain.specs.Words.{AreLeft, GivesFirst, span_in, span_of, walked}
+use Rattle.vipr_explain.specs.declared.text.Span.{Span}
+use Rattle.vipr_explain.specs.declared.text.Spot.{Spot}
+use Rattle.vipr_explain.specs.declared.words.TextWord.{TextWord}
+use Rattle.vipr_explain.specs.declared.words.Words.{Words}
+
+-- some tokens are left, over which the state becomes what it becomes over all
+pub record WalksFrom (S : Type 0) (stops : S → Bool) (next : S → List ℕ → Span → S) (text : List ℕ)
+    (all s : S) (w : Words) : Type 0 where
+  pub others : List Token
+  pub left : AreLeft text others w
+  pub same : walked stops next text s others ≡ all
+
+module _ {S : Type 0} (stops : S → Bool) (next : S → List ℕ → Span → S) (text : List ℕ) (all s : S) where
+  one_more : (t : Token) (ts : List Token) → stops s ≡ false
+      → walked stops next text s (t ∷ ts) ≡ walked stops next text (next s t.bytes (span_in text t)) ts
+  one_more t ts goes = rw goes refl
+
+  pub walks_on : (old new : Words) (w : TextWord) → (h : WalksFrom S stops next text all s old) → stops s ≡ false
+      → GivesFirst text h.others new w
+      → WalksFrom S stops next text all (next s w.bytes.now (span_of w.spot w.bytes.now)) new
+  walks_on old new w h goes gives = record {
+    others = gives.others;
+    left = gives.left;
+    same = ap (λ b. walked stops next text (next s b (span_of w.spot b)) gives.others) gives.word.bytes
+        ∙ ap (λ (at : Spot). walked stops next text (next s gives.token.bytes (span_of at gives.token.bytes)) gives.others) gives.word.place
+        ∙ sym (one_more gives.token gives.others goes) ∙ ap (walked stops next text s) (sym gives.tokens) ∙ h.same;
+  }
+
+  -- it stops, or no token is to come
+  pub walk_stops : (w : Words) → WalksFrom S stops next text all s w → stops s ≡ true → s ≡ all
+  walk_stops w h stop = sym (by h.others) ∙ h.same
+    where
+      by : (ts : List Token) → walked stops next text s ts ≡ s
+      by [] = refl
+      by (t ∷ ts) = rw stop refl
+
+  pub walk_ends : (w : Words) → (h : WalksFrom S stops next text all s w) → h.others ≡ [] → s ≡ all
+  walk_ends w h none = ap (walked stops next text s) (sym none) ∙ h.same
