@@ -1,5 +1,5 @@
 -- Items of a text that are read again, one after the other
-use Rattle.std.proofs.Common.{◌≡◌, ℕ, zero, suc, ◌+◌, ◌-◌, ◌<◌, ◌≤◌, inl, inr, List, [], ◌∷◌, ◌++◌, map}
+use Rattle.std.proofs.Common.{◌≡◌, ℕ, zero, suc, ◌+◌, ◌-◌, ◌<◌, ◌≤◌, inl, inr, ◌⊎◌, List, [], ◌∷◌, ◌++◌, map}
 use Rattle.std.proofs.Common.{length, filter, Option, Some, None, Result, Ok, Err, refl, sym, ap}
 use Rattle.std.proofs.Common.{◌∙◌, append_assoc, arith, OnOk}
 use Rattle.std.specs.Option.{IsSome}
@@ -145,44 +145,43 @@ pub counted_down : {X : Type 0} (old new : Reader) (o : Option X) → 0 < old.le
 counted_down old new None some moves = absurd (omega (arith, moves.none))
 counted_down old new (Some x) some moves = moves.counted
 
-module _ {A : Type 0} (item : Problem → Rest → Read A) (head : Read (Problem × ℕ)) (p : Problem)
-    (xs : List A) where
-  -- one more was read
-  pub one_behind : (x : A) (old new : Reader) → HasPassed old new
-      → (item p (rest_of old.rest) ≡ Ok (x, rest_of new.rest)) → IsSome new.rest
-      → IsBehind A item head p xs old → IsBehind A item head p (xs ++ x ∷ []) new
-  one_behind x old new passed one known h =
-      let size : length (xs ++ x ∷ []) ≡ suc (length xs) = omega (arith, length-append xs (x ∷ [])) in
-      record {
-        knows = still_knows old new p passed.remembers h.knows;
-        known = known;
-        start = h.start;
-        counted = h.counted ∙ ap (λ n. Ok ((p, n), h.start)) (omega (arith, size, passed.counted));
-        read = rw size (rw (each_more (item p) (length xs) h.start, h.read, one) refl);
-      }
+-- one more was read
+pub one_behind : {A : Type 0} {item : Problem → Rest → Read A} {head : Read (Problem × ℕ)} {p : Problem}
+    {xs : List A} (x : A) (old new : Reader) → HasPassed old new
+    → (item p (rest_of old.rest) ≡ Ok (x, rest_of new.rest)) → IsSome new.rest
+    → IsBehind A item head p xs old → IsBehind A item head p (xs ++ x ∷ []) new
+one_behind {item = item} {p = p} {xs = xs} x old new passed one known h =
+    let size : length (xs ++ x ∷ []) ≡ suc (length xs) = omega (arith, length-append xs (x ∷ [])) in
+    record {
+      knows = still_knows old new p passed.remembers h.knows;
+      known = known;
+      start = h.start;
+      counted = h.counted ∙ ap (λ n. Ok ((p, n), h.start)) (omega (arith, size, passed.counted));
+      read = rw size (rw (each_more (item p) (length xs) h.start, h.read, one) refl);
+    }
 
-  -- so was the next one, if one was left
-  pub next_behind : {X : Type 0} (view : X → A) (ending : Rest → Result (Unit {0}) Fault)
-      (ended : Reader → Reader → Type 0) (old new : Reader) (o : Option X) → 0 < old.left
-      → Moves ended old new (Ok o) → NextItem view (item p) ending old new (Ok o)
-      → IsBehind A item head p xs old → (x : A) × IsBehind A item head p (xs ++ x ∷ []) new
-  next_behind view ending ended old new None some moves next h =
-      let none = (next h.known).0 in absurd (omega (arith, none))
-  next_behind view ending ended old new (Some x) some moves next h =
-      let one = next h.known in
-      (view x, one_behind (view x) old new moves one.1 one.2 h)
+-- so was the next one, if one was left
+pub next_behind : {A X : Type 0} {item : Problem → Rest → Read A} {head : Read (Problem × ℕ)} {p : Problem}
+    {xs : List A} (view : X → A) (old new : Reader) (o : Option X) → 0 < old.left
+    → Moves HasNone old new (Ok o) → NextItem view (item p) (λ _. Ok tt) old new (Ok o)
+    → IsBehind A item head p xs old → (x : A) × IsBehind A item head p (xs ++ x ∷ []) new
+next_behind view old new None some moves next h = absurd (omega (arith, moves.none))
+next_behind view old new (Some x) some moves next h =
+    let one = next h.known in
+    (view x, one_behind (view x) old new moves one.1 one.2 h)
 
-  -- it wasn't, so it is missing of any number that goes on to it
-  pub none_behind : {X : Type 0} (view : X → A) (ending : Rest → Result (Unit {0}) Fault)
-      (old new : Reader) (e : TextError) (count : Problem × ℕ → ℕ) → 0 < old.left
-      → length xs < count (p, length xs + old.left) → NextItem view (item p) ending old new (Err e)
-      → IsBehind A item head p xs old
-      → Missed e (head >>= λ h. read_each (item h.0.0) (count h.0) h.1)
-  none_behind view ending old new e count some more next h = elim (next h.known) [
-    | inl ended ↦ absurd (omega (arith, ended.0))
-    | inr fails ↦ because e _ _ (λ fault. fault_behind head ((p, length xs + old.left), h.start) (λ h. read_each (item h.0.0) (count h.0) h.1) h.counted
-        (fault_of_more (item p) (length xs) (count (p, length xs + old.left) - (length xs + 1)) (count (p, length xs + old.left)) h.start (rest_of old.rest) xs (omega arith) h.read fault)) (missed_of e _ fails.1)
-  ]
+-- it has a fault, so any number that goes on to it is missed
+pub none_behind : {A E : Type 0} {item : Problem → Rest → Read A} {head : Read (Problem × ℕ)} {p : Problem}
+    {xs : List A} (old : Reader) (e : TextError) (count : Problem × ℕ → ℕ) → 0 < old.left
+    → length xs < count (p, length xs + old.left)
+    → ((old.left ≡ 0) × E) ⊎ ((0 < old.left) × Fails e (item p (rest_of old.rest)))
+    → IsBehind A item head p xs old
+    → Missed e (head >>= λ h. read_each (item h.0.0) (count h.0) h.1)
+none_behind old e count some more (inl ended) h = absurd (omega (arith, ended.0))
+none_behind {item = item} {head = head} {p = p} {xs = xs} old e count some more (inr fails) h =
+    let all = count (p, length xs + old.left) in
+    because e _ _ (λ fault. fault_behind head _ (λ h. read_each (item h.0.0) (count h.0) h.1) h.counted (fault_of_more (item p) (length xs) (all - (length xs + 1)) all h.start (rest_of old.rest) xs (omega arith) h.read fault))
+    (missed_of e _ fails.1)
 
 -- ---- the head of a text
 
@@ -210,7 +209,7 @@ solutions_missed text p r e h missed =
 
 -- ---- derivations, of which those that are wanted are kept
 
-numbered_more : {X : Type 0} (first : ℕ) (xs : List X) (x : X)
+pub numbered_more : {X : Type 0} (first : ℕ) (xs : List X) (x : X)
     → enumerate_from first (xs ++ x ∷ []) ≡ enumerate_from first xs ++ (first + length xs, x) ∷ []
 numbered_more first [] x = ap (λ n. (n, x) ∷ []) (omega arith)
 numbered_more first (y ∷ xs) x = ap (λ ys. (first, y) ∷ ys) (numbered_more (first + 1) xs x ∙ ap (λ n. enumerate_from (first + 1) xs ++ (n, x) ∷ []) (omega arith))
@@ -234,7 +233,7 @@ keeps_more text p wanted done index old new d before now at passed one known kep
     let is = is_wanted wanted in
     record {
       read = so_far.read ++ d ∷ [];
-      behind = one_behind derivation_read _ p so_far.read d old new passed one known so_far.behind;
+      behind = one_behind d old new passed one known so_far.behind;
       size = omega (arith, so_far.size, length-append so_far.read (d ∷ []));
       are = kept ∙ ap (λ xs. xs ++ wanted_among wanted index (d ∷ [])) so_far.are
           ∙ ap (λ n. wanted_among wanted first so_far.read ++ wanted_among wanted n (d ∷ [])) (omega (arith, at, so_far.size))

@@ -1,15 +1,15 @@
 -- Which derivation is the last one that names a constraint
-use Rattle.std.specs.Prelude.{◌≡◌, ℕ, zero, suc, Bool, false, List, [], ◌∷◌, ◌==◌, ◌||◌, ◌&&◌}
-use Rattle.std.specs.Prelude.{length, nat_lt, if◌then◌else◌, Option, Some, None, Ok, Err, IsSome}
+use Rattle.std.specs.Prelude.{◌≡◌, ◌⊎◌, ℕ, Bool, false, List, [], ◌∷◌, ◌==◌, ◌||◌, ◌&&◌, length}
+use Rattle.std.specs.Prelude.{nat_lt, if◌then◌else◌, Option, Some, None, Ok, IsSome}
 use Rattle.std.specs.List.{enumerate_from, list_any}
 use Rattle.vipr_spec.specs.Certificate.{Problem, Derivation, Reason, References, no_references}
 use Rattle.vipr_spec.specs.Certificate.{by_entries, by_branches, reason_references}
-use Rattle.vipr_spec.specs.Reading.{Rest, Fault, Read, derivation_read}
+use Rattle.vipr_spec.specs.Reading.{Rest, derivation_read, read_each}
 use Rattle.vipr_scan.specs.Giving.{rest_of}
-use Rattle.vipr_read.specs.Items.{Items as Reader, Knows}
+use Rattle.vipr_read.specs.Items.{Items as Reader}
 use Rattle.vipr_cert.specs.Items.{derivation_of}
 use Rattle.vipr_cert.specs.declared.items.Derivation.{Derivation as Derived}
-use Rattle.vipr_explain.specs.Found.{head_read}
+use Rattle.vipr_explain.specs.Found.{HasFault, head_read}
 
 -- references are to a constraint
 abbrev pub are_to : ℕ → References → Bool
@@ -31,33 +31,23 @@ abbrev pub last_naming : ℕ → ℕ → List (ℕ × Derivation) → ℕ
 last_naming index last [] = last
 last_naming index last (d ∷ ds) = last_naming index (later_of index last d) ds
 
--- ---- derivations up to the first fault
-
-abbrev pub read_on : {A : Type 0} → Read A → (Rest → List A) → List A
-read_on (Ok x) others = x.0 ∷ others x.1
-read_on (Err f) others = []
-
--- so many items, or those before the first fault
-unfoldable pub read_most : {A : Type 0} → (Rest → Read A) → ℕ → Rest → List A
-read_most item zero r = []
-read_most item (suc n) r = read_on (item r) (read_most item n)
-
--- the derivations of a problem, as far as n of them can be read
-abbrev pub last_among : Problem → ℕ → Rest → ℕ → ℕ → ℕ
-last_among p n r index needed_by = last_naming index needed_by
-    (enumerate_from (length p.constraints) (read_most (derivation_read p) n r))
-
--- of a text, where the derivation needed_by names the constraint
+-- of a text, where the derivation needed_by names the constraint: among the derivations up to the
+-- last one, or to the first one with a fault
 pub record IsLastUse (text : Rest) (index needed_by last : ℕ) : Type 0 where
   pub problem : Problem
   pub count : ℕ
   pub behind : Rest
   pub head : head_read text ≡ Ok ((problem, count), behind)
-  pub is_last : last ≡ last_among problem count behind index needed_by
+  pub read : List Derivation
+  pub rest : Rest
+  pub each : read_each (derivation_read problem) (length read) behind ≡ Ok (read, rest)
+  pub far : (length read ≡ count) ⊎ HasFault (derivation_read problem rest)
+  pub is_last : last
+      ≡ last_naming index needed_by (enumerate_from (length problem.constraints) read)
 
 -- the next derivation was read, or none because of a fault
 abbrev pub ReadsNext : Problem → Reader → Reader → Option Derived → Type 0
 ReadsNext p old new (Some d) =
     (derivation_read p (rest_of old.rest) ≡ Ok (derivation_of d, rest_of new.rest))
-    × IsSome new.rest × Knows new p
-ReadsNext p old new None = (f : Fault) × (derivation_read p (rest_of old.rest) ≡ Err f)
+    × IsSome new.rest
+ReadsNext p old new None = HasFault (derivation_read p (rest_of old.rest))

@@ -1,15 +1,15 @@
 //! Explains that a constraint is needed that was dropped.
-ghost use Rattle.std.specs.Prelude.{◌≡◌, ◌+◌, ◌<◌, ◌^◌, ◌==◌, IfOk, IsSome, length};
-ghost use Rattle.std.specs.Prelude.{IfErr, IfSome, suc};
+ghost use Rattle.std.specs.Prelude.{◌≡◌, ◌+◌, ◌<◌, ◌^◌, ◌==◌, [], IfOk, IsSome, length};
+ghost use Rattle.std.specs.Prelude.{IfErr, IfSome};
 ghost use Rattle.std.specs.List.{list_any};
 ghost use Rattle.vipr_spec.specs.Certificate.{Problem as ProblemMeant};
-ghost use Rattle.vipr_scan.specs.Giving.{rest_of};
+ghost use Rattle.vipr_spec.specs.Reading.{Rest};
 ghost use Rattle.vipr_cert.specs.Items.{derivation_of, reason_of};
-ghost use Rattle.vipr_read.specs.Items.{Knows};
-ghost use Rattle.vipr_explain.specs.Drops.{IsLastUse, ReadsNext, last_among, later_of};
+ghost use Rattle.vipr_read.specs.Items.{HasPassed, Knows};
+ghost use Rattle.vipr_explain.specs.Drops.{IsLastUse, ReadsNext, later_of};
 ghost use Rattle.vipr_explain.specs.Drops.{names_constraint};
 ghost use Rattle.vipr_explain.specs.Refused.{IsLastUseIn};
-ghost use Rattle.vipr_explain.specs.Found.{Missed, head_read, text_rest};
+ghost use Rattle.vipr_explain.specs.Found.{AreDerivationsRead, Missed, head_read, text_rest};
 
 use crate::excerpt::{KnownPlace, PlaceLabel};
 use crate::items::open_derivations;
@@ -19,8 +19,8 @@ use crate::text::{Reread, Subject};
 use std::alloc::Global;
 use std::fmt;
 use std::fmt::{Formatter, Write};
-use vipr_bytes::Source;
-use vipr_cert::{Derivation, Reason, References};
+use vipr_bytes::Bytes;
+use vipr_cert::{Derivation, Problem, Reason, References};
 use vipr_check::{StepDetail, cause};
 use vipr_frac::Frac;
 use vipr_read::Derivations;
@@ -92,28 +92,26 @@ fn last_use(alloc: Global, text: &[u8], index: u32, needed_by: u32) -> Reread<u3
     ensures error { IfErr result (λ m. Missed m (head_read (text_rest text.now))) }
 {
     let (problem, mut derivations) = open_derivations(alloc, text)?;
-    let first = problem.cons().len() as u32;
-    let last = last_among(alloc, &mut derivations, first, index, needed_by);
+    let last = last_among(alloc, &problem, &mut derivations, index, needed_by);
     drop(derivations);
     drop(problem);
     last
 }
 
-// The same among derivations, the first of which has the index `first`.
-fn last_among<R: Source + Drop>(
+// The same among the derivations of a problem.
+fn last_among(
     alloc: Global,
-    derivations: &mut Derivations<R>,
-    first: u32,
+    problem: &Problem,
+    derivations: &mut Derivations<Bytes<'_>>,
     index: u32,
     needed_by: u32,
 ) -> Reread<u32>
-    requires { first + derivations.old.left < 2 ^ 32 }
-    ensures found { (p : ProblemMeant) → Knows derivations.old p → IsSome derivations.old.rest
-        → first ≡ length p.constraints
-        → IfOk result (λ last. last ≡ last_among p derivations.old.left
-        (rest_of derivations.old.rest) index needed_by) }
+    requires { length problem.now.constraints + derivations.old.left < 2 ^ 32 }
+    ensures found { (text : Rest) → AreDerivationsRead text problem.now [] derivations.old
+        → IfOk result (IsLastUse text index needed_by) }
     ensures error { IfErr result (λ m. m ≡ TextError.Memory) }
 {
+    let first = problem.cons().len() as u32;
     let mut last = needed_by;
     for passed in 0..derivations.left() {
         let Some(step) = next_derivation(alloc, derivations)? else {
@@ -126,12 +124,12 @@ fn last_among<R: Source + Drop>(
 }
 
 // The next derivation, none at a fault.
-fn next_derivation<R: Source + Drop>(
+fn next_derivation(
     alloc: Global,
-    derivations: &mut Derivations<R>,
+    derivations: &mut Derivations<Bytes<'_>>,
 ) -> Reread<Option<Derivation>>
-    ensures left { IfOk result (λ next. IfSome next (λ _.
-        derivations.old.left ≡ suc derivations.new.left)) }
+    ensures passed { IfOk result (λ next. IfSome next
+        (λ _. HasPassed derivations.old derivations.new)) }
     ensures read { (p : ProblemMeant) → Knows derivations.old p → IsSome derivations.old.rest
         → 0 < derivations.old.left
         → IfOk result (ReadsNext p derivations.old derivations.new) }

@@ -42,5 +42,5 @@ returns-in_err-derivation-clause-error c text front =
     let p = c.args.problem.now in
     let part = c.loop-passed.invariant.read text front in
     let size : length c.cons.result.now ≡ length p.constraints = sym (length-map c.cons.result.now _) ∙ ap length c.cons.ensures.constraints in
-    err_is c.from_residual.result _ c.from_residual.ensures.1 (none_behind derivation_read (head_read text) p part.read derivation_of end_read c.loop-passed.derivations c.next.new.self c.in_err-derivation.field-0.0
-    (λ h. count_read c.args.wanted.now (length h.0.constraints) h.1) (omega arith) (omega (arith, part.size)) (c.in_err-derivation.ensures.read p part.behind.knows) part.behind)
+    err_is c.from_residual.result _ c.from_residual.ensures.1 (none_behind c.loop-passed.derivations c.in_err-derivation.field-0.0 (λ h. count_read c.args.wanted.now (length h.0.constraints) h.1) (omega arith) (omega (arith, part.size))
+    (c.in_err-derivation.ensures.read p part.behind.knows part.behind.known) part.behind)
