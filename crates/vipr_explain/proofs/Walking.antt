@@ -15,29 +15,30 @@ pub record WalksFrom (S : Type 0) (stops : S → Bool) (next : S → List ℕ �
   pub left : AreLeft text others w
   pub same : walked stops next text s others ≡ all
 
-module _ {S : Type 0} (stops : S → Bool) (next : S → List ℕ → Span → S) (text : List ℕ) (all s : S) where
-  one_more : (t : Token) (ts : List Token) → stops s ≡ false
-      → walked stops next text s (t ∷ ts) ≡ walked stops next text (next s t.bytes (span_in text t)) ts
-  one_more t ts goes = rw goes refl
+pub walks_on : {S : Type 0} {stops : S → Bool} {next : S → List ℕ → Span → S} {text : List ℕ} {all s : S}
+    {old : Words} (new : Words) (w : TextWord) → (h : WalksFrom S stops next text all s old)
+    → stops s ≡ false → GivesFirst text h.others new w
+    → WalksFrom S stops next text all (next s w.bytes.now (span_of w.spot w.bytes.now)) new
+walks_on {stops = stops} {next = next} {text = text} {s = s} new w h goes gives = record {
+  others = gives.others;
+  left = gives.left;
+  same = ap (λ b. walked stops next text (next s b (span_of w.spot b)) gives.others) gives.word.bytes
+      ∙ ap (λ (at : Spot). walked stops next text (next s gives.token.bytes (span_of at gives.token.bytes)) gives.others) gives.word.place
+      ∙ sym (one gives.token gives.others) ∙ ap (walked stops next text s) (sym gives.tokens) ∙ h.same;
+}
+  where
+    one : (t : Token) (ts : List Token) → walked stops next text s (t ∷ ts) ≡ walked stops next text (next s t.bytes (span_in text t)) ts
+    one t ts = rw goes refl
 
-  pub walks_on : (old new : Words) (w : TextWord) → (h : WalksFrom S stops next text all s old) → stops s ≡ false
-      → GivesFirst text h.others new w
-      → WalksFrom S stops next text all (next s w.bytes.now (span_of w.spot w.bytes.now)) new
-  walks_on old new w h goes gives = record {
-    others = gives.others;
-    left = gives.left;
-    same = ap (λ b. walked stops next text (next s b (span_of w.spot b)) gives.others) gives.word.bytes
-        ∙ ap (λ (at : Spot). walked stops next text (next s gives.token.bytes (span_of at gives.token.bytes)) gives.others) gives.word.place
-        ∙ sym (one_more gives.token gives.others goes) ∙ ap (walked stops next text s) (sym gives.tokens) ∙ h.same;
-  }
+-- it stops, or no token is to come
+pub walk_stops : {S : Type 0} {stops : S → Bool} {next : S → List ℕ → Span → S} {text : List ℕ} {all s : S}
+    {w : Words} → WalksFrom S stops next text all s w → stops s ≡ true → s ≡ all
+walk_stops {stops = stops} {next = next} {text = text} {s = s} h stop = sym (by h.others) ∙ h.same
+  where
+    by : (ts : List Token) → walked stops next text s ts ≡ s
+    by [] = refl
+    by (t ∷ ts) = rw stop refl
 
-  -- it stops, or no token is to come
-  pub walk_stops : (w : Words) → WalksFrom S stops next text all s w → stops s ≡ true → s ≡ all
-  walk_stops w h stop = sym (by h.others) ∙ h.same
-    where
-      by : (ts : List Token) → walked stops next text s ts ≡ s
-      by [] = refl
-      by (t ∷ ts) = rw stop refl
-
-  pub walk_ends : (w : Words) → (h : WalksFrom S stops next text all s w) → h.others ≡ [] → s ≡ all
-  walk_ends w h none = ap (walked stops next text s) (sym none) ∙ h.same
+pub walk_ends : {S : Type 0} {stops : S → Bool} {next : S → List ℕ → Span → S} {text : List ℕ} {all s : S}
+    {w : Words} → (h : WalksFrom S stops next text all s w) → h.others ≡ [] → s ≡ all
+walk_ends {stops = stops} {next = next} {text = text} {s = s} h none = ap (walked stops next text s) (sym none) ∙ h.same
