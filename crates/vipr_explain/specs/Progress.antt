@@ -116,31 +116,20 @@ row_ended section.Objective p = section_ended p
 row_ended section.Derivations p = wants p wanted.OpenBrace
 row_ended _ p = item_ended p
 
--- the next pair of a row, if there is one
-abbrev pub pair_begun : TextProgress → TextProgress
-pair_begun p = if nat_lt p.part p.parts then wants p wanted.RowIndex else row_ended p.section p
+-- behind the parts of an item that begin with this: the pairs of its row, or parts of its reason
+abbrev pub parts_ended : Wanted → TextProgress → TextProgress
+parts_ended wanted.RowIndex p = row_ended p.section p
+parts_ended _ p = wants p wanted.CloseBrace
 
-abbrev pub pairs_begun : TextProgress → ℕ → TextProgress
-pairs_begun p n = pair_begun (record p { part = 0; parts = n })
-
-abbrev pub pair_ended : TextProgress → TextProgress
-pair_ended p = pair_begun (record p { part = in_u32 (p.part + 1) })
-
--- the next one of these parts of a reason, if there is one
+-- the next one of these parts, if there is one
 abbrev pub part_begun : Wanted → TextProgress → TextProgress
-part_begun part p = wants p (if nat_lt p.part p.parts then part else wanted.CloseBrace)
+part_begun part p = if nat_lt p.part p.parts then wants p part else parts_ended part p
 
-abbrev pub entry_begun : TextProgress → TextProgress
-entry_begun p = part_begun wanted.EntryIndex p
+abbrev pub parts_begun : Wanted → ℕ → TextProgress → TextProgress
+parts_begun part n p = part_begun part (record p { part = 0; parts = n })
 
-abbrev pub entries_begun : TextProgress → ℕ → TextProgress
-entries_begun p n = entry_begun (record p { part = 0; parts = n })
-
-abbrev pub entry_ended : TextProgress → TextProgress
-entry_ended p = entry_begun (record p { part = in_u32 (p.part + 1) })
-
-abbrev pub branch_ended : TextProgress → TextProgress
-branch_ended p = part_begun wanted.Branch (record p { part = in_u32 (p.part + 1) })
+abbrev pub part_ended : Wanted → TextProgress → TextProgress
+part_ended part p = part_begun part (record p { part = in_u32 (p.part + 1) })
 
 -- behind the word of the claim
 abbrev pub claim_passed : TextProgress → List ℕ → TextProgress
@@ -162,18 +151,18 @@ passed_at wanted.IntegerIndex p word = item_ended p
 passed_at wanted.Direction p word = wants p wanted.RowCount
 passed_at wanted.Sense p word = wants p wanted.RightHandSide
 passed_at wanted.RightHandSide p word = wants p wanted.RowCount
-passed_at wanted.RowCount p word = pairs_begun p (count_spelled word)
+passed_at wanted.RowCount p word = parts_begun wanted.RowIndex (count_spelled word) p
 passed_at wanted.RowIndex p word = wants p wanted.RowCoefficient
-passed_at wanted.RowCoefficient p word = pair_ended p
+passed_at wanted.RowCoefficient p word = part_ended wanted.RowIndex p
 passed_at wanted.Claim p word = claim_passed p word
 passed_at wanted.LowerBound p word = wants p wanted.UpperBound
 passed_at wanted.UpperBound p word = section_ended p
 passed_at wanted.OpenBrace p word = wants p wanted.Reason
 passed_at wanted.Reason p word = reason_passed p word
-passed_at wanted.EntryCount p word = entries_begun p (count_spelled word)
+passed_at wanted.EntryCount p word = parts_begun wanted.EntryIndex (count_spelled word) p
 passed_at wanted.EntryIndex p word = wants p wanted.EntryMultiplier
-passed_at wanted.EntryMultiplier p word = entry_ended p
-passed_at wanted.Branch p word = branch_ended p
+passed_at wanted.EntryMultiplier p word = part_ended wanted.EntryIndex p
+passed_at wanted.Branch p word = part_ended wanted.Branch p
 passed_at wanted.CloseBrace p word = wants p wanted.LastReference
 passed_at wanted.LastReference p word = item_ended p
 passed_at wanted.Nothing p word = p

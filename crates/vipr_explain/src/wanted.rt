@@ -1,12 +1,11 @@
 //! How far a certificate's text was read: what it has to have at its next token.
-ghost use Rattle.std.specs.Prelude.{◌≡◌, ◌+◌};
+ghost use Rattle.std.specs.Prelude.{◌≡◌};
 ghost use Rattle.std.specs.Str.{bytes_eq};
 ghost use Rattle.vipr_explain.specs.Progress.{at_start, claim_passed, count_passed, count_spelled};
-ghost use Rattle.vipr_explain.specs.Progress.{first_of, first_of_item, first_of_reason, in_u32};
-ghost use Rattle.vipr_explain.specs.Progress.{index_of, item_begun, item_ended};
-ghost use Rattle.vipr_explain.specs.Progress.{name_passed, next_section, pair_begun};
-ghost use Rattle.vipr_explain.specs.Progress.{part_begun, passed, reason_passed, row_ended};
-ghost use Rattle.vipr_explain.specs.Progress.{section_ended};
+ghost use Rattle.vipr_explain.specs.Progress.{first_of, first_of_item, first_of_reason, index_of};
+ghost use Rattle.vipr_explain.specs.Progress.{item_begun, item_ended, name_passed, next_section};
+ghost use Rattle.vipr_explain.specs.Progress.{part_begun, part_ended, parts_begun, passed};
+ghost use Rattle.vipr_explain.specs.Progress.{reason_passed, row_ended, section_ended};
 
 /// The sections of a certificate, in their order.
 #[derive(Clone, Copy)]
@@ -189,33 +188,18 @@ impl TextProgress {
             Wanted::Direction => self.wanted = Wanted::RowCount,
             Wanted::Sense => self.wanted = Wanted::RightHandSide,
             Wanted::RightHandSide => self.wanted = Wanted::RowCount,
-            Wanted::RowCount => {
-                self.set_parts(count_of(word));
-                self.begin_pair();
-            }
+            Wanted::RowCount => self.begin_parts(Wanted::RowIndex, count_of(word)),
             Wanted::RowIndex => self.wanted = Wanted::RowCoefficient,
-            Wanted::RowCoefficient => {
-                self.end_part();
-                self.begin_pair();
-            }
+            Wanted::RowCoefficient => self.end_part(Wanted::RowIndex),
             Wanted::Claim => self.pass_claim(word),
             Wanted::LowerBound => self.wanted = Wanted::UpperBound,
             Wanted::UpperBound => self.end_section(),
             Wanted::OpenBrace => self.wanted = Wanted::Reason,
             Wanted::Reason => self.pass_reason(word),
-            Wanted::EntryCount => {
-                self.set_parts(count_of(word));
-                self.begin_part(Wanted::EntryIndex);
-            }
+            Wanted::EntryCount => self.begin_parts(Wanted::EntryIndex, count_of(word)),
             Wanted::EntryIndex => self.wanted = Wanted::EntryMultiplier,
-            Wanted::EntryMultiplier => {
-                self.end_part();
-                self.begin_part(Wanted::EntryIndex);
-            }
-            Wanted::Branch => {
-                self.end_part();
-                self.begin_part(Wanted::Branch);
-            }
+            Wanted::EntryMultiplier => self.end_part(Wanted::EntryIndex),
+            Wanted::Branch => self.end_part(Wanted::Branch),
             Wanted::CloseBrace => self.wanted = Wanted::LastReference,
             Wanted::LastReference => self.end_item(),
             Wanted::Nothing => {}
@@ -284,29 +268,34 @@ impl TextProgress {
         }
     }
 
-    // Takes so many parts to be in the item.
-    fn set_parts(&mut self, count: u32)
-        ensures { self.new ≡ record self.old { part = 0; parts = count } }
+    // Begins so many parts of the item, each of which begins with this.
+    fn begin_parts(&mut self, part: Wanted, count: u32)
+        ensures { self.new ≡ parts_begun part count self.old }
     {
         self.part = 0;
         self.parts = count;
+        self.begin_part(part);
     }
 
     // Ends a part of the item.
-    fn end_part(&mut self)
-        ensures { self.new ≡ record self.old { part = in_u32 (self.old.part + 1) } }
+    fn end_part(&mut self, part: Wanted)
+        ensures { self.new ≡ part_ended part self.old }
     {
         self.part = self.part.saturating_add(1);
+        self.begin_part(part);
     }
 
-    // Begins the next pair of a row, if there is one.
-    fn begin_pair(&mut self)
-        ensures { self.new ≡ pair_begun self.old }
+    // Begins the next part of the item, if there is one; else its row or its reason ends.
+    fn begin_part(&mut self, part: Wanted)
+        ensures { self.new ≡ part_begun part self.old }
     {
         if self.part < self.parts {
-            self.wanted = Wanted::RowIndex;
-        } else {
-            self.end_row();
+            self.wanted = part;
+            return;
+        }
+        match part {
+            Wanted::RowIndex => self.end_row(),
+            _ => self.wanted = Wanted::CloseBrace,
         }
     }
 
@@ -319,17 +308,6 @@ impl TextProgress {
             Section::Derivations => self.wanted = Wanted::OpenBrace,
             _ => self.end_item(),
         }
-    }
-
-    // Begins the next part of a reason, if there is one.
-    fn begin_part(&mut self, part: Wanted)
-        ensures { self.new ≡ part_begun part self.old }
-    {
-        self.wanted = if self.part < self.parts {
-            part
-        } else {
-            Wanted::CloseBrace
-        };
     }
 
     // Passes the word of the claim.
@@ -347,7 +325,8 @@ impl TextProgress {
     fn pass_reason(&mut self, word: &[u8])
         ensures { self.new ≡ reason_passed self.old word.now }
     {
-        self.set_parts(4);
+        self.part = 0;
+        self.parts = 4;
         self.wanted = first_of_reason(word);
     }
 }
