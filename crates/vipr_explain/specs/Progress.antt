@@ -131,15 +131,6 @@ parts_begun part n p = part_begun part (record p { part = 0; parts = n })
 abbrev pub part_ended : Wanted → TextProgress → TextProgress
 part_ended part p = part_begun part (record p { part = in_u32 (p.part + 1) })
 
--- behind the word of the claim
-abbrev pub claim_passed : TextProgress → List ℕ → TextProgress
-claim_passed p word = if bytes_eq word (codes "range") then wants p wanted.LowerBound
-    else section_ended p
-
--- behind the word of a reason
-abbrev pub reason_passed : TextProgress → List ℕ → TextProgress
-reason_passed p word = record p { part = 0; parts = 4; wanted = first_of_reason word }
-
 -- behind a token where this is wanted
 abbrev pub passed_at : Wanted → TextProgress → List ℕ → TextProgress
 passed_at wanted.Keyword p word = wants p (first_of p.section)
@@ -154,11 +145,13 @@ passed_at wanted.RightHandSide p word = wants p wanted.RowCount
 passed_at wanted.RowCount p word = parts_begun wanted.RowIndex (count_spelled word) p
 passed_at wanted.RowIndex p word = wants p wanted.RowCoefficient
 passed_at wanted.RowCoefficient p word = part_ended wanted.RowIndex p
-passed_at wanted.Claim p word = claim_passed p word
+passed_at wanted.Claim p word = if bytes_eq word (codes "range") then wants p wanted.LowerBound
+    else section_ended p
 passed_at wanted.LowerBound p word = wants p wanted.UpperBound
 passed_at wanted.UpperBound p word = section_ended p
 passed_at wanted.OpenBrace p word = wants p wanted.Reason
-passed_at wanted.Reason p word = reason_passed p word
+passed_at wanted.Reason p word =
+    record p { part = 0; parts = 4; wanted = first_of_reason word }
 passed_at wanted.EntryCount p word = parts_begun wanted.EntryIndex (count_spelled word) p
 passed_at wanted.EntryIndex p word = wants p wanted.EntryMultiplier
 passed_at wanted.EntryMultiplier p word = part_ended wanted.EntryIndex p

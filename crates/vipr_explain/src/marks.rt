@@ -2,8 +2,7 @@
 ghost use Rattle.std.specs.Prelude.{◌≡◌, option_copied, IfOk, OnOk};
 ghost use Rattle.vipr_explain.specs.Listed.{place_found};
 ghost use Rattle.vipr_explain.specs.Marked.{IsMarkOf, is_behind, is_of, is_past};
-ghost use Rattle.vipr_explain.specs.Marked.{is_past_head, marked, marked_at, marks_in, with_last};
-ghost use Rattle.vipr_explain.specs.Progress.{index_of};
+ghost use Rattle.vipr_explain.specs.Marked.{is_past_head, marked, marks_in, with_last};
 
 use crate::items::greatest;
 use crate::text::Span;
@@ -102,7 +101,8 @@ fn find_mark(marks: &[ItemPlace], index: u32) -> Option<&ItemPlace>
     marks.iter().find(|mark| mark.index == index)
 }
 
-// Marks the item whose token this is, if it is of this kind and wanted.
+// Marks the place of a name, and that of the last reference in the item that was marked last, if the
+// item is of this kind and wanted.
 fn mark(
     marks: &mut Vec<ItemPlace>,
     kind: ItemSort,
@@ -114,28 +114,15 @@ fn mark(
         (marks.new.items ≡ marked kind wanted.now progress.now span marks.old.items) }
 {
     if kind.is_of(progress.section) && wanted.contains(&progress.index()) {
-        mark_part(marks, progress, span)?;
-    }
-    Ok(())
-}
-
-// Marks the place of a name, and that of the last reference in the item that was marked last.
-fn mark_part(
-    marks: &mut Vec<ItemPlace>,
-    progress: &TextProgress,
-    span: Span,
-) -> Result<(), AllocError>
-    ensures { OnOk result (marks.new.items
-        ≡ marked_at progress.now.wanted (index_of progress.now) span marks.old.items) }
-{
-    match progress.wanted {
-        Wanted::Name => marks.push(ItemPlace {
-            index: progress.index(),
-            name: span,
-            last: span,
-        })?,
-        Wanted::LastReference => mark_last(marks, span),
-        _ => {}
+        match progress.wanted {
+            Wanted::Name => marks.push(ItemPlace {
+                index: progress.index(),
+                name: span,
+                last: span,
+            })?,
+            Wanted::LastReference => mark_last(marks, span),
+            _ => {}
+        }
     }
     Ok(())
 }

@@ -23,14 +23,9 @@ impl PlacedItems {
         ensures missing { IfErr result
             (λ m. Missed m (items_up_to wanted.now (text_rest subject.entry.text.now))) }
     {
+        let marks = find_items(subject.alloc, subject.text, ItemSort::Constraints, wanted)?;
         let items = read_items(subject.alloc, subject.text, wanted)?;
-        match find_items(subject.alloc, subject.text, ItemSort::Constraints, wanted) {
-            Ok(marks) => Ok(PlacedItems { items, marks }),
-            Err(error) => {
-                drop(items);
-                Err(error.into())
-            }
-        }
+        Ok(PlacedItems { items, marks })
     }
 }
 

@@ -1,11 +1,11 @@
 //! How far a certificate's text was read: what it has to have at its next token.
 ghost use Rattle.std.specs.Prelude.{◌≡◌};
 ghost use Rattle.std.specs.Str.{bytes_eq};
-ghost use Rattle.vipr_explain.specs.Progress.{at_start, claim_passed, count_passed, count_spelled};
+ghost use Rattle.vipr_explain.specs.Progress.{at_start, count_passed, count_spelled};
 ghost use Rattle.vipr_explain.specs.Progress.{first_of, first_of_item, first_of_reason, index_of};
 ghost use Rattle.vipr_explain.specs.Progress.{item_begun, item_ended, name_passed, next_section};
 ghost use Rattle.vipr_explain.specs.Progress.{part_begun, part_ended, parts_begun, passed};
-ghost use Rattle.vipr_explain.specs.Progress.{reason_passed, row_ended, section_ended};
+ghost use Rattle.vipr_explain.specs.Progress.{row_ended, section_ended};
 
 /// The sections of a certificate, in their order.
 #[derive(Clone, Copy)]
@@ -191,11 +191,16 @@ impl TextProgress {
             Wanted::RowCount => self.begin_parts(Wanted::RowIndex, count_of(word)),
             Wanted::RowIndex => self.wanted = Wanted::RowCoefficient,
             Wanted::RowCoefficient => self.end_part(Wanted::RowIndex),
-            Wanted::Claim => self.pass_claim(word),
+            Wanted::Claim if is_word(word, "range") => self.wanted = Wanted::LowerBound,
+            Wanted::Claim => self.end_section(),
             Wanted::LowerBound => self.wanted = Wanted::UpperBound,
             Wanted::UpperBound => self.end_section(),
             Wanted::OpenBrace => self.wanted = Wanted::Reason,
-            Wanted::Reason => self.pass_reason(word),
+            Wanted::Reason => {
+                self.part = 0;
+                self.parts = 4;
+                self.wanted = first_of_reason(word);
+            }
             Wanted::EntryCount => self.begin_parts(Wanted::EntryIndex, count_of(word)),
             Wanted::EntryIndex => self.wanted = Wanted::EntryMultiplier,
             Wanted::EntryMultiplier => self.end_part(Wanted::EntryIndex),
@@ -308,26 +313,6 @@ impl TextProgress {
             Section::Derivations => self.wanted = Wanted::OpenBrace,
             _ => self.end_item(),
         }
-    }
-
-    // Passes the word of the claim.
-    fn pass_claim(&mut self, word: &[u8])
-        ensures { self.new ≡ claim_passed self.old word.now }
-    {
-        if is_word(word, "range") {
-            self.wanted = Wanted::LowerBound;
-        } else {
-            self.end_section();
-        }
-    }
-
-    // Passes the word of a reason.
-    fn pass_reason(&mut self, word: &[u8])
-        ensures { self.new ≡ reason_passed self.old word.now }
-    {
-        self.part = 0;
-        self.parts = 4;
-        self.wanted = first_of_reason(word);
     }
 }
 
