@@ -1,7 +1,6 @@
 -- The tokens of a text, as they are read one by one
-use Rattle.std.proofs.Common.{◌≡◌, ℕ, ◌+◌, ◌<◌, ◌≤◌, false, true, List, [], ◌∷◌, ◌++◌, length, take}
+use Rattle.std.proofs.Common.{◌≡◌, ℕ, ◌+◌, ◌<◌, ◌≤◌, false, true, List, [], ◌∷◌, length, take}
 use Rattle.std.proofs.Common.{drop, get_or, inl, inr, refl, sym, ap, ◌∙◌, arith}
-use Rattle.std.proofs.Math.Seq.{take-add}
 use Rattle.std.proofs.lemmas.List.{at_drop_more, get_or-drop, length-drop}
 use Rattle.std.proofs.lemmas.Bool.{cases_lt, false≢true}
 use Rattle.vipr_spec.specs.Tokens.{Token, is_white, tokens_after_front, tokens_from}
@@ -83,10 +82,3 @@ word_taken text ts n size p mid new w past at some within solid white are bytes 
         tokens = ap (λ q. words_at q (n + size) new.rest.now) same ∙ ap (λ ys. words_at Past (n + size) ys) rest;
       };
     }
-
--- ---- places
-
--- the place behind more bytes of a text
-pub more_taken : (text : List ℕ) (n count : ℕ)
-    → take n text ++ take count (drop n text) ≡ take (n + count) text
-more_taken text n count = sym (take-add n count text)

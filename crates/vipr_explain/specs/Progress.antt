@@ -28,13 +28,9 @@ next_section section.Derivations = None
 -- what follows a keyword
 abbrev pub first_of : Section → Wanted
 first_of section.Version = wanted.Version
-first_of section.Variables = wanted.Count
-first_of section.Integers = wanted.Count
 first_of section.Objective = wanted.Direction
-first_of section.Constraints = wanted.Count
 first_of section.Claim = wanted.Claim
-first_of section.Solutions = wanted.Count
-first_of section.Derivations = wanted.Count
+first_of _ = wanted.Count
 
 -- what an item begins with
 abbrev pub first_of_item : Section → Wanted

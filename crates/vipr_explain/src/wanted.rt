@@ -128,11 +128,7 @@ impl Section {
             Section::Version => Wanted::Version,
             Section::Objective => Wanted::Direction,
             Section::Claim => Wanted::Claim,
-            Section::Variables
-            | Section::Integers
-            | Section::Constraints
-            | Section::Solutions
-            | Section::Derivations => Wanted::Count,
+            _ => Wanted::Count,
         }
     }
 
