@@ -1,5 +1,5 @@
 -- Items of a text that are read again, one after the other
-use Rattle.std.proofs.Common.{◌≡◌, ℕ, zero, suc, ◌+◌, ◌-◌, ◌<◌, ◌≤◌, inl, inr, ◌⊎◌, List, [], ◌∷◌, ◌++◌, map}
+use Rattle.std.proofs.Common.{◌≡◌, ℕ, zero, suc, ◌+◌, ◌-◌, ◌<◌, inl, inr, ◌⊎◌, List, [], ◌∷◌, ◌++◌, map}
 use Rattle.std.proofs.Common.{length, filter, Option, Some, None, Result, Ok, Err, refl, sym, ap}
 use Rattle.std.proofs.Common.{◌∙◌, append_assoc, arith, OnOk}
 use Rattle.std.specs.Option.{IsSome}
@@ -9,7 +9,7 @@ use Rattle.std.proofs.lemmas.List.Elements.{filter-append}
 use Rattle.vipr_spec.specs.Input.{Input}
 use Rattle.vipr_spec.specs.Certificate.{Named, Problem, Derivation}
 use Rattle.vipr_spec.specs.Constraint.{Row}
-use Rattle.vipr_spec.specs.Reading.{Rest, Fault, Read, ◌>>=◌, read_each, derivation_read}
+use Rattle.vipr_spec.specs.Reading.{Rest, Read, ◌>>=◌, read_each, derivation_read}
 use Rattle.vipr_spec.specs.Reading.{derivations_read, problem_read}
 use Rattle.vipr_bytes.specs.Known.{IfKnown}
 use Rattle.vipr_scan.specs.Faults.{Fails}
@@ -19,7 +19,7 @@ use Rattle.vipr_read.specs.Items.{Items as Reader, Knows, Remembers, Moves, HasN
 use Rattle.vipr_read.specs.Items.{NextItem}
 use Rattle.vipr_read.specs.Parsing.{with_front}
 use Rattle.vipr_explain.specs.Found.{AreDerivationsRead, AreFoundItems, AreSolutionsRead, HasFault}
-use Rattle.vipr_explain.specs.Found.{IsBehind, Missed, count_read, head_read, is_wanted, numbered_of}
+use Rattle.vipr_explain.specs.Found.{IsReaderBehind, Missed, count_read, head_read, is_wanted, numbered_of}
 use Rattle.vipr_explain.specs.Found.{solutions_read, wanted_among}
 use Rattle.vipr_explain.specs.declared.items.Items.{Items}
 use Rattle.vipr_explain.specs.declared.items.Numbered.{Numbered}
@@ -118,7 +118,7 @@ still_knows old new p kept knows = record {
 
 pub at_front : {A : Type 0} (item : Problem → Rest → Read A) (head : Read (Problem × ℕ)) (p : Problem)
     (r : Reader) → Knows r p → IsSome r.rest → head ≡ Ok ((p, r.left), rest_of r.rest)
-    → IsBehind A item head p [] r
+    → IsReaderBehind A item head p [] r
 unfolding read_each
 at_front item head p r knows known counted =
     record {
@@ -135,7 +135,7 @@ after (Ok xs) = xs.1
 after (Err f) = rest_of None
 
 pub from_front : {A : Type 0} (item : Problem → Rest → Read A) (head : Read (Problem × ℕ)) (p : Problem)
-    (r : Reader) → IsBehind A item head p [] r → head ≡ Ok ((p, r.left), rest_of r.rest)
+    (r : Reader) → IsReaderBehind A item head p [] r → head ≡ Ok ((p, r.left), rest_of r.rest)
 unfolding read_each after
 from_front item head p r h =
     h.counted ∙ ap (λ n. Ok ((p, n), h.start)) (omega arith) ∙ ap (λ s. Ok ((p, r.left), s)) (ap after h.read)
@@ -149,7 +149,7 @@ counted_down old new (Some x) some moves = moves.counted
 pub one_behind : {A : Type 0} {item : Problem → Rest → Read A} {head : Read (Problem × ℕ)} {p : Problem}
     {xs : List A} (x : A) (old new : Reader) → HasPassed old new
     → (item p (rest_of old.rest) ≡ Ok (x, rest_of new.rest)) → IsSome new.rest
-    → IsBehind A item head p xs old → IsBehind A item head p (xs ++ x ∷ []) new
+    → IsReaderBehind A item head p xs old → IsReaderBehind A item head p (xs ++ x ∷ []) new
 one_behind {item = item} {p = p} {xs = xs} x old new passed one known h =
     let size : length (xs ++ x ∷ []) ≡ suc (length xs) = omega (arith, length-append xs (x ∷ [])) in
     record {
@@ -164,7 +164,7 @@ one_behind {item = item} {p = p} {xs = xs} x old new passed one known h =
 pub next_behind : {A X : Type 0} {item : Problem → Rest → Read A} {head : Read (Problem × ℕ)} {p : Problem}
     {xs : List A} (view : X → A) (old new : Reader) (o : Option X) → 0 < old.left
     → Moves HasNone old new (Ok o) → NextItem view (item p) (λ _. Ok tt) old new (Ok o)
-    → IsBehind A item head p xs old → (x : A) × IsBehind A item head p (xs ++ x ∷ []) new
+    → IsReaderBehind A item head p xs old → (x : A) × IsReaderBehind A item head p (xs ++ x ∷ []) new
 next_behind view old new None some moves next h = absurd (omega (arith, moves.none))
 next_behind view old new (Some x) some moves next h =
     let one = next h.known in
@@ -175,7 +175,7 @@ pub none_behind : {A E : Type 0} {item : Problem → Rest → Read A} {head : Re
     {xs : List A} (old : Reader) (e : TextError) (count : Problem × ℕ → ℕ) → 0 < old.left
     → length xs < count (p, length xs + old.left)
     → ((old.left ≡ 0) × E) ⊎ ((0 < old.left) × Fails e (item p (rest_of old.rest)))
-    → IsBehind A item head p xs old
+    → IsReaderBehind A item head p xs old
     → Missed e (head >>= λ h. read_each (item h.0.0) (count h.0) h.1)
 none_behind old e count some more (inl ended) h = absurd (omega (arith, ended.0))
 none_behind {item = item} {head = head} {p = p} {xs = xs} old e count some more (inr fails) h =

@@ -1,7 +1,6 @@
 -- Walks over the tokens of a text
 use Rattle.std.proofs.Common.{◌≡◌, ℕ, Bool, true, false, List, [], ◌∷◌, refl, sym, ap, ◌∙◌}
 use Rattle.vipr_spec.specs.Tokens.{Token}
-use Rattle.vipr_explain.specs.Places.{place_at}
 use Rattle.vipr_explain.specs.Words.{AreLeft, GivesFirst, span_in, span_of, walked}
 use Rattle.vipr_explain.specs.declared.text.Span.{Span}
 use Rattle.vipr_explain.specs.declared.text.Spot.{Spot}

@@ -52,7 +52,7 @@ head_read r = do
 
 -- the head of a text gives its problem, and how many items follow: these, which were read, and
 -- those that this reader has left
-pub record IsBehind (A : Type 0) (item : Problem → Rest → Read A) (head : Read (Problem × ℕ))
+pub record IsReaderBehind (A : Type 0) (item : Problem → Rest → Read A) (head : Read (Problem × ℕ))
     (p : Problem) (xs : List A) (r : Reader) : Type 0 where
   pub knows : Knows r p
   pub known : IsSome r.rest
@@ -61,10 +61,10 @@ pub record IsBehind (A : Type 0) (item : Problem → Rest → Read A) (head : Re
   pub read : read_each (item p) (length xs) start ≡ Ok (xs, rest_of r.rest)
 
 abbrev pub AreSolutionsRead : Rest → Problem → List (Named Row) → Reader → Type 0
-AreSolutionsRead text p ss r = IsBehind (Named Row) solution_read (problem_read text) p ss r
+AreSolutionsRead text p ss r = IsReaderBehind (Named Row) solution_read (problem_read text) p ss r
 
 abbrev pub AreDerivationsRead : Rest → Problem → List Derivation → Reader → Type 0
-AreDerivationsRead text p ds r = IsBehind Derivation derivation_read (head_read text) p ds r
+AreDerivationsRead text p ds r = IsReaderBehind Derivation derivation_read (head_read text) p ds r
 
 -- ---- a listed solution
 

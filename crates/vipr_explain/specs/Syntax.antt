@@ -35,13 +35,13 @@ found_behind offset f word span = if nat_le offset span.spot.offset
     }
 
 -- the first token that begins at this byte or behind it, or the last one of the text
-abbrev pub found_in : List ℕ → ℕ → FaultToken
-found_in text offset =
+abbrev pub found_at : List ℕ → ℕ → FaultToken
+found_at text offset =
     walked (λ f. not f.is_end) (found_behind offset) text found_at_start (text_tokens text)
 
 -- what is found of the token at this byte of a text
 pub record IsFoundAt (text : List ℕ) (offset : ℕ) (f : TextFault) : Type 0 where
-  pub found : f.found ≡ found_in text offset
+  pub found : f.found ≡ found_at text offset
   pub name : f.name.now ≡ part_of text f.found.name
   pub word : f.word.now ≡ part_of text f.found.word
   pub place : IsPlaceAt text f.found.word f.place

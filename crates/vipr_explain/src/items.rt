@@ -6,9 +6,9 @@ ghost use Rattle.vipr_spec.specs.Constraint.{Row};
 ghost use Rattle.vipr_spec.specs.Reading.{Rest, problem_read};
 ghost use Rattle.vipr_cert.specs.Items.{solution_of, derivation_of};
 ghost use Rattle.vipr_explain.specs.Found.{AreDerivationsRead, AreFoundItems, AreSolutionsRead};
-ghost use Rattle.vipr_explain.specs.Found.{Because, IsListedSolution, LacksListed, Missed, head_read};
-ghost use Rattle.vipr_explain.specs.Found.{items_up_to, numbered_of, solutions_read, text_rest};
-ghost use Rattle.vipr_explain.specs.Found.{wanted_among};
+ghost use Rattle.vipr_explain.specs.Found.{Because, IsListedSolution, LacksListed, Missed};
+ghost use Rattle.vipr_explain.specs.Found.{head_read, items_up_to, numbered_of, solutions_read};
+ghost use Rattle.vipr_explain.specs.Found.{text_rest, wanted_among};
 
 use crate::text::Reread;
 use std::alloc::{AllocError, Global};

@@ -101,8 +101,8 @@ fn find_mark(marks: &[ItemPlace], index: u32) -> Option<&ItemPlace>
     marks.iter().find(|mark| mark.index == index)
 }
 
-// Marks the place of a name, and that of the last reference in the item that was marked last, if the
-// item is of this kind and wanted.
+// Marks a name, and the last reference in the item that was marked last, if the item is of this
+// kind and wanted.
 fn mark(
     marks: &mut Vec<ItemPlace>,
     kind: ItemSort,

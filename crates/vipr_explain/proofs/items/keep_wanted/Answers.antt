@@ -3,7 +3,7 @@ use Rattle.std.proofs.lemmas.List.{length-map}
 use Rattle.vipr_spec.specs.Reading.{derivation_read, end_read}
 use Rattle.vipr_cert.specs.Items.{derivation_of}
 use Rattle.vipr_read.specs.Items.{HasEnded, Moves, NextItem}
-use Rattle.vipr_explain.specs.Found.{count_read, head_read}
+use Rattle.vipr_explain.specs.Found.{count_read}
 use Rattle.vipr_explain.proofs.Again.{keeps_all, keeps_more, none_behind}
 use Rattle.vipr_explain.proofs.Lacks.{err_is}
 use Rattle.vipr_explain.proofs.items.keep_wanted.Goals as goal

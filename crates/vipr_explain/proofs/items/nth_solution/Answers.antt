@@ -1,4 +1,4 @@
-use Rattle.std.proofs.Common.{◌≡◌, ◌+◌, ◌<◌, ◌∷◌, ◌++◌, [], Ok, arith, inr, length, subst}
+use Rattle.std.proofs.Common.{◌≡◌, ◌+◌, ◌∷◌, ◌++◌, [], Ok, arith, inr, length, subst}
 use Rattle.std.proofs.lemmas.List.{length-append}
 use Rattle.vipr_spec.specs.Reading.{problem_read, read_each, solution_read}
 use Rattle.vipr_scan.specs.Giving.{rest_of}
