@@ -1,10 +1,11 @@
 -- What is found of a derivation or a listed solution that is refused
-use Rattle.std.specs.Prelude.{◌≡◌, ◌↔◌, ℕ, ℤ, ⊤, List, [], ◌∷◌, IfSome, IsTrue, Option, Some}
+use Rattle.std.specs.Prelude.{◌≡◌, ◌↔◌, ℕ, ℤ, ⊤, List, [], ◌∷◌, IsTrue, Option, Some}
 use Rattle.std.specs.Prelude.{None, option_map, ◌≤◌, ◌⊎◌}
 use Rattle.std.specs.List.{All}
 use Rattle.vipr_spec.specs.Constraint.{Ints, IsSplit, two}
 use Rattle.vipr_spec.specs.Reading.{problem_read}
 use Rattle.vipr_linear.specs.Constraint.{condition_of, constraint_of}
+use Rattle.vipr_linear.specs.declared.constraint.Constraint.{Constraint}
 use Rattle.vipr_cert.specs.declared.items.Derivation.{Derivation}
 use Rattle.vipr_cert.specs.declared.items.Reason.{Reason}
 use Rattle.vipr_cert.specs.declared.items.Reason.TheVariants as reason
@@ -19,8 +20,6 @@ use Rattle.vipr_check.specs.declared.verdict.Verdict.TheVariants as verdict
 use Rattle.vipr_page.specs.Differences.{row_differences}
 use Rattle.vipr_page.specs.Repairs.{IsRounded}
 use Rattle.vipr_page.specs.RowFaults.{row_faults}
-use Rattle.vipr_page.specs.declared.differences.Difference.{Difference}
-use Rattle.vipr_page.specs.declared.faults.RowFault.{RowFault}
 use Rattle.vipr_explain.specs.Drops.{IsLastUse}
 use Rattle.vipr_explain.specs.Excerpts.{IsPlaceAt}
 use Rattle.vipr_explain.specs.Found.{AreFoundItems, AreItemsOf, HasFault, LacksListed, items_up_to}
@@ -35,6 +34,7 @@ use Rattle.vipr_explain.specs.declared.marks.ItemSort.TheVariants as kind
 use Rattle.vipr_explain.specs.declared.shown.PlacedItems.{PlacedItems}
 use Rattle.vipr_explain.specs.declared.step.RefusedStep.{RefusedStep}
 use Rattle.vipr_explain.specs.declared.step.StepFacts.{StepFacts}
+use Rattle.vipr_explain.specs.declared.step.StepFacts.TheVariants as fact
 use Rattle.vipr_explain.specs.declared.text.Span.{Span}
 
 -- the place of this part of a text, none if it wasn't found
@@ -43,28 +43,11 @@ IsPlaceFor text (Some span) (Some place) = IsPlaceAt text span place
 IsPlaceFor text None None = ⊤
 IsPlaceFor text _ _ = ⊥
 
--- where the rows of a computed and a stated constraint differ, if these are at fault
-abbrev pub differences_in : StepDetail → List Difference
-differences_in (what.Rows computed stated) = row_differences computed.row stated.row
-differences_in _ = []
-
--- what keeps a sum, or the row of two assumptions, from being whole
-abbrev pub faults_in : Ints → StepDetail → List RowFault
-faults_in integers (what.Sum sum) = row_faults integers sum.row
-faults_in integers (what.Pair first second) = row_faults integers first.row
-faults_in integers _ = []
-
 -- the right-hand side by rnd in place of lin, if that is enough
-abbrev pub IsRepair : Ints → Reason → StepDetail → Option ℤ → Type 0
-IsRepair integers (reason.Lin es) (what.Rows computed stated) k =
+abbrev pub IsRepair : Ints → Reason → Constraint → Constraint → Option ℤ → Type 0
+IsRepair integers (reason.Lin es) computed stated k =
     IsRounded integers (constraint_of computed) (constraint_of stated) k
-IsRepair integers _ _ k = k ≡ None
-
--- the two assumptions are a split by the second profile
-abbrev pub AreSplit : Ints → StepDetail → Type 0
-AreSplit integers (what.Pair first second) =
-    IsSplit two integers (condition_of first) (condition_of second)
-AreSplit integers _ = ⊥
+IsRepair integers _ computed stated k = k ≡ None
 
 -- the place of an item's name among these, and that of its last reference
 abbrev pub IsNamePlace : List ℕ → List ItemPlace → ℕ → Option KnownPlace → Type 0
@@ -81,16 +64,24 @@ pub record IsLastUseIn (text : List ℕ) (index user : ℕ) (l : LastUse) : Type
   pub last : IsLastUse (text_rest text) index user l.last
   pub place : IsLastPlace text (marks_in kind.Constraints (index ∷ []) text) index l.place
 
--- the place of the derivation of constraint k, which has this reason and names these items of a
--- text, and what is behind its fault
-pub record AreFacts (text : List ℕ) (known : PlacedItems) (reason : Reason) (k : ℕ)
-    (detail : StepDetail) (f : StepFacts) : Type 0 where
-  pub place : IsNamePlace text known.marks.items k f.place
-  pub differences : f.differences.items ≡ differences_in detail
-  pub faults : f.faults.items ≡ faults_in known.items.problem.integers detail
-  pub split : IsTrue f.is_split ↔ AreSplit known.items.problem.integers detail
-  pub rounded : IsRepair known.items.problem.integers reason detail f.rounded
-  pub dropped : IfSome f.dropped (λ l. IsLastUseIn text l.index k l)
+-- what is behind the fault of derivation k, which has this reason: where the rows of a computed and
+-- a stated constraint differ, what keeps a sum or the row of two assumptions from being whole,
+-- whether these are a split by the second profile, or the last use of a constraint
+abbrev pub AreFacts : List ℕ → Ints → Reason → ℕ → StepDetail → StepFacts → Type 0
+AreFacts text integers reason k (what.Rows computed stated) (fact.Rows differences mends side) =
+    (differences.items ≡ row_differences computed.row stated.row)
+    × IsRepair integers reason computed stated side
+AreFacts text integers reason k (what.Sum sum) (fact.Sum faults) =
+    faults.items ≡ row_faults integers sum.row
+AreFacts text integers reason k (what.Pair first second) (fact.Pair faults is_split) =
+    (faults.items ≡ row_faults integers first.row)
+    × (IsTrue is_split ↔ IsSplit two integers (condition_of first) (condition_of second))
+AreFacts text integers reason k (what.Index index) (fact.Dropped last) =
+    IsLastUseIn text index k last
+AreFacts text integers reason k (what.Index index) fact.Nothing = ⊤
+AreFacts text integers reason k (what.Entry entry) fact.Nothing = ⊤
+AreFacts text integers reason k what.Nothing fact.Nothing = ⊤
+AreFacts text integers reason k _ _ = ⊥
 
 pub record AreNamedBy (text : List ℕ) (own : Items) (k : ℕ) (detail : StepDetail)
     (found : PlacedItems × StepFacts) : Type 0 where
@@ -98,12 +89,13 @@ pub record AreNamedBy (text : List ℕ) (own : Items) (k : ℕ) (detail : StepDe
   pub own_is : kept_derivation own.derivations.items k ≡ Some step
   pub wanted : List ℕ
   pub known : AreItemsOf text wanted found.0
-  pub facts : AreFacts text found.0 step.reason k detail found.1
+  pub facts : AreFacts text found.0.items.problem.integers step.reason k detail found.1
 
 pub record IsRefusedStep (text : List ℕ) (k : ℕ) (detail : StepDetail) (s : RefusedStep)
     : Type 0 where
   pub own : AreFoundItems (k ∷ []) (text_rest text) s.own
   pub named : AreNamedBy text s.own k detail (s.known, s.facts)
+  pub place : IsNamePlace text s.known.marks.items k s.place
 
 -- ---- what a text lacks
 

@@ -14,15 +14,12 @@ ghost use Rattle.vipr_explain.specs.Found.{AreDerivationsRead, Missed, head_read
 use crate::excerpt::{KnownPlace, PlaceLabel};
 use crate::items::open_derivations;
 use crate::marks::{ItemSort, find_item};
-use crate::step::StepFault;
 use crate::text::{Reread, Subject};
 use std::alloc::Global;
-use std::fmt;
-use std::fmt::{Formatter, Write};
 use vipr_bytes::Bytes;
 use vipr_cert::{Derivation, Problem, Reason, References};
-use vipr_check::{StepDetail, cause};
 use vipr_frac::Frac;
+use vipr_page::Page;
 use vipr_read::Derivations;
 use vipr_scan::TextError;
 
@@ -35,23 +32,8 @@ pub(crate) struct LastUse<'a> {
 }
 
 impl<'a> LastUse<'a> {
-    /// Reads it, if that such a constraint is needed is the fault.
-    pub(crate) fn of(subject: Subject<'a>, fault: StepFault<'_>) -> Reread<Option<LastUse<'a>>>
-        ensures found { IfOk result (λ found. IfSome found
-            (λ l. IsLastUseIn subject.entry.text.now l.index fault.entry.index l)) }
-        ensures missing { IfErr result
-            (λ m. Missed m (head_read (text_rest subject.entry.text.now))) }
-    {
-        match fault.what {
-            StepDetail::Index(index) if fault.cause == cause::DROPPED => {
-                Ok(Some(LastUse::find(subject, *index, fault.index)?))
-            }
-            _ => Ok(None),
-        }
-    }
-
-    // Reads that of a constraint, which a derivation needs.
-    fn find(subject: Subject<'a>, index: u32, user: u32) -> Reread<LastUse<'a>>
+    /// Reads that of a constraint, which a derivation needs.
+    pub(crate) fn find(subject: Subject<'a>, index: u32, user: u32) -> Reread<LastUse<'a>>
         ensures found { IfOk result (IsLastUseIn subject.entry.text.now index user) }
         ensures missing { IfErr result
             (λ m. Missed m (head_read (text_rest subject.entry.text.now))) }
@@ -66,21 +48,18 @@ impl<'a> LastUse<'a> {
     }
 
     /// Writes the place of the last reference, and what that would have to be.
-    pub(crate) fn write<W: Write>(&self, f: &mut Formatter<W>, file: &[u8]) -> fmt::Result {
+    pub(crate) fn write(&self, page: &mut Page, file: &[u8]) {
         let index = self.index;
         write!(
-            f,
+            page,
             "  constraint {index} was dropped behind the last reference that it states\n"
-        )?;
-        match self.place {
-            Some(place) => {
-                place.write(f, file, PlaceLabel::LastReference(self.last))?;
-                write!(
-                    f,
-                    "  = help: or is a constraint other than [{index}] meant?\n"
-                )
-            }
-            None => Ok(()),
+        );
+        if let Some(place) = self.place {
+            place.write(page, file, PlaceLabel::LastReference(self.last));
+            write!(
+                page,
+                "  = help: or is a constraint other than [{index}] meant?\n"
+            );
         }
     }
 }

@@ -5,9 +5,7 @@ ghost use Rattle.vipr_page.specs.Page.{line_byte};
 
 use crate::text::{Span, Spot};
 use itoa::Buffer;
-use std::fmt;
-use std::fmt::{Formatter, Write};
-use vipr_page::StrangeBytes;
+use vipr_page::{Page, StrangeBytes};
 
 /// How many bytes of a line are shown before a place, and from it on.
 const MOST_BEFORE: u64 = 60;
@@ -46,45 +44,37 @@ impl<'a> KnownPlace<'a> {
     }
 
     /// Writes the place in a file of this name, with carets and a label below it.
-    pub(crate) fn write<W: Write>(
-        &self,
-        f: &mut Formatter<W>,
-        file: &[u8],
-        label: PlaceLabel,
-    ) -> fmt::Result {
+    pub(crate) fn write(&self, page: &mut Page, file: &[u8], label: PlaceLabel) {
         let line = self.spot.line;
         let column = self.spot.column;
         let margin = digits_of(line);
-        write_behind(f, margin, "--> ")?;
-        write!(f, "{}:{line}:{column}\n", StrangeBytes(file))?;
-        write_behind(f, margin, " |\n")?;
-        self.write_line(f)?;
-        write_behind(f, margin, " | ")?;
-        self.write_carets(f)?;
-        match label {
-            PlaceLabel::Words(words) => write!(f, " {words}\n")?,
-            PlaceLabel::LastReference(last) => write!(f, " write {last} or -1 here\n")?,
-        }
-        write_behind(f, margin, " |\n")
-    }
-
-    // Writes the part of the line.
-    fn write_line<W: Write>(&self, f: &mut Formatter<W>) -> fmt::Result {
-        let line = self.spot.line;
+        let file = StrangeBytes(file);
         let front = self.front();
         let before = StrangeBytes(self.before);
         let behind = StrangeBytes(self.behind);
         let end = if self.is_cut { ".." } else { "" };
-        write!(f, "{line} | {front}{before}{behind}{end}\n")
+        write_copies(page, " ", margin);
+        write!(page, "--> {file}:{line}:{column}\n");
+        write_copies(page, " ", margin);
+        write!(page, " |\n{line} | {front}{before}{behind}{end}\n");
+        write_copies(page, " ", margin);
+        page.put(" | ");
+        self.write_carets(page);
+        match label {
+            PlaceLabel::Words(words) => write!(page, " {words}\n"),
+            PlaceLabel::LastReference(last) => write!(page, " write {last} or -1 here\n"),
+        }
+        write_copies(page, " ", margin);
+        page.put(" |\n");
     }
 
     // Writes carets below the place.
-    fn write_carets<W: Write>(&self, f: &mut Formatter<W>) -> fmt::Result {
-        write_copies(f, " ", self.front().len())?;
-        write_copies(f, " ", width_of_all(self.before))?;
+    fn write_carets(&self, page: &mut Page) {
+        write_copies(page, " ", self.front().len());
+        write_copies(page, " ", width_of_all(self.before));
         let size = self.size.min(self.behind.len());
         let carets = width_of_all(&self.behind[..size]);
-        write_copies(f, "^", carets.max(1).min(MOST_CARETS))
+        write_copies(page, "^", carets.max(1).min(MOST_CARETS));
     }
 
     // What stands for the bytes of the line that are left out in front.
@@ -145,18 +135,11 @@ pub(crate) enum PlaceLabel {
     LastReference(u32),
 }
 
-// Writes a text behind so many spaces.
-fn write_behind<W: Write>(f: &mut Formatter<W>, margin: usize, text: &str) -> fmt::Result {
-    write_copies(f, " ", margin)?;
-    f.write_str(text)
-}
-
 // Writes a text so many times.
-fn write_copies<W: Write>(f: &mut Formatter<W>, text: &str, count: usize) -> fmt::Result {
+fn write_copies(page: &mut Page, text: &str, count: usize) {
     for _ in 0..count {
-        f.write_str(text)?;
+        page.put(text);
     }
-    Ok(())
 }
 
 // How many columns bytes take on a page.

@@ -6,16 +6,14 @@ ghost use Rattle.vipr_explain.specs.Claims.{IsGoalRead, IsUnproved};
 
 use crate::items::open_problem;
 use crate::near::{Join, Near, NearSearch, find_near};
-use crate::shown::{ListedConstraint, PlacedItems};
-use crate::solution::{BestValue, ListedValues};
+use crate::shown::PlacedItems;
+use crate::solution::ListedValues;
 use crate::text::{Reread, Subject};
-use std::fmt;
-use std::fmt::{Display, Formatter, Write};
 use vipr_cert::Claim;
 use vipr_check::Report;
 use vipr_frac::Frac;
 use vipr_linear::{Constraint, compares};
-use vipr_page::{Algebra, size_of};
+use vipr_page::{Algebra, Page, size_of};
 use vipr_rules::Target;
 
 /// How many assumptions of a constraint are shown.
@@ -43,6 +41,23 @@ impl ProvedClaim {
             }
         }
     }
+    /// Writes the page of a verified certificate: what proves each side of its claim.
+    pub(crate) fn write(&self, page: &mut Page, report: &Report) {
+        let claim = &report.claim;
+        write!(page, "proved: {claim}\n");
+        match (&self.goal, report.goal) {
+            (Some(known), Some(index)) => {
+                page.put("  goal   ");
+                known.write_constraint(page, index);
+                page.put("\n");
+            }
+            _ => page.put("  nothing has to be proved of the dual side\n"),
+        }
+        if !matches!(claim, Claim::Infeas) {
+            page.put("  primal ");
+            self.values.write_best(page);
+        }
+    }
 }
 
 // Reads the constraint that proves the dual side.
@@ -52,30 +67,6 @@ fn read_goal(subject: Subject<'_>, report: &Report) -> Reread<Option<PlacedItems
     match report.goal {
         Some(goal) => Ok(Some(PlacedItems::read(subject, [goal].as_slice())?)),
         None => Ok(None),
-    }
-}
-
-/// The page of a verified certificate: what proves each side of its claim.
-#[derive(Clone, Copy)]
-pub(crate) struct ProvedPage<'a> {
-    pub(crate) known: &'a ProvedClaim,
-    pub(crate) report: &'a Report,
-}
-
-impl Display for ProvedPage<'_> {
-    fn fmt<W: Write>(&self, f: &mut Formatter<W>) -> fmt::Result {
-        let claim = &self.report.claim;
-        write!(f, "proved: {claim}\n")?;
-        match (&self.known.goal, self.report.goal) {
-            (Some(known), Some(index)) => {
-                write!(f, "  goal   {}\n", ListedConstraint { known, index })?;
-            }
-            _ => f.write_str("  nothing has to be proved of the dual side\n")?,
-        }
-        if matches!(claim, Claim::Infeas) {
-            return Ok(());
-        }
-        write!(f, "  primal {}\n", BestValue(&self.known.values))
     }
 }
 
@@ -118,6 +109,34 @@ impl UnprovedClaim {
             Target::Nothing => None,
         }
     }
+
+    /// Writes the page of a claim that no constraint proves.
+    pub(crate) fn write(&self, page: &mut Page) {
+        page.put("error: no constraint proves the claim\n  ");
+        page.put("wanted: a constraint that rests on no assumption and ");
+        match self.bound() {
+            Some(constraint) => {
+                let problem = &self.items.items.problem;
+                let algebra = Algebra {
+                    problem,
+                    constraint,
+                };
+                write!(page, "says {algebra} or stronger\n");
+            }
+            None => page.put("is absurd, as 0 >= 1\n"),
+        }
+        page.put(if self.search.near.is_empty() {
+            "  no constraint is like it\n"
+        } else {
+            "  nearest:\n"
+        });
+        for near in &self.search.near {
+            write_near(page, self, near);
+        }
+        page.put("  = help: ");
+        write_advice(page, self);
+        page.put("\n");
+    }
 }
 
 // Whether a text lists a solution.
@@ -141,48 +160,15 @@ fn read_near(subject: Subject<'_>, near: &[Near]) -> Reread<PlacedItems>
     PlacedItems::read(subject, wanted.as_slice())
 }
 
-/// The page of a claim that no constraint proves.
-#[derive(Clone, Copy)]
-pub(crate) struct UnprovedPage<'a>(pub(crate) &'a UnprovedClaim);
-
-impl Display for UnprovedPage<'_> {
-    fn fmt<W: Write>(&self, f: &mut Formatter<W>) -> fmt::Result {
-        let known = self.0;
-        f.write_str("error: no constraint proves the claim\n  ")?;
-        f.write_str("wanted: a constraint that rests on no assumption and ")?;
-        match known.bound() {
-            Some(constraint) => {
-                let problem = &known.items.items.problem;
-                let algebra = Algebra {
-                    problem,
-                    constraint,
-                };
-                write!(f, "says {algebra} or stronger\n")?;
-            }
-            None => f.write_str("is absurd, as 0 >= 1\n")?,
-        }
-        if known.search.near.is_empty() {
-            f.write_str("  no constraint is like it\n")?;
-        } else {
-            f.write_str("  nearest:\n")?;
-        }
-        for near in &known.search.near {
-            write_near(f, known, near)?;
-        }
-        f.write_str("  = help: ")?;
-        write_advice(f, known)?;
-        f.write_str("\n")
-    }
-}
-
 // Writes what to do, by what was found.
-fn write_advice<W: Write>(f: &mut Formatter<W>, known: &UnprovedClaim) -> fmt::Result {
+fn write_advice(page: &mut Page, known: &UnprovedClaim) {
     let near = &known.search.near;
     if let Some(Join { i1, l1, i2, l2 }) = near.iter().find_map(|near| near.crossed) {
-        return write!(
-            f,
+        write!(
+            page,
             "[{i1}] rests on [{l2}] and [{i2}] on [{l1}]: exchange l1 and l2, `uns {i1} {l2} {i2} {l1}`"
         );
+        return;
     }
     let given = known.items.items.problem.cons().len();
     let is_strong = near.iter().any(|near| near.is_strong);
@@ -191,30 +177,30 @@ fn write_advice<W: Write>(f: &mut Formatter<W>, known: &UnprovedClaim) -> fmt::R
         (Some(_), Some(free)) if free.index as usize >= given || !is_strong => {
             let index = free.index;
             write!(
-                f,
+                page,
                 "behind RTP claim no more than [{index}] says: nothing stronger with this row is \
                  proved without an assumption; is a constant of the objective in the claim? The \
                  format has none"
-            )
+            );
         }
         (Some(bound), None) if near.is_empty() && is_true_at_0(bound) => {
             let sense = bound.sense;
             let side = bound.rhs;
             write!(
-                f,
+                page,
                 "add the derivation `NAME {sense} {side} 0 {{ lin 0 }} -1`, and 1 to the count \
                  behind DER"
-            )
+            );
         }
-        (None, _) if known.has_solution => f.write_str(
+        (None, _) if known.has_solution => page.put(
             "the text lists a solution that is feasible, so `infeas` is false: claim `range` and \
              two bounds",
         ),
-        _ if is_strong => f.write_str(
+        _ if is_strong => page.put(
             "join the branches by `uns i1 l1 i2 l2`, so that no assumption is left, or claim \
              behind RTP what is proved",
         ),
-        _ => f.write_str("derive it, or claim behind RTP what is proved"),
+        _ => page.put("derive it, or claim behind RTP what is proved"),
     }
 }
 
@@ -224,41 +210,39 @@ fn is_true_at_0(bound: &Constraint) -> bool {
 }
 
 // Writes a constraint that comes near, and why it isn't enough.
-fn write_near<W: Write>(f: &mut Formatter<W>, known: &UnprovedClaim, near: &Near) -> fmt::Result {
-    let item = ListedConstraint {
-        known: &known.items,
-        index: near.index,
-    };
-    write!(f, "    {item}")?;
+fn write_near(page: &mut Page, known: &UnprovedClaim, near: &Near) {
+    page.put("    ");
+    known.items.write_constraint(page, near.index);
     if known.bound().is_some() {
         if near.is_strong {
-            f.write_str(", strong enough")?;
+            page.put(", strong enough");
         } else if let Some(gap) = near.gap {
             let size = size_of(gap);
-            write!(f, ", too weak by {size}")?;
+            write!(page, ", too weak by {size}");
         }
     }
-    write_assumptions(f, near)
+    write_assumptions(page, near);
 }
 
 // Writes the first assumptions that a constraint rests on, and how many others there are.
-fn write_assumptions<W: Write>(f: &mut Formatter<W>, near: &Near) -> fmt::Result {
+fn write_assumptions(page: &mut Page, near: &Near) {
     if near.is_free {
-        return f.write_str(", rests on no assumption\n");
+        page.put(", rests on no assumption\n");
+        return;
     }
-    f.write_str(", rests on")?;
+    page.put(", rests on");
     let mut count: u32 = 0;
     for index in 0..=near.index {
         if near.assumptions.contains(index) {
             if count < MOST_ASSUMPTIONS {
-                write!(f, " [{index}]")?;
+                write!(page, " [{index}]");
             }
             count = count.saturating_add(1);
         }
     }
     if count > MOST_ASSUMPTIONS {
         let more = count - MOST_ASSUMPTIONS;
-        write!(f, " and {more} more")?;
+        write!(page, " and {more} more");
     }
-    f.write_str("\n")
+    page.put("\n");
 }

@@ -3,9 +3,8 @@
 
 use crate::token::Look;
 use crate::wanted::{Section, TextProgress, Wanted};
-use std::fmt;
-use std::fmt::{Formatter, Write};
 use vipr_check::cause;
+use vipr_page::Page;
 
 /// A token at fault: how far the text was read before it, the last name in that, and its bytes.
 #[derive(Clone, Copy)]
@@ -19,59 +18,60 @@ pub(crate) struct TokenFault<'a> {
 }
 
 /// Writes what is likely to be wrong, and what to write instead.
-pub(crate) fn write_hints<W: Write>(f: &mut Formatter<W>, fault: TokenFault<'_>) -> fmt::Result {
+pub(crate) fn write_hints(page: &mut Page, fault: TokenFault<'_>) {
     let is_begun = !is_first(fault.progress.section) && fault.cause != cause::TRAILING_TEXT;
     if fault.is_last && is_begun {
-        f.write_str("  = help: the text ends with this token: is the file cut?\n")?;
+        page.put("  = help: the text ends with this token: is the file cut?\n");
     }
-    f.write_str("  = help: ")?;
-    write_hint(f, fault)?;
-    f.write_str("\n")
+    page.put("  = help: ");
+    write_hint(page, fault);
+    page.put("\n");
 }
 
 // Writes the hint: those with a value in them come first.
-fn write_hint<W: Write>(f: &mut Formatter<W>, fault: TokenFault<'_>) -> fmt::Result {
+fn write_hint(page: &mut Page, fault: TokenFault<'_>) {
     let progress = fault.progress;
     let section = progress.section.keyword();
     let items = progress.items;
     let empty = empty_section(progress.section);
-    match (
-        fault.cause,
-        progress.wanted,
-        Look::of(fault.word),
-        counted_too_far(fault),
-    ) {
-        (_, _, _, Some((counted, name))) => write!(
-            f,
-            "`{name}` was read as a name: is the count behind `{counted}`, {items}, too large, \
-             or is something missing in front of `{name}`?"
-        ),
-        (cause::TRUNCATED, Wanted::Keyword, _, _) if !is_first(progress.section) => {
-            write!(f, "is the file cut? `{section}` is missing: write {empty}")
+    if let Some((counted, name)) = counted_too_far(fault) {
+        write!(
+            page,
+            "`{name}` was read as a name: is the count behind `{counted}`, {items}, too large, or \
+             is something missing in front of `{name}`?"
+        );
+        return;
+    }
+    match (fault.cause, progress.wanted, Look::of(fault.word)) {
+        (cause::TRUNCATED, Wanted::Keyword, _) if !is_first(progress.section) => {
+            write!(
+                page,
+                "is the file cut? `{section}` is missing: write {empty}"
+            );
         }
-        (cause::WRONG_KEYWORD, _, Look::SmallKeyword(found), _) => {
+        (cause::WRONG_KEYWORD, _, Look::SmallKeyword(found)) => {
             let found = found.keyword();
-            write!(f, "keywords are in capitals: write `{found}`")
+            write!(page, "keywords are in capitals: write `{found}`");
         }
-        (cause::WRONG_KEYWORD, _, Look::Keyword(found), _) => {
+        (cause::WRONG_KEYWORD, _, Look::Keyword(found)) => {
             let found = found.keyword();
             write!(
-                f,
+                page,
                 "`{section}` is missing or in another place: in front of `{found}` write {empty}"
-            )
+            );
         }
-        (cause::BAD_INDEX, Wanted::IntegerIndex, Look::Keyword(found), _) => {
+        (cause::BAD_INDEX, Wanted::IntegerIndex, Look::Keyword(found)) => {
             let found = found.keyword();
             write!(
-                f,
+                page,
                 "`{found}` begins the next section: is the count behind `INT`, {items}, too large?"
-            )
+            );
         }
-        (cause::BAD_INDEX, _, Look::Number, _) => write_index_hint(f, progress),
-        (cause::BAD_NUMBER, _, Look::Decimal(fraction), _) => {
-            write!(f, "decimals are not in the format: write {fraction}")
+        (cause::BAD_INDEX, _, Look::Number) => write_index_hint(page, progress),
+        (cause::BAD_NUMBER, _, Look::Decimal(fraction)) => {
+            write!(page, "decimals are not in the format: write {fraction}");
         }
-        (_, _, look, _) => f.write_str(hint(fault, look)),
+        (_, _, look) => page.put(hint(fault, look)),
     }
 }
 
@@ -87,18 +87,16 @@ fn counted_too_far(fault: TokenFault<'_>) -> Option<(&'static str, &'static str)
 }
 
 // An index of a variable: they count from 0.
-fn write_index_hint<W: Write>(f: &mut Formatter<W>, progress: TextProgress) -> fmt::Result {
-    let variables = progress.variables;
-    match variables.checked_sub(1) {
+fn write_index_hint(page: &mut Page, progress: TextProgress) {
+    match progress.variables.checked_sub(1) {
         Some(last) => write!(
-            f,
+            page,
             "indices count from 0: that of the last variable is {last}"
-        )?,
-        None => f.write_str("the text has no variables (VAR 0)")?,
+        ),
+        None => page.put("the text has no variables (VAR 0)"),
     }
-    match progress.section {
-        Section::Objective => f.write_str("; is this a constant? An objective has none"),
-        _ => Ok(()),
+    if let Section::Objective = progress.section {
+        page.put("; is this a constant? An objective has none");
     }
 }
 

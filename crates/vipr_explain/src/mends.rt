@@ -8,12 +8,10 @@ ghost use Rattle.vipr_page.specs.Repairs.{Mends};
 use crate::drops::has_entry;
 use crate::items::Items;
 use std::alloc::{AllocError, Global};
-use std::fmt;
-use std::fmt::{Formatter, Write};
 use vipr_cert::{Reason, References};
 use vipr_frac::Frac;
 use vipr_linear::{Constraint, Sense, compares};
-use vipr_page::{Difference, ShownName, VariableName, mended};
+use vipr_page::{Difference, Page, ShownName, VariableName, mended};
 
 /// For how many differences a multiplier is looked for.
 const MOST_MENDED: usize = 3;
@@ -42,31 +40,31 @@ pub(crate) struct StatedSum<'a> {
 
 impl Mend {
     /// Writes a line that offers it.
-    pub(crate) fn write<W: Write>(&self, f: &mut Formatter<W>, items: &Items) -> fmt::Result {
+    pub(crate) fn write(&self, page: &mut Page, items: &Items) {
         let index = self.index;
         let multiplier = self.multiplier;
-        f.write_str("  = help: ")?;
         match self.variable {
             Some(index) => {
                 let problem = &items.problem;
                 let name = VariableName { problem, index };
-                write!(f, "the coefficient of {name} is")?;
+                write!(page, "  = help: the coefficient of {name} is");
             }
-            None => f.write_str("all coefficients are")?,
+            None => page.put("  = help: all coefficients are"),
         }
-        write!(f, " as stated with the multiplier {multiplier}")?;
+        write!(page, " as stated with the multiplier {multiplier}");
         match self.present {
-            Some(present) => write!(f, " in place of {present} at [{index}]")?,
-            None => write!(f, " for one more entry, [{index}]")?,
+            Some(present) => write!(page, " in place of {present} at [{index}]"),
+            None => write!(page, " for one more entry, [{index}]"),
         }
         if let Some(name) = items.name(index) {
-            write!(f, " {}", ShownName(name))?;
+            let name = ShownName(name);
+            write!(page, " {name}");
         }
-        f.write_str(if self.is_enough {
+        page.put(if self.is_enough {
             ", and the derivation follows\n"
         } else {
             "\n"
-        })
+        });
     }
 }
 
@@ -199,7 +197,10 @@ fn multiplier_by(
         }
         multiplier = Some(found);
     }
-    multiplier.filter(|found| keeps_sense(constraint.sense, sense, *found))
+    match multiplier {
+        Some(found) if keeps_sense(constraint.sense, sense, found) => Some(found),
+        _ => None,
+    }
 }
 
 // Whether a multiple of a constraint has the sense of a sum.

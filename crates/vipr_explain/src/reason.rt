@@ -3,15 +3,13 @@ ghost use Rattle.std.specs.Prelude.{◌≤◌, IfOk, OnOk};
 ghost use Rattle.std.specs.List.{All};
 
 use crate::items::Items;
-use crate::shown::{ListedConstraint, PlacedItems};
+use crate::shown::PlacedItems;
 use crate::step::StepFault;
 use std::alloc::{AllocError, Global};
-use std::fmt;
-use std::fmt::{Formatter, Write};
 use vipr_cert::{Reason, References};
 use vipr_check::{StepDetail, cause};
 use vipr_frac::Frac;
-use vipr_page::VariableName;
+use vipr_page::{Page, VariableName};
 
 /// How many entries of a sum are shown.
 const MOST_ENTRIES: usize = 10;
@@ -89,7 +87,7 @@ pub(crate) struct ReasonLines<'a> {
 
 impl ReasonLines<'_> {
     /// Writes it.
-    pub(crate) fn write<W: Write>(&self, f: &mut Formatter<W>) -> fmt::Result {
+    pub(crate) fn write(&self, page: &mut Page) {
         let word = self.reason.word();
         match self.reason.references() {
             References::Nothing => {
@@ -97,95 +95,82 @@ impl ReasonLines<'_> {
                     Reason::Sol => ", the cutoff at the best listed solution",
                     _ => "",
                 };
-                write!(f, "  its reason   {word}{note}\n")
+                write!(page, "  its reason   {word}{note}\n");
             }
-            References::Entries(entries) => self.write_sum(f, word, entries),
+            References::Entries(entries) => self.write_sum(page, word, entries),
             References::Branches { i1, l1, i2, l2 } => {
-                self.write_branch(f, "  case 1 gives ", i1)?;
-                self.write_branch(f, "     assuming  ", l1)?;
-                self.write_branch(f, "  case 2 gives ", i2)?;
-                self.write_branch(f, "     assuming  ", l2)
+                self.write_branch(page, "  case 1 gives ", i1);
+                self.write_branch(page, "     assuming  ", l1);
+                self.write_branch(page, "  case 2 gives ", i2);
+                self.write_branch(page, "     assuming  ", l2);
             }
         }
     }
 
     // Writes the first entries of a sum, and the one at fault.
-    fn write_sum<W: Write>(
-        &self,
-        f: &mut Formatter<W>,
-        word: &str,
-        entries: &[(u32, Frac)],
-    ) -> fmt::Result {
+    fn write_sum(&self, page: &mut Page, word: &str, entries: &[(u32, Frac)]) {
         let count = entries.len();
-        write!(f, "  its reason   {word} of {count}:\n")?;
+        write!(page, "  its reason   {word} of {count}:\n");
         let at_fault = position_at_fault(self.fault, entries);
         for (position, entry) in entries.iter().take(MOST_ENTRIES).enumerate() {
-            self.write_entry(f, *entry, position, at_fault == Some(position))?;
+            self.write_entry(page, *entry, position, at_fault == Some(position));
         }
         if count > MOST_ENTRIES {
-            write!(f, "      .. ({count} entries)\n")?;
+            write!(page, "      .. ({count} entries)\n");
         }
-        match at_fault {
-            Some(position) if position >= MOST_ENTRIES && position < count => {
-                self.write_entry(f, entries[position], position, true)
+        if let Some(position) = at_fault {
+            if position >= MOST_ENTRIES && position < count {
+                self.write_entry(page, entries[position], position, true);
             }
-            _ => Ok(()),
         }
     }
 
     // Writes an entry of a sum.
-    fn write_entry<W: Write>(
-        &self,
-        f: &mut Formatter<W>,
-        entry: (u32, Frac),
-        position: usize,
-        is_at_fault: bool,
-    ) -> fmt::Result {
+    fn write_entry(&self, page: &mut Page, entry: (u32, Frac), position: usize, is_at_fault: bool) {
         let (index, multiplier) = entry;
-        write!(f, "      {multiplier} x ")?;
-        self.write_constraint(f, index)?;
+        write!(page, "      {multiplier} x ");
+        self.write_constraint(page, index);
         if is_at_fault {
-            write!(f, " <-- entry {position}")?;
+            write!(page, " <-- entry {position}");
         }
-        f.write_str("\n")
+        page.put("\n");
     }
 
     // Writes a constraint of a join.
-    fn write_branch<W: Write>(&self, f: &mut Formatter<W>, label: &str, index: u32) -> fmt::Result {
-        f.write_str(label)?;
-        self.write_constraint(f, index)?;
+    fn write_branch(&self, page: &mut Page, label: &str, index: u32) {
+        page.put(label);
+        self.write_constraint(page, index);
         if index < self.fault.index {
             let word = self.known.items.reason_word(index);
-            write!(f, " {word}")?;
+            write!(page, " {word}");
         }
-        f.write_str("\n")
+        page.put("\n");
     }
 
     // Writes a constraint that the derivation refers to.
-    fn write_constraint<W: Write>(&self, f: &mut Formatter<W>, index: u32) -> fmt::Result {
-        let known = self.known;
+    fn write_constraint(&self, page: &mut Page, index: u32) {
         if index < self.fault.index {
-            write!(f, "{}", ListedConstraint { known, index })
+            self.known.write_constraint(page, index);
         } else if index == self.fault.index {
-            write!(f, "[{index}], this derivation itself")
+            write!(page, "[{index}], this derivation itself");
         } else {
-            write!(f, "[{index}], which is not before this derivation")
+            write!(page, "[{index}], which is not before this derivation");
         }
     }
 }
 
 /// Writes which entries of a sum bring the coefficient of a variable.
-pub(crate) fn write_sources<W: Write>(
-    f: &mut Formatter<W>,
+pub(crate) fn write_sources(
+    page: &mut Page,
     items: &Items,
     entries: &[(u32, Frac)],
     variable: u32,
-) -> fmt::Result {
+) {
     let name = VariableName {
         problem: &items.problem,
         index: variable,
     };
-    write!(f, "      {name} comes from")?;
+    write!(page, "      {name} comes from");
     let mut count: usize = 0;
     let mut is_whole = true;
     for entry in entries {
@@ -200,16 +185,16 @@ pub(crate) fn write_sources<W: Write>(
         if !coefficient.is_zero() {
             count = count.saturating_add(1);
             if count <= MOST_SOURCES {
-                f.write_str(if count == 1 { " " } else { ", " })?;
-                write!(f, "{multiplier} x {coefficient} of [{index}]")?;
+                let front = if count == 1 { " " } else { ", " };
+                write!(page, "{front}{multiplier} x {coefficient} of [{index}]");
             }
         }
     }
-    f.write_str(if count > MOST_SOURCES || !is_whole {
+    page.put(if count > MOST_SOURCES || !is_whole {
         " ..\n"
     } else if count == 0 {
         " no entry\n"
     } else {
         "\n"
-    })
+    });
 }

@@ -5,9 +5,7 @@ ghost use Rattle.vipr_explain.specs.Found.{AreItemsOf, Missed, items_up_to, text
 use crate::items::{Items, read_items};
 use crate::marks::{ItemPlace, ItemSort, find_items, mark_of};
 use crate::text::{Reread, Subject};
-use std::fmt;
-use std::fmt::{Display, Formatter, Write};
-use vipr_page::{Algebra, ShownName};
+use vipr_page::{Algebra, Page, ShownName};
 
 /// The problem, some derivations, and the places of some constraints.
 #[derive(Drop)]
@@ -27,46 +25,31 @@ impl PlacedItems {
         let items = read_items(subject.alloc, subject.text, wanted)?;
         Ok(PlacedItems { items, marks })
     }
-}
-
-/// A constraint as it is listed: its index, its name, its algebra and its line.
-#[derive(Clone, Copy)]
-pub(crate) struct ListedConstraint<'a> {
-    pub(crate) known: &'a PlacedItems,
-    pub(crate) index: u32,
-}
-
-impl Display for ListedConstraint<'_> {
-    fn fmt<W: Write>(&self, f: &mut Formatter<W>) -> fmt::Result {
-        let index = self.index;
-        let items = &self.known.items;
-        write!(f, "[{index}] ")?;
+    /// Writes a constraint as it is listed: its index, its name, its algebra and its line.
+    pub(crate) fn write_constraint(&self, page: &mut Page, index: u32) {
+        let items = &self.items;
+        write!(page, "[{index}] ");
         if let Some(name) = items.name(index) {
-            write!(f, "{}", ShownName(name))?;
+            let name = ShownName(name);
+            write!(page, "{name}");
         }
-        f.write_str("  ")?;
+        page.put("  ");
         if let Some(constraint) = items.constraint(index) {
             let problem = &items.problem;
             let algebra = Algebra {
                 problem,
                 constraint,
             };
-            write!(f, "{algebra}")?;
+            write!(page, "{algebra}");
         }
-        let line = LinePart(mark_of(self.known.marks.as_slice(), index));
-        write!(f, "{line}")
+        write_line(page, mark_of(self.marks.as_slice(), index));
     }
 }
 
-/// The line of a constraint, if its place is known.
-#[derive(Clone, Copy)]
-pub(crate) struct LinePart(pub(crate) Option<ItemPlace>);
-
-impl Display for LinePart {
-    fn fmt<W: Write>(&self, f: &mut Formatter<W>) -> fmt::Result {
-        match self.0 {
-            Some(place) => write!(f, "  (line {})", place.name.spot.line),
-            None => Ok(()),
-        }
+/// Writes the line of a constraint, if its place is known.
+pub(crate) fn write_line(page: &mut Page, place: Option<ItemPlace>) {
+    if let Some(place) = place {
+        let line = place.name.spot.line;
+        write!(page, "  (line {line})");
     }
 }

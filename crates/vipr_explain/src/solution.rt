@@ -8,17 +8,15 @@ ghost use Rattle.vipr_explain.specs.Refused.{IsBroken, IsSolutionPlace};
 use crate::excerpt::{KnownPlace, PlaceLabel};
 use crate::items::{open_problem, read_solution};
 use crate::marks::{ItemPlace, ItemSort, find_item};
-use crate::shown::LinePart;
+use crate::shown::write_line;
 use crate::text::{Reread, Subject};
 use std::alloc::{AllocError, Global};
-use std::fmt;
-use std::fmt::{Display, Formatter, Write};
 use vipr_bytes::Source;
 use vipr_cert::{Claim, Name, Named, Problem};
 use vipr_check::Detail;
 use vipr_frac::Frac;
 use vipr_linear::{Constraint, Row, Sense, Solution, compares, value_at};
-use vipr_page::{Algebra, ShownName, VariableName, sign_of, size_of};
+use vipr_page::{Algebra, Page, ShownName, VariableName, sign_of, size_of};
 use vipr_read::Solutions;
 use vipr_rules::better;
 
@@ -66,12 +64,7 @@ impl<'a> RefusedSolution<'a> {
     }
 
     /// Writes the page of the solution, which is refused so.
-    pub(crate) fn write<W: Write>(
-        &self,
-        f: &mut Formatter<W>,
-        detail: &Detail,
-        file: &[u8],
-    ) -> fmt::Result {
+    pub(crate) fn write(&self, page: &mut Page, detail: &Detail, file: &[u8]) {
         let number = self.number;
         let name = ShownName(&self.solution.name);
         let fault = match detail {
@@ -79,29 +72,32 @@ impl<'a> RefusedSolution<'a> {
             Detail::Breaks { .. } => "breaks a constraint",
             _ => "has a value past 2^127 - 1",
         };
-        write!(f, "error: solution {number} `{name}` {fault}\n")?;
+        write!(page, "error: solution {number} `{name}` {fault}\n");
         if let Some(place) = self.place {
-            place.write(f, file, PlaceLabel::Words("this solution"))?;
+            place.write(page, file, PlaceLabel::Words("this solution"));
         }
         match detail {
             Detail::NotWhole {
                 variable,
                 value,
                 ..
-            } => write_not_whole(f, &self.problem, *variable, *value),
+            } => write_not_whole(page, &self.problem, *variable, *value),
             Detail::Breaks {
                 constraint,
                 left,
                 ..
-            } => write_broken(f, self, *constraint, *left),
+            } => write_broken(page, self, *constraint, *left),
             Detail::SolutionOverflow {
                 at: Some((index, _)),
                 ..
             } => write!(
-                f,
+                page,
                 "  it is past the limit in constraint {index}\n{PAST_LIMIT}"
             ),
-            _ => write!(f, "  it is past the limit in the objective\n{PAST_LIMIT}"),
+            _ => write!(
+                page,
+                "  it is past the limit in the objective\n{PAST_LIMIT}"
+            ),
         }
     }
 }
@@ -133,37 +129,24 @@ fn broken_place(subject: Subject<'_>, detail: &Detail) -> Result<Option<ItemPlac
     }
 }
 
-const PAST_LIMIT: &str =
+pub(crate) const PAST_LIMIT: &str =
     "  = help: docs/FORMAT.md says what can help when a number is past the limit\n";
 
 // Writes which variable isn't whole.
-fn write_not_whole<W: Write>(
-    f: &mut Formatter<W>,
-    problem: &Problem,
-    variable: u32,
-    value: Frac,
-) -> fmt::Result {
-    let name = VariableName {
-        problem,
-        index: variable,
-    };
+fn write_not_whole(page: &mut Page, problem: &Problem, index: u32, value: Frac) {
+    let name = VariableName { problem, index };
     write!(
-        f,
-        "  {name} (variable {variable}) is {value} here, and has to be whole (INT)\n  \
+        page,
+        "  {name} (variable {index}) is {value} here, and has to be whole (INT)\n  \
          = help: write whole values, or take the variable out of INT\n"
-    )
+    );
 }
 
 // Writes the constraint that is false, and the values at its variables.
-fn write_broken<W: Write>(
-    f: &mut Formatter<W>,
-    known: &RefusedSolution<'_>,
-    index: u32,
-    left: Frac,
-) -> fmt::Result {
+fn write_broken(page: &mut Page, known: &RefusedSolution<'_>, index: u32, left: Frac) {
     let problem = &known.problem;
     let Some(broken) = problem.cons().get(index as usize) else {
-        return Ok(());
+        return;
     };
     let name = ShownName(&broken.name);
     let constraint = &broken.item;
@@ -171,18 +154,22 @@ fn write_broken<W: Write>(
         problem,
         constraint,
     };
-    let line = LinePart(known.broken);
-    write!(f, "  constraint {index} `{name}`: {algebra}{line}\n  ")?;
-    write_values(f, problem, &constraint.row, &known.solution.item)?;
+    write!(page, "  constraint {index} `{name}`: {algebra}");
+    write_line(page, known.broken);
+    page.put("\n  ");
+    write_values(page, problem, &constraint.row, &known.solution.item);
     let sign = sign_of(constraint.sense);
     let right = constraint.rhs;
-    write!(f, "; the left side is {left}, which is not {sign} {right}")?;
+    write!(
+        page,
+        "; the left side is {left}, which is not {sign} {right}"
+    );
     let gap = gap_between(left, right);
     if let Some(gap) = gap {
-        write!(f, ", off by {gap}")?;
+        write!(page, ", off by {gap}");
     }
-    f.write_str("\n  = help: ")?;
-    f.write_str(solution_hint(known, constraint, gap))
+    let hint = solution_hint(known, constraint, gap);
+    write!(page, "\n  = help: {hint}\n");
 }
 
 // How far two numbers are apart, if that fits.
@@ -198,47 +185,40 @@ fn solution_hint(
     gap: Option<Frac>,
 ) -> &'static str {
     if constraint.row.is_empty() {
-        return "no solution meets this constraint: change it, or take it out\n";
+        return "no solution meets this constraint: change it, or take it out";
     }
     match (known.solution.name.as_bytes(), gap) {
         ([b'0'..=b'9', ..], _) if known.solution.item.0.is_empty() => {
-            "a number was read as the name: is the name missing?\n"
+            "a number was read as the name: is the name missing?"
         }
         (_, Some(gap)) if gap.denom() / 1000 >= gap.numer() => {
-            "is a value rounded, as one of floating point is? Write exact fractions\n"
+            "is a value rounded, as one of floating point is? Write exact fractions"
         }
-        _ => "change the solution, or leave it out; a variable that it doesn't list is 0\n",
+        _ => "change the solution, or leave it out; a variable that it doesn't list is 0",
     }
 }
 
 // Writes the values at the variables of a row. Many are cut, with the number of variables.
-fn write_values<W: Write>(
-    f: &mut Formatter<W>,
-    problem: &Problem,
-    row: &Row,
-    solution: &Solution,
-) -> fmt::Result {
+fn write_values(page: &mut Page, problem: &Problem, row: &Row, solution: &Solution) {
     let entries = row.entries();
     if entries.is_empty() {
-        return f.write_str("the row is empty");
+        page.put("the row is empty");
     }
-    f.write_str("at the solution: ")?;
-    let mut is_first = true;
-    for entry in entries.iter().take(MOST_VALUES) {
-        if !is_first {
-            f.write_str(", ")?;
-        }
-        is_first = false;
+    for (position, entry) in entries.iter().take(MOST_VALUES).enumerate() {
+        let front = if position == 0 {
+            "at the solution: "
+        } else {
+            ", "
+        };
         let index = entry.0;
         let name = VariableName { problem, index };
         let value = solution.0.coefficient(index);
-        write!(f, "{name} = {value}")?;
+        write!(page, "{front}{name} = {value}");
     }
     let count = entries.len();
     if count > MOST_VALUES {
-        write!(f, " .. ({count} variables)")?;
+        write!(page, " .. ({count} variables)");
     }
-    Ok(())
 }
 
 /// The objective at a listed solution.
@@ -247,6 +227,16 @@ struct KnownValue {
     number: u32,
     name: Name,
     value: Frac,
+}
+
+impl KnownValue {
+    // Writes it on a line.
+    fn write(&self, page: &mut Page) {
+        let number = self.number;
+        let name = ShownName(&self.name);
+        let value = self.value;
+        write!(page, "solution {number} `{name}`: objective {value}\n");
+    }
 }
 
 /// The objective at the first listed solutions, and its best value at all of them.
@@ -273,46 +263,53 @@ impl ListedValues {
         let added = known.add_all(subject.alloc, &problem, &mut solutions);
         drop(solutions);
         drop(problem);
-        match added {
-            Ok(()) => Ok(known),
-            Err(missing) => {
-                drop(known);
-                Err(missing)
-            }
-        }
+        added.and(Ok(known))
     }
 
     /// Writes the page of a primal bound that none of them attains.
-    pub(crate) fn write<W: Write>(&self, f: &mut Formatter<W>, bound: Frac) -> fmt::Result {
+    pub(crate) fn write(&self, page: &mut Page, bound: Frac) {
         write!(
-            f,
+            page,
             "error: no listed solution attains the primal bound\n  \
              wanted: a solution whose objective is {bound} or better\n"
-        )?;
+        );
         for known in &self.first {
-            let number = known.number;
-            let name = ShownName(&known.name);
-            let value = known.value;
-            write!(f, "  solution {number} `{name}`: objective {value}\n")?;
+            page.put("  ");
+            known.write(page);
         }
         if self.is_exchanged {
-            f.write_str(
+            page.put(
                 "  = help: the lower bound of the claim is above the upper one: are they exchanged?\n",
-            )?;
+            );
         }
         match self.best {
             Some(best) => write!(
-                f,
+                page,
                 "  = help: claim {best} as the primal bound behind RTP (the upper one for min, the \
                  lower one for max), or list a better solution; is a constant of the objective in \
                  the claim? The format has none\n"
             ),
-            None => f.write_str(
+            None => page.put(
                 "  the text lists no solution (SOL 0)\n  \
                  = help: list a solution behind SOL, or claim no primal bound behind RTP (`inf` \
                  for min, `-inf` for max)\n",
             ),
         }
+    }
+
+    /// Writes the best value, and the first solution that has it, if it is shown.
+    pub(crate) fn write_best(&self, page: &mut Page) {
+        let Some(best) = self.best else {
+            page.put("no solution is listed\n");
+            return;
+        };
+        for known in &self.first {
+            if known.value == best {
+                known.write(page);
+                return;
+            }
+        }
+        write!(page, "a listed solution: objective {best}\n");
     }
 
     // Adds the objective at all solutions that are to come.
@@ -359,25 +356,5 @@ impl ListedValues {
             drop(name);
         }
         Ok(())
-    }
-}
-
-/// The best value at the listed solutions, and the first solution that has it, if it is shown.
-#[derive(Clone, Copy)]
-pub(crate) struct BestValue<'a>(pub(crate) &'a ListedValues);
-
-impl Display for BestValue<'_> {
-    fn fmt<W: Write>(&self, f: &mut Formatter<W>) -> fmt::Result {
-        let Some(best) = self.0.best else {
-            return f.write_str("no solution is listed");
-        };
-        for known in &self.0.first {
-            if known.value == best {
-                let number = known.number;
-                let name = ShownName(&known.name);
-                return write!(f, "solution {number} `{name}`: objective {best}");
-            }
-        }
-        write!(f, "a listed solution: objective {best}")
     }
 }

@@ -1,9 +1,8 @@
 //! A derivation that is refused.
-ghost use Rattle.std.specs.Prelude.{◌≡◌, ◌↔◌, ◌∷◌, [], IfErr, IfOk, IsTrue};
+ghost use Rattle.std.specs.Prelude.{◌∷◌, [], IfErr, IfOk};
 ghost use Rattle.vipr_explain.specs.Found.{AreFoundItems, Because, Missed, head_read, text_rest};
-ghost use Rattle.vipr_explain.specs.Refused.{AreFacts, AreNamedBy, AreSplit, IsNamePlace};
-ghost use Rattle.vipr_explain.specs.Refused.{IsRefusedStep, IsRepair, LacksStep, differences_in};
-ghost use Rattle.vipr_explain.specs.Refused.{faults_in};
+ghost use Rattle.vipr_explain.specs.Refused.{AreFacts, AreNamedBy, IsNamePlace, IsRefusedStep};
+ghost use Rattle.vipr_explain.specs.Refused.{IsRepair, LacksStep};
 
 use crate::drops::LastUse;
 use crate::excerpt::{KnownPlace, PlaceLabel};
@@ -12,16 +11,14 @@ use crate::marks::mark_of;
 use crate::mends::{Mend, StatedSum, find_mends, is_turned};
 use crate::reason::{ReasonLines, step_indices, write_sources};
 use crate::shown::PlacedItems;
+use crate::solution::PAST_LIMIT;
 use crate::text::{Reread, Subject};
-use std::alloc::{AllocError, Global};
-use std::fmt;
-use std::fmt::{Formatter, Write};
 use vipr_cert::{Problem, Reason, References};
 use vipr_check::{StepDetail, cause};
-use vipr_linear::{Constraint, covers};
+use vipr_linear::{Constraint, Ints, covers};
 use vipr_page::{
-    Algebra, Difference, DifferenceLine, RowFault, RowFaults, ShownName, rounded, row_differences,
-    row_faults, sign_of,
+    Algebra, Difference, Page, RowFault, ShownName, rounded, row_differences, row_faults, sign_of,
+    write_differences, write_faults,
 };
 use vipr_rules::Profile;
 use vipr_scan::TextError;
@@ -37,30 +34,31 @@ pub(crate) struct StepFault<'a> {
     pub(crate) what: &'a StepDetail,
 }
 
-/// A derivation that is refused, with the constraints that it names, and what is behind the fault.
+/// A derivation that is refused, its place, the constraints that it names, and what is behind the
+/// fault.
 #[derive(Drop)]
 pub(crate) struct RefusedStep<'a> {
     /// The derivation alone, by its index.
     own: Items,
     known: PlacedItems,
+    place: Option<KnownPlace<'a>>,
     facts: StepFacts<'a>,
     profile: Profile,
 }
 
-/// The place of a derivation, and what is behind its fault.
+/// What is behind the fault of a derivation.
 #[derive(Drop)]
-struct StepFacts<'a> {
-    place: Option<KnownPlace<'a>>,
-    differences: Vec<Difference>,
-    /// The multipliers that mend some of them.
-    mends: Vec<Mend>,
-    /// What keeps its sum, or the row of its assumptions, from being whole.
-    faults: Vec<RowFault>,
-    /// The right-hand side by `rnd`, if that is enough.
-    rounded: Option<i128>,
-    /// Whether its two assumptions are a split by the second profile.
-    is_split: bool,
-    dropped: Option<LastUse<'a>>,
+enum StepFacts<'a> {
+    /// The multipliers that mend some of the differences, and the right-hand side by `rnd`, if that
+    /// is enough.
+    Rows(Vec<Difference>, Vec<Mend>, Option<i128>),
+    /// What keeps a sum from being whole.
+    Sum(Vec<RowFault>),
+    /// What keeps the row of two assumptions from being whole, and whether they are a split by the
+    /// second profile.
+    Pair(Vec<RowFault>, bool),
+    Dropped(LastUse<'a>),
+    Nothing,
 }
 
 impl<'a> RefusedStep<'a> {
@@ -75,6 +73,7 @@ impl<'a> RefusedStep<'a> {
         match read_named(subject, fault, &own) {
             Ok((known, facts)) => Ok(RefusedStep {
                 own,
+                place: step_place(subject, &known, fault.index),
                 known,
                 facts,
                 profile: subject.profile,
@@ -87,36 +86,29 @@ impl<'a> RefusedStep<'a> {
     }
 
     /// Writes its page.
-    pub(crate) fn write<W: Write>(
-        &self,
-        f: &mut Formatter<W>,
-        fault: StepFault<'_>,
-        file: &[u8],
-    ) -> fmt::Result {
+    pub(crate) fn write(&self, page: &mut Page, fault: StepFault<'_>, file: &[u8]) {
         let Some(own) = self.own.derivation(fault.index) else {
-            return Ok(());
+            return;
         };
         let index = fault.index;
         let name = ShownName(&own.name);
-        write!(f, "error: derivation {index} `{name}` ")?;
-        write_fault(f, fault)?;
-        f.write_str("\n")?;
-        if let Some(place) = self.facts.place {
-            place.write(f, file, PlaceLabel::Words("this derivation"))?;
+        write!(page, "error: derivation {index} `{name}` ");
+        write_fault(page, fault);
+        if let Some(place) = self.place {
+            place.write(page, file, PlaceLabel::Words("this derivation"));
         }
         let problem = &self.known.items.problem;
-        write_labelled(f, problem, "  it states    ", &own.constraint)?;
+        write_labelled(page, problem, "  it states    ", &own.constraint);
         let reason = ReasonLines {
             known: &self.known,
             fault,
             reason: &own.reason,
         };
-        reason.write(f)?;
-        write_detail(f, self, &own.reason, fault.what)?;
-        write_help(f, fault.cause, problem.cons().len())?;
-        match self.facts.dropped {
-            Some(dropped) => dropped.write(f, file),
-            None => Ok(()),
+        reason.write(page);
+        write_facts(page, self, &own.reason, fault.what);
+        write_help(page, fault.cause, problem.cons().len());
+        if let StepFacts::Dropped(dropped) = &self.facts {
+            dropped.write(page, file);
         }
     }
 }
@@ -155,36 +147,40 @@ impl<'a> StepFacts<'a> {
         known: &PlacedItems,
         reason: &Reason,
     ) -> Reread<StepFacts<'a>>
-        ensures found { IfOk result (AreFacts subject.entry.text.now known.now reason.now
-            fault.entry.index fault.entry.what.now) }
+        ensures found { IfOk result (AreFacts subject.entry.text.now
+            known.now.items.problem.integers reason.now fault.entry.index fault.entry.what.now) }
         ensures missing { IfErr result
             (λ m. Missed m (head_read (text_rest subject.entry.text.now))) }
     {
-        let problem = &known.items.problem;
-        let dropped = LastUse::of(subject, fault)?;
-        let differences = differences_of(subject.alloc, fault.what)?;
-        let faults = faults_of(subject.alloc, problem, fault.what)?;
-        let mends = match fault.what {
+        let alloc = subject.alloc;
+        let ints = known.items.problem.ints();
+        match fault.what {
             StepDetail::Rows { computed, stated } => {
+                let differences = row_differences(alloc, &computed.row, &stated.row)?;
                 let sum = StatedSum {
                     items: &known.items,
                     reason,
                     computed,
                     stated,
                 };
-                find_mends(subject.alloc, sum, differences.as_slice())?
+                let mends = find_mends(alloc, sum, differences.as_slice())?;
+                let side = rounding_of(ints, reason, computed, stated);
+                Ok(StepFacts::Rows(differences, mends, side))
             }
-            _ => Vec::new(subject.alloc),
-        };
-        Ok(StepFacts {
-            place: step_place(subject, known, fault.index),
-            differences,
-            mends,
-            faults,
-            rounded: rounding_of(problem, reason, fault.what),
-            is_split: are_split(problem, fault.what),
-            dropped,
-        })
+            StepDetail::Sum(sum) => {
+                let faults = row_faults(alloc, ints, &sum.row)?;
+                Ok(StepFacts::Sum(faults))
+            }
+            StepDetail::Pair(first, second) => {
+                let faults = row_faults(alloc, ints, &first.row)?;
+                Ok(StepFacts::Pair(faults, covers(first, second, ints)))
+            }
+            StepDetail::Index(index) if fault.cause == cause::DROPPED => {
+                let dropped = LastUse::find(subject, *index, fault.index)?;
+                Ok(StepFacts::Dropped(dropped))
+            }
+            _ => Ok(StepFacts::Nothing),
+        }
     }
 }
 
@@ -198,236 +194,172 @@ fn step_place<'a>(subject: Subject<'a>, known: &PlacedItems, index: u32) -> Opti
     }
 }
 
-// Where the rows of a computed and a stated constraint differ, if these are at fault.
-fn differences_of(alloc: Global, what: &StepDetail) -> Result<Vec<Difference>, AllocError>
-    ensures { IfOk result (λ found. found.items ≡ differences_in what.now) }
-{
-    match what {
-        StepDetail::Rows { computed, stated } => {
-            row_differences(alloc, &computed.row, &stated.row)
-        }
-        _ => Ok(Vec::new(alloc)),
-    }
-}
-
-// What keeps a sum from being rounded, or the row of two assumptions from being split.
-fn faults_of(
-    alloc: Global,
-    problem: &Problem,
-    what: &StepDetail,
-) -> Result<Vec<RowFault>, AllocError>
-    ensures { IfOk result (λ faults. faults.items ≡ faults_in problem.now.integers what.now) }
-{
-    match what {
-        StepDetail::Sum(sum) => row_faults(alloc, problem.ints(), &sum.row),
-        StepDetail::Pair(first, _) => row_faults(alloc, problem.ints(), &first.row),
-        _ => Ok(Vec::new(alloc)),
-    }
-}
-
 // The right-hand side that `rnd` gives in place of `lin`, if that is enough.
-fn rounding_of(problem: &Problem, reason: &Reason, what: &StepDetail) -> Option<i128>
-    ensures { IsRepair problem.now.integers reason.now what.now result }
+fn rounding_of(
+    ints: &Ints,
+    reason: &Reason,
+    computed: &Constraint,
+    stated: &Constraint,
+) -> Option<i128>
+    ensures { IsRepair ints.now reason.now computed.now stated.now result }
 {
-    match (reason, what) {
-        (Reason::Lin(_), StepDetail::Rows { computed, stated }) => {
-            rounded(problem.ints(), computed, stated)
-        }
+    match reason {
+        Reason::Lin(_) => rounded(ints, computed, stated),
         _ => None,
     }
 }
 
-// Whether two assumptions are a split by the second profile, if that is the fault.
-fn are_split(problem: &Problem, what: &StepDetail) -> bool
-    ensures { IsTrue result ↔ AreSplit problem.now.integers what.now }
-{
-    match what {
-        StepDetail::Pair(first, second) => covers(first, second, problem.ints()),
-        _ => false,
-    }
-}
-
 // Writes what is wrong, behind the derivation's name.
-fn write_fault<W: Write>(f: &mut Formatter<W>, fault: StepFault<'_>) -> fmt::Result {
+fn write_fault(page: &mut Page, fault: StepFault<'_>) {
     match fault.what {
-        StepDetail::Index(index) => match fault.cause {
-            cause::NOT_EARLIER => write!(f, "names constraint {index}, which is not earlier"),
-            cause::DROPPED => write!(f, "needs constraint {index}, which was dropped"),
-            _ => write!(
-                f,
-                "takes constraint {index} for an assumption, which it is not"
-            ),
-        },
-        StepDetail::Entry(entry) => match fault.cause {
-            cause::OVERFLOW => write!(f, "passes 2^127 - 1 at entry {entry} of its sum"),
-            _ => write!(f, "turns a sense around at entry {entry} of its sum"),
-        },
-        StepDetail::Sum(_) => f.write_str("has a sum that can't be rounded"),
-        StepDetail::Pair(_, _) => f.write_str("has two assumptions that are no split"),
-        StepDetail::Rows { .. } => f.write_str("does not follow from its reason"),
-        StepDetail::Nothing => f.write_str("needs a listed solution"),
+        StepDetail::Index(index) => {
+            let (before, behind) = match fault.cause {
+                cause::NOT_EARLIER => ("names", ", which is not earlier"),
+                cause::DROPPED => ("needs", ", which was dropped"),
+                _ => ("takes", " for an assumption, which it is not"),
+            };
+            write!(page, "{before} constraint {index}{behind}\n");
+        }
+        StepDetail::Entry(entry) => {
+            let before = match fault.cause {
+                cause::OVERFLOW => "passes 2^127 - 1",
+                _ => "turns a sense around",
+            };
+            write!(page, "{before} at entry {entry} of its sum\n");
+        }
+        StepDetail::Sum(_) => page.put("has a sum that can't be rounded\n"),
+        StepDetail::Pair(_, _) => page.put("has two assumptions that are no split\n"),
+        StepDetail::Rows { .. } => page.put("does not follow from its reason\n"),
+        StepDetail::Nothing => page.put("needs a listed solution\n"),
     }
 }
 
 // Writes what is behind the fault.
-fn write_detail<W: Write>(
-    f: &mut Formatter<W>,
-    refused: &RefusedStep<'_>,
-    reason: &Reason,
-    what: &StepDetail,
-) -> fmt::Result {
-    let facts = &refused.facts;
-    let problem = &refused.known.items.problem;
-    let faults = RowFaults {
-        problem,
-        faults: facts.faults.as_slice(),
-    };
-    match what {
-        StepDetail::Rows { computed, stated } => {
-            write_labelled(f, problem, "    computed   ", computed)?;
-            write_labelled(f, problem, "    stated     ", stated)?;
-            let difference = DifferenceLine {
-                problem,
-                computed,
-                stated,
-                differences: facts.differences.as_slice(),
-            };
-            write!(f, "{difference}")?;
+fn write_facts(page: &mut Page, refused: &RefusedStep<'_>, reason: &Reason, what: &StepDetail) {
+    let items = &refused.known.items;
+    let problem = &items.problem;
+    match (what, &refused.facts) {
+        (StepDetail::Rows { computed, stated }, StepFacts::Rows(differences, mends, side)) => {
+            write_labelled(page, problem, "    computed   ", computed);
+            write_labelled(page, problem, "    stated     ", stated);
+            write_differences(page, problem, computed, stated, differences);
             if let References::Entries(entries) = reason.references() {
-                for difference in facts.differences.iter().take(MOST_SOURCES) {
-                    write_sources(f, &refused.known.items, entries, difference.variable)?;
+                for difference in differences.iter().take(MOST_SOURCES) {
+                    write_sources(page, items, entries, difference.variable);
                 }
             }
-            if let Some(bound) = facts.rounded {
+            if let Some(side) = side {
                 write!(
-                    f,
-                    "  = help: `rnd` in place of `lin` rounds the right-hand side to {bound}\n"
-                )?;
+                    page,
+                    "  = help: `rnd` in place of `lin` rounds the right-hand side to {side}\n"
+                );
             }
-            write_repair(f, refused, reason, computed, stated)
-        }
-        StepDetail::Sum(sum) => {
-            write_labelled(f, problem, "    sum        ", sum)?;
-            write!(
-                f,
-                "{faults}  = help: `lin` in place of `rnd` proves this sum as it is; or choose \
-                 multipliers with which all coefficients are whole\n"
-            )
-        }
-        StepDetail::Pair(first, second) => {
-            write_labelled(f, problem, "    first      ", first)?;
-            write_labelled(f, problem, "    second     ", second)?;
-            if first.row.entries() != second.row.entries() {
-                f.write_str(
-                    "    they are about different rows: a split is of one row, at most k and \
-                     at least k + 1\n",
-                )
-            } else if facts.faults.is_empty() {
-                write_gap(f, refused, first, second)
+            if let Reason::Sol = reason {
+                page.put(NOTHING_BETTER);
+            } else if is_turned(computed, stated, differences) {
+                page.put(OTHER_SIGN);
             } else {
-                write!(f, "{faults}")
+                for mend in mends {
+                    mend.write(page, items);
+                }
+                page.put(STATE_OR_MEND);
             }
         }
-        _ => Ok(()),
+        (StepDetail::Sum(sum), StepFacts::Sum(faults)) => {
+            write_labelled(page, problem, "    sum        ", sum);
+            write_faults(page, problem, faults);
+            page.put(NO_ROUNDING);
+        }
+        (StepDetail::Pair(first, second), StepFacts::Pair(faults, is_split)) => {
+            write_labelled(page, problem, "    first      ", first);
+            write_labelled(page, problem, "    second     ", second);
+            if first.row.entries() != second.row.entries() {
+                page.put(OTHER_ROWS);
+            } else if faults.is_empty() {
+                write_gap(page, refused.profile, *is_split, first, second);
+            } else {
+                write_faults(page, problem, faults);
+            }
+        }
+        _ => {}
     }
 }
 
-// Writes how a derivation that states another constraint than the computed one can be repaired.
-fn write_repair<W: Write>(
-    f: &mut Formatter<W>,
-    refused: &RefusedStep<'_>,
-    reason: &Reason,
-    computed: &Constraint,
-    stated: &Constraint,
-) -> fmt::Result {
-    let facts = &refused.facts;
-    if matches!(reason, Reason::Sol) {
-        return f.write_str(
-            "  = help: state what was computed: `sol` gives the best listed value, and nothing \
-             better\n",
-        );
-    }
-    if is_turned(computed, stated, facts.differences.as_slice()) {
-        return f.write_str(
-            "  = help: each coefficient has the other sign: multiply all multipliers by -1\n",
-        );
-    }
-    for mend in &facts.mends {
-        mend.write(f, &refused.known.items)?;
-    }
-    f.write_str(
-        "  = help: state what was computed, or mend the reason: a multiplier, which constraints it \
-         names, or a number in one of them\n",
-    )
-}
+const NOTHING_BETTER: &str =
+    "  = help: state what was computed: `sol` gives the best listed value, \
+    and nothing better\n";
+
+const OTHER_SIGN: &str =
+    "  = help: each coefficient has the other sign: multiply all multipliers by -1\n";
+
+const STATE_OR_MEND: &str = "  = help: state what was computed, or mend the reason: a multiplier, \
+    which constraints it names, or a number in one of them\n";
+
+const NO_ROUNDING: &str = "  = help: `lin` in place of `rnd` proves this sum as it is; or choose \
+    multipliers with which all coefficients are whole\n";
+
+const OTHER_ROWS: &str =
+    "    they are about different rows: a split is of one row, at most k and at least k + 1\n";
 
 // Writes which two sides are a split, and which these are.
-fn write_gap<W: Write>(
-    f: &mut Formatter<W>,
-    refused: &RefusedStep<'_>,
+fn write_gap(
+    page: &mut Page,
+    profile: Profile,
+    is_split: bool,
     first: &Constraint,
     second: &Constraint,
-) -> fmt::Result {
-    f.write_str(match refused.profile {
-        Profile::One => "    a split is <= k and >= k + 1 with k whole",
-        Profile::Two => {
-            "    a split is <= k and >= h, where h rounded up is at most k rounded down plus 1"
-        }
-    })?;
+) {
+    let split = match profile {
+        Profile::One => "<= k and >= k + 1 with k whole",
+        Profile::Two => "<= k and >= h, where h rounded up is at most k rounded down plus 1",
+    };
     let (first_sign, second_sign) = (sign_of(first.sense), sign_of(second.sense));
     let (first_side, second_side) = (first.rhs, second.rhs);
     write!(
-        f,
-        "; here it is {first_sign} {first_side} and {second_sign} {second_side}\n"
-    )?;
-    if refused.profile == Profile::One && refused.facts.is_split {
-        f.write_str("  = help: `--profile 2` accepts these\n")?;
+        page,
+        "    a split is {split}; here it is {first_sign} {first_side} and {second_sign} {second_side}\n"
+    );
+    if profile == Profile::One && is_split {
+        page.put("  = help: `--profile 2` accepts these\n");
     }
-    Ok(())
 }
 
 // Writes a constraint behind a label.
-fn write_labelled<W: Write>(
-    f: &mut Formatter<W>,
-    problem: &Problem,
-    label: &str,
-    constraint: &Constraint,
-) -> fmt::Result {
+fn write_labelled(page: &mut Page, problem: &Problem, label: &str, constraint: &Constraint) {
     let algebra = Algebra {
         problem,
         constraint,
     };
-    write!(f, "{label}{algebra}\n")
+    write!(page, "{label}{algebra}\n");
 }
 
 // Writes what is likely to be wrong; the problem has so many constraints.
-fn write_help<W: Write>(f: &mut Formatter<W>, cause: u8, count: usize) -> fmt::Result {
-    match cause {
-        cause::NOT_EARLIER if count == 0 => f.write_str(
-            "  = help: constraints count from 0: the problem has none, so the first derivation \
-             is 0; is this line in front of one that it needs?\n",
-        ),
-        cause::NOT_EARLIER => write!(
-            f,
+fn write_help(page: &mut Page, cause: u8, count: usize) {
+    if cause == cause::NOT_EARLIER && count > 0 {
+        write!(
+            page,
             "  = help: constraints count from 0: the problem has {count}, so the first derivation \
              is {count}; is this line in front of one that it needs?\n"
-        ),
-        cause::NOT_ASSUMPTION => f.write_str(
-            "  = help: `uns i1 l1 i2 l2` names what follows first, and behind it its assumption, \
-             a derivation by `asm`\n",
-        ),
-        cause::MIXED_SIGNS => f.write_str(
+        );
+        return;
+    }
+    page.put(match cause {
+        cause::NOT_EARLIER => {
+            "  = help: constraints count from 0: the problem has none, so the first derivation is \
+             0; is this line in front of one that it needs?\n"
+        }
+        cause::NOT_ASSUMPTION => {
+            "  = help: `uns i1 l1 i2 l2` names what follows first, and behind it its assumption, a \
+             derivation by `asm`\n"
+        }
+        cause::MIXED_SIGNS => {
             "  = help: a sum that is >= takes positive multiples of >= and negative ones of <=, \
              and a sum that is <= the other way round: change the sign of this multiplier; or is \
              another constraint meant (bounds are counted, too), or is the sense of this one \
-             wrong?\n",
-        ),
-        cause::OVERFLOW => f.write_str(
-            "  = help: docs/FORMAT.md says what can help when a number is past the limit\n",
-        ),
-        cause::NO_SOLUTION => {
-            f.write_str("  = help: list a solution in SOL, or give another reason\n")
+             wrong?\n"
         }
-        _ => Ok(()),
-    }
+        cause::OVERFLOW => PAST_LIMIT,
+        cause::NO_SOLUTION => "  = help: list a solution in SOL, or give another reason\n",
+        _ => "",
+    });
 }

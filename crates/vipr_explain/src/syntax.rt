@@ -9,10 +9,8 @@ use crate::text::{Span, Spot};
 use crate::wanted::{Section, TextProgress, Wanted};
 use crate::wanted_words::write_wanted;
 use crate::words::{TextWord, Words};
-use std::fmt;
-use std::fmt::{Formatter, Write};
 use vipr_check::cause;
-use vipr_page::CutBytes;
+use vipr_page::{CutBytes, Page};
 
 /// How far a text was read before the token at a fault, and that token.
 #[derive(Clone, Copy)]
@@ -93,32 +91,28 @@ impl<'a> TextFault<'a> {
     }
 
     /// Writes the page of a fault of this cause.
-    pub(crate) fn write<W: Write>(
-        &self,
-        f: &mut Formatter<W>,
-        cause: u8,
-        file: &[u8],
-    ) -> fmt::Result {
+    pub(crate) fn write(&self, page: &mut Page, cause: u8, file: &[u8]) {
         let found = &self.found;
-        write!(f, "error: {}", cause::name(cause))?;
+        let fault = cause::name(cause);
+        write!(page, "error: {fault}: ");
         if cause == cause::TRAILING_TEXT {
-            f.write_str(": text behind the last derivation")?;
+            page.put("text behind the last derivation");
         } else {
-            f.write_str(if found.is_end {
-                ": the text ends where this is wanted: "
+            page.put(if found.is_end {
+                "the text ends where this is wanted: "
             } else {
-                ": wanted "
-            })?;
-            write_wanted(f, &found.progress)?;
+                "wanted "
+            });
+            write_wanted(page, &found.progress);
         }
-        f.write_str("\n")?;
+        page.put("\n");
         let label = PlaceLabel::Words(if found.is_end {
             "the text ends behind this"
         } else {
             "this was found"
         });
-        self.place.write(f, file, label)?;
-        write_context(f, &found.progress, self.name)?;
+        self.place.write(page, file, label);
+        write_context(page, &found.progress, self.name);
         let fault = TokenFault {
             cause,
             progress: found.progress,
@@ -126,7 +120,7 @@ impl<'a> TextFault<'a> {
             word: self.word,
             is_last: self.is_last && !found.is_end,
         };
-        write_hints(f, fault)
+        write_hints(page, fault);
     }
 }
 
@@ -138,24 +132,21 @@ fn ends_text(span: Span, text: &[u8]) -> bool
 }
 
 // Writes which part of which item was being read.
-fn write_context<W: Write>(
-    f: &mut Formatter<W>,
-    progress: &TextProgress,
-    name: &[u8],
-) -> fmt::Result {
-    write!(f, "  = reading: {}", progress.section.keyword())?;
+fn write_context(page: &mut Page, progress: &TextProgress, name: &[u8]) {
+    let keyword = progress.section.keyword();
+    write!(page, "  = reading: {keyword}");
     if has_items(progress.section) && !is_in_head(progress.wanted) {
         let item = progress.section.item();
         let index = progress.index();
         let number = progress.item.saturating_add(1);
         let items = progress.items;
-        write!(f, ", {item} {index} ({number} of {items})")?;
+        write!(page, ", {item} {index} ({number} of {items})");
         if has_name(progress) {
             let name = CutBytes(name);
-            write!(f, ", `{name}`")?;
+            write!(page, ", `{name}`");
         }
     }
-    f.write_str("\n")
+    page.put("\n");
 }
 
 // Whether a section has items.

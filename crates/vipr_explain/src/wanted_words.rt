@@ -1,53 +1,50 @@
 //! What a certificate's text has to have at a token, in words.
 
 use crate::wanted::{Section, TextProgress, Wanted};
-use std::fmt;
-use std::fmt::{Formatter, Write};
+use vipr_page::Page;
 
 /// Writes what is wanted.
-pub(crate) fn write_wanted<W: Write>(f: &mut Formatter<W>, progress: &TextProgress) -> fmt::Result {
+pub(crate) fn write_wanted(page: &mut Page, progress: &TextProgress) {
     let part = progress.part;
     let parts = progress.parts;
     match progress.wanted {
-        Wanted::Keyword => write!(f, "the keyword `{}`", progress.section.keyword()),
+        Wanted::Keyword => {
+            let keyword = progress.section.keyword();
+            write!(page, "the keyword `{keyword}`");
+        }
         Wanted::Count => {
             let item = progress.section.item();
-            write!(f, "the number of {item}s, a count in digits")
+            write!(page, "the number of {item}s, a count in digits");
         }
         Wanted::Name => {
             let item = progress.section.item();
             let index = progress.index();
-            write!(f, "the name of {item} {index}")
+            write!(page, "the name of {item} {index}");
         }
-        Wanted::IntegerIndex | Wanted::RowIndex => write_wanted_index(f, progress.variables),
+        Wanted::IntegerIndex | Wanted::RowIndex => match progress.variables.checked_sub(1) {
+            Some(last) => write!(page, "the index of a variable, 0 to {last}"),
+            None => page.put("the index of a variable, but there is none"),
+        },
         Wanted::RowCoefficient => {
             let number = match progress.section {
                 Section::Solutions => "value",
                 _ => "coefficient",
             };
             write!(
-                f,
+                page,
                 "the {number} of pair {part} (of {parts}, counted from 0)"
-            )
+            );
         }
         Wanted::EntryIndex => write!(
-            f,
+            page,
             "the constraint's index of entry {part} (of {parts}, counted from 0)"
         ),
         Wanted::EntryMultiplier => write!(
-            f,
+            page,
             "the multiplier of entry {part} (of {parts}, counted from 0)"
         ),
-        Wanted::Branch => f.write_str(branch_part(part)),
-        other => f.write_str(plain(other)),
-    }
-}
-
-// An index of a variable.
-fn write_wanted_index<W: Write>(f: &mut Formatter<W>, variables: u32) -> fmt::Result {
-    match variables.checked_sub(1) {
-        Some(last) => write!(f, "the index of a variable, 0 to {last}"),
-        None => f.write_str("the index of a variable, but there is none"),
+        Wanted::Branch => page.put(branch_part(part)),
+        other => page.put(plain(other)),
     }
 }
 

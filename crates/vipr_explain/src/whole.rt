@@ -3,14 +3,12 @@ ghost use Rattle.std.specs.Prelude.{IfErr};
 ghost use Rattle.vipr_explain.specs.Found.{Because};
 ghost use Rattle.vipr_explain.specs.Refused.{LacksItem, LacksPlace, LacksStep};
 
-use crate::goal::{ProvedClaim, ProvedPage, UnprovedClaim, UnprovedPage};
+use crate::goal::{ProvedClaim, UnprovedClaim};
 use crate::solution::{ListedValues, RefusedSolution};
 use crate::step::{RefusedStep, StepFault};
 use crate::syntax::TextFault;
 use crate::text::{Reread, Subject};
 use std::alloc::Global;
-use std::fmt;
-use std::fmt::{Display, Formatter, Write};
 use vipr_check::{Detail, Place, Refusal, Report, Verdict};
 use vipr_frac::Frac;
 use vipr_page::Page;
@@ -44,27 +42,27 @@ pub fn page_for(
     verdict: &Verdict,
     detail: &Detail,
 ) -> Option<Page> {
-    let Some(bytes) = text else {
-        return Page::of(alloc, &NO_WHOLE_TEXT);
+    let Some(text) = text else {
+        return Page::begun(alloc, NO_WHOLE_TEXT).end();
     };
     let subject = Subject {
         alloc,
         profile,
-        text: bytes,
+        text,
     };
     match find(subject, verdict, detail) {
         Ok(known) => {
-            let page = LongExplanation {
-                known: &known,
-                verdict,
-                file,
-            };
-            let page = Page::of(alloc, &page);
+            let mut page = Page::begun(alloc, "\n");
+            write_findings(&mut page, &known, file);
             drop(known);
-            page
+            if let Verdict::Refused(refusal) = verdict {
+                let cause = refusal.cause;
+                write!(page, "  = see: docs/FORMAT.md, cause {cause}\n");
+            }
+            page.end()
         }
         Err(TextError::Memory) => None,
-        Err(_) => Page::of(alloc, &ANOTHER_TEXT),
+        Err(_) => Page::begun(alloc, ANOTHER_TEXT).end(),
     }
 }
 
@@ -132,43 +130,15 @@ fn find_end<'a>(subject: Subject<'a>, detail: &Detail) -> Reread<Findings<'a>> {
     }
 }
 
-/// The whole page.
-#[derive(Clone, Copy)]
-struct LongExplanation<'a> {
-    known: &'a Findings<'a>,
-    verdict: &'a Verdict,
-    file: &'a [u8],
-}
-
-impl Display for LongExplanation<'_> {
-    fn fmt<W: Write>(&self, f: &mut Formatter<W>) -> fmt::Result {
-        f.write_str("\n")?;
-        self.write_findings(f)?;
-        match self.verdict {
-            Verdict::Verified(_) => Ok(()),
-            Verdict::Refused(refusal) => {
-                let cause = refusal.cause;
-                write!(f, "  = see: docs/FORMAT.md, cause {cause}\n")
-            }
-        }
-    }
-}
-
-impl LongExplanation<'_> {
-    // Writes what was found.
-    fn write_findings<W: Write>(&self, f: &mut Formatter<W>) -> fmt::Result {
-        let file = self.file;
-        match self.known {
-            Findings::Proved(known, report) => {
-                let report = *report;
-                write!(f, "{}", ProvedPage { known, report })
-            }
-            Findings::Text(fault, cause) => fault.write(f, *cause, file),
-            Findings::Solution(known, detail) => known.write(f, *detail, file),
-            Findings::Step(step, fault) => step.write(f, *fault, file),
-            Findings::NoProof(known) => write!(f, "{}", UnprovedPage(known)),
-            Findings::NoPrimal(known, bound) => known.write(f, *bound),
-            Findings::Nothing => Ok(()),
-        }
+// Writes what was found.
+fn write_findings(page: &mut Page, known: &Findings<'_>, file: &[u8]) {
+    match known {
+        Findings::Proved(known, report) => known.write(page, *report),
+        Findings::Text(fault, cause) => fault.write(page, *cause, file),
+        Findings::Solution(known, detail) => known.write(page, *detail, file),
+        Findings::Step(step, fault) => step.write(page, *fault, file),
+        Findings::NoProof(known) => known.write(page),
+        Findings::NoPrimal(known, bound) => known.write(page, *bound),
+        Findings::Nothing => {}
     }
 }

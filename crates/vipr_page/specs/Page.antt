@@ -3,6 +3,7 @@ use Rattle.std.specs.Prelude.{◌==◌, ◌&&◌, ◌||◌, ◌≡◌, ◌≢◌
 use Rattle.std.specs.Prelude.{true, false, List, [], ◌∷◌, ◌++◌, codes}
 use Rattle.std.specs.Prelude.{length, slice_index, nat_le, if◌then◌else◌, flat_map}
 use Rattle.std.specs.Fmt.{digit_glyph}
+use Rattle.std.specs.List.{All}
 
 -- the line feed, and the printable bytes of ASCII: no other control, and no byte of a longer
 -- character
@@ -12,7 +13,7 @@ is_shown b = (b == 10) || (nat_le 32 b && nat_le b 126)
 -- at most 65,536 bytes, each of which is shown
 pub record IsPage (text : List ℕ) : Type 0 where
   pub short : length text ≤ 65536
-  pub shown : (k : ℕ) → k < length text → is_shown (slice_index text k) ≡ true
+  pub shown : All (λ b. is_shown b ≡ true) text
 
 -- `\xNN`
 abbrev pub escape : ℕ → List ℕ

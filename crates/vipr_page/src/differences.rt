@@ -1,12 +1,10 @@
 //! How what a reason gives differs from what a derivation states.
-ghost use Rattle.std.specs.Prelude.{◌≡◌, ◌++◌, IfOk, OnOk, flat_map};
-ghost use Rattle.std.specs.FinMap.{entries};
-ghost use Rattle.vipr_page.specs.Differences.{added_at, changed_at, row_differences};
+ghost use Rattle.std.specs.Prelude.{◌≡◌, ◌++◌, IfOk, OnOk};
+ghost use Rattle.vipr_page.specs.Differences.{difference_at, one_if, row_differences};
 
 use crate::algebra::{VariableName, sign_of, size_of};
+use crate::page::Page;
 use std::alloc::{AllocError, Global};
-use std::fmt;
-use std::fmt::{Display, Formatter, Write};
 use vipr_cert::Problem;
 use vipr_frac::Frac;
 use vipr_linear::{Constraint, Row, Sense};
@@ -32,146 +30,95 @@ pub fn row_differences(
     ensures { IfOk result (λ found. found.items ≡ row_differences computed.now stated.now) }
 {
     let mut found = Vec::new(alloc);
-    add_changes(&mut found, computed, stated)?;
-    add_additions(&mut found, computed, stated)?;
+    for entry in computed.entries() {
+        let here = difference_at(computed, stated, entry.0);
+        push_if(&mut found, here.computed != here.stated, here)?;
+    }
+    for other in stated.entries() {
+        let here = difference_at(computed, stated, other.0);
+        push_if(&mut found, here.computed == Frac::zero(), here)?;
+    }
     Ok(found)
 }
 
-// Adds the entries of the computed row that are others in the stated one.
-fn add_changes(found: &mut Vec<Difference>, computed: &Row, stated: &Row) -> Result<(), AllocError>
-    ensures { OnOk result (found.new.items
-        ≡ found.old.items ++ flat_map (changed_at stated.now) (entries computed.now)) }
+// The coefficients of a variable in two rows.
+fn difference_at(computed: &Row, stated: &Row, variable: u32) -> Difference
+    ensures { result ≡ difference_at computed.now stated.now variable }
 {
-    for entry in computed.entries() {
-        add_change(found, *entry, stated)?;
+    Difference {
+        variable,
+        computed: computed.coefficient(variable),
+        stated: stated.coefficient(variable),
     }
-    Ok(())
 }
 
-// The same of one entry.
-fn add_change(
-    found: &mut Vec<Difference>,
-    entry: (u32, Frac),
-    stated: &Row,
+/// Adds an item, if it is wanted.
+pub(crate) fn push_if<T: Copy>(
+    items: &mut Vec<T>,
+    is_wanted: bool,
+    item: T,
 ) -> Result<(), AllocError>
-    ensures { OnOk result (found.new.items ≡ found.old.items ++ changed_at stated.now entry) }
+    ensures { OnOk result (items.new.items ≡ items.old.items ++ one_if is_wanted item) }
 {
-    let (variable, computed) = entry;
-    let stated = stated.coefficient(variable);
-    if computed != stated {
-        found.push(Difference {
-            variable,
-            computed,
-            stated,
-        })?;
+    if is_wanted {
+        items.push(item)?;
     }
     Ok(())
 }
 
-// Adds the entries of the stated row whose variables the computed one hasn't.
-fn add_additions(
-    found: &mut Vec<Difference>,
-    computed: &Row,
-    stated: &Row,
-) -> Result<(), AllocError>
-    ensures { OnOk result (found.new.items
-        ≡ found.old.items ++ flat_map (added_at computed.now) (entries stated.now)) }
-{
-    for entry in stated.entries() {
-        add_addition(found, computed, *entry)?;
+/// Writes how two constraints differ, whose rows differ so.
+pub fn write_differences(
+    page: &mut Page,
+    problem: &Problem,
+    computed: &Constraint,
+    stated: &Constraint,
+    differences: &[Difference],
+) {
+    page.put("    difference ");
+    if differences.is_empty() {
+        write_sides(page, computed, stated);
+    } else {
+        write_rows(page, problem, differences);
     }
-    Ok(())
-}
-
-// The same of one entry.
-fn add_addition(
-    found: &mut Vec<Difference>,
-    computed: &Row,
-    entry: (u32, Frac),
-) -> Result<(), AllocError>
-    ensures { OnOk result (found.new.items ≡ found.old.items ++ added_at computed.now entry) }
-{
-    let (variable, stated) = entry;
-    if computed.coefficient(variable) == Frac::zero() {
-        found.push(Difference {
-            variable,
-            computed: Frac::zero(),
-            stated,
-        })?;
-    }
-    Ok(())
-}
-
-/// How two constraints differ, whose rows differ so.
-#[derive(Clone, Copy)]
-pub struct DifferenceLine<'a> {
-    pub problem: &'a Problem,
-    pub computed: &'a Constraint,
-    pub stated: &'a Constraint,
-    pub differences: &'a [Difference],
-}
-
-impl Display for DifferenceLine<'_> {
-    fn fmt<W: Write>(&self, f: &mut Formatter<W>) -> fmt::Result {
-        f.write_str("    difference ")?;
-        if self.differences.is_empty() {
-            write_sides(f, self.computed, self.stated)?;
-        } else {
-            write_rows(f, self.problem, self.differences)?;
-        }
-        f.write_str("\n")
-    }
+    page.put("\n");
 }
 
 // Writes how the senses differ, or else the right-hand sides.
-fn write_sides<W: Write>(
-    f: &mut Formatter<W>,
-    computed: &Constraint,
-    stated: &Constraint,
-) -> fmt::Result {
+fn write_sides(page: &mut Page, computed: &Constraint, stated: &Constraint) {
     if computed.sense != Sense::E && computed.sense != stated.sense {
         let computed = sign_of(computed.sense);
         let stated = sign_of(stated.sense);
-        return write!(f, "the sense: computed {computed}, stated {stated}");
+        write!(page, "the sense: computed {computed}, stated {stated}");
+        return;
     }
     let computed = computed.rhs;
     let stated = stated.rhs;
-    write!(f, "right-hand side: computed {computed}, stated {stated}")?;
-    match computed.add(stated.neg()) {
-        Ok(gap) => {
-            let size = size_of(gap);
-            write!(f, ", which says {size} too much")
-        }
-        Err(_) => Ok(()),
+    write!(
+        page,
+        "right-hand side: computed {computed}, stated {stated}"
+    );
+    if let Ok(gap) = computed.add(stated.neg()) {
+        let size = size_of(gap);
+        write!(page, ", which says {size} too much");
     }
 }
 
 // Writes how two rows differ.
-fn write_rows<W: Write>(
-    f: &mut Formatter<W>,
-    problem: &Problem,
-    differences: &[Difference],
-) -> fmt::Result {
-    f.write_str("the rows are not the same:")?;
-    let mut is_first = true;
-    for difference in differences.iter().take(MOST_SHOWN) {
-        let front = if is_first { " " } else { "; " };
-        is_first = false;
-        let name = VariableName {
-            problem,
-            index: difference.variable,
-        };
+fn write_rows(page: &mut Page, problem: &Problem, differences: &[Difference]) {
+    page.put("the rows are not the same:");
+    for (position, difference) in differences.iter().take(MOST_SHOWN).enumerate() {
+        let front = if position == 0 { " " } else { "; " };
+        let index = difference.variable;
+        let name = VariableName { problem, index };
         let computed = difference.computed;
         let stated = difference.stated;
-        let index = difference.variable;
         write!(
-            f,
+            page,
             "{front}{name} (variable {index}): computed {computed}, stated {stated}"
-        )?;
+        );
     }
     let count = differences.len();
     if count > MOST_SHOWN {
-        write!(f, " .. ({count} differences)")?;
+        write!(page, " .. ({count} differences)");
     }
-    Ok(())
 }

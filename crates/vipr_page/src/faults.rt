@@ -1,12 +1,11 @@
 //! What keeps a row from being whole.
 ghost use Rattle.std.specs.Prelude.{◌≡◌, ◌++◌, IfOk, OnOk};
-ghost use Rattle.vipr_page.specs.RowFaults.{coefficient_fault, faults_at, row_faults};
-ghost use Rattle.vipr_page.specs.RowFaults.{variable_fault};
+ghost use Rattle.vipr_page.specs.RowFaults.{faults_at, row_faults};
 
 use crate::algebra::VariableName;
+use crate::differences::push_if;
+use crate::page::Page;
 use std::alloc::{AllocError, Global};
-use std::fmt;
-use std::fmt::{Display, Formatter, Write};
 use vipr_cert::Problem;
 use vipr_frac::Frac;
 use vipr_linear::{Ints, Row};
@@ -40,65 +39,37 @@ fn add_faults(faults: &mut Vec<RowFault>, ints: &Ints, entry: (u32, Frac)) -> Re
     ensures { OnOk result (faults.new.items ≡ faults.old.items ++ faults_at ints.now entry) }
 {
     let (variable, coefficient) = entry;
-    add_coefficient(faults, variable, coefficient)?;
-    add_variable(faults, ints, variable)
+    push_if(
+        faults,
+        !coefficient.is_whole(),
+        RowFault::NotWhole(variable, coefficient),
+    )?;
+    push_if(
+        faults,
+        !ints.contains(variable),
+        RowFault::NotInteger(variable),
+    )
 }
 
-// Adds a coefficient that isn't whole.
-fn add_coefficient(
-    faults: &mut Vec<RowFault>,
-    variable: u32,
-    coefficient: Frac,
-) -> Result<(), AllocError>
-    ensures { OnOk result (faults.new.items
-        ≡ faults.old.items ++ coefficient_fault variable coefficient) }
-{
-    if !coefficient.is_whole() {
-        faults.push(RowFault::NotWhole(variable, coefficient))?;
-    }
-    Ok(())
-}
-
-// Adds a variable that isn't an integer one.
-fn add_variable(faults: &mut Vec<RowFault>, ints: &Ints, variable: u32) -> Result<(), AllocError>
-    ensures { OnOk result (faults.new.items
-        ≡ faults.old.items ++ variable_fault ints.now variable) }
-{
-    if !ints.contains(variable) {
-        faults.push(RowFault::NotInteger(variable))?;
-    }
-    Ok(())
-}
-
-/// The first faults of a row, a line each.
-#[derive(Clone, Copy)]
-pub struct RowFaults<'a> {
-    pub problem: &'a Problem,
-    pub faults: &'a [RowFault],
-}
-
-impl Display for RowFaults<'_> {
-    fn fmt<W: Write>(&self, f: &mut Formatter<W>) -> fmt::Result {
-        let problem = self.problem;
-        for fault in self.faults.iter().take(MOST_SHOWN) {
-            match *fault {
-                RowFault::NotWhole(index, coefficient) => {
-                    let name = VariableName { problem, index };
-                    write!(
-                        f,
-                        "    the coefficient {coefficient} of {name} is not whole\n"
-                    )?;
-                }
-                RowFault::NotInteger(index) => {
-                    let name = VariableName { problem, index };
-                    write!(
-                        f,
-                        "    {name} is not an integer variable: list its index {index} in INT and \
-                         make the count there 1 larger, or leave it out here\n"
-                    )?;
-                }
+/// Writes the first faults of a row, a line each.
+pub fn write_faults(page: &mut Page, problem: &Problem, faults: &[RowFault]) {
+    for fault in faults.iter().take(MOST_SHOWN) {
+        match *fault {
+            RowFault::NotWhole(index, coefficient) => {
+                let name = VariableName { problem, index };
+                write!(
+                    page,
+                    "    the coefficient {coefficient} of {name} is not whole\n"
+                );
+            }
+            RowFault::NotInteger(index) => {
+                let name = VariableName { problem, index };
+                write!(
+                    page,
+                    "    {name} is not an integer variable: list its index {index} in INT and make \
+                     the count there 1 larger, or leave it out here\n"
+                );
             }
         }
-        Ok(())
     }
 }

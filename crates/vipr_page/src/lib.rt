@@ -12,8 +12,8 @@ mod stranger;
 
 pub use algebra::{Algebra, CutBytes, ShownName, VariableName, sign_of, size_of};
 pub use decimal::fraction_of;
-pub use differences::{Difference, DifferenceLine, row_differences};
-pub use faults::{RowFault, RowFaults, row_faults};
-pub use page::{MOST_BYTES, Page, with_page};
+pub use differences::{Difference, row_differences, write_differences};
+pub use faults::{RowFault, row_faults, write_faults};
+pub use page::{Page, with_page};
 pub use repair::{mended, rounded};
 pub use stranger::StrangeBytes;

@@ -1,48 +1,65 @@
 //! A page of text for a terminal.
-ghost use Rattle.std.specs.Prelude.{◌≡◌, ◌+◌, ◌<◌, ◌≤◌, ◌++◌, ◌∷◌, ℕ, List, [], None, false, true};
-ghost use Rattle.std.specs.Prelude.{length, IfSome};
+ghost use Rattle.std.specs.Prelude.{◌≡◌, ◌<◌, ◌++◌, ℕ, List, [], None, false, true, IfSome};
+ghost use Rattle.std.specs.Prelude.{OnOk};
 ghost use Rattle.std.specs.Fmt.{digit_glyph};
 ghost use Rattle.vipr_page.specs.Page.{IsCutPage, IsLinesEnd, IsPage, is_shown};
 
-use std::alloc::Global;
+use std::alloc::{AllocError, Global};
 use std::fmt;
 use std::fmt::{Display, Write};
 
 /// The most bytes of a page.
-pub const MOST_BYTES: usize = 65536;
+const MOST_BYTES: usize = 65536;
 
 // The last line of a page that is cut.
 const CUT: &str = ".. the rest is left out\n";
 
+// How many bytes a page has before it.
+const MOST_BEFORE: usize = MOST_BYTES - CUT.len();
+
 /// A text of at most 65,536 bytes, which are printable ASCII and line feeds. Every other byte that
 /// is written to it is escaped as `\xNN`, so no control and no direction mark reaches a terminal.
-/// A longer text is cut at the end of a line, and the last line says so.
+/// What a longer text has more is left out, and a growth that is refused is remembered.
 #[derive(Drop)]
 pub struct Page {
     bytes: Vec<u8>,
-    /// How many bytes it may have.
-    most: usize,
     is_cut: bool,
     has_failed: bool,
     ghost is_page: { IsPage bytes.items },
-    ghost bounded: { most ≤ 65536 },
-    ghost room: { length bytes.items ≤ most },
 }
 
 impl Page {
-    /// A page of a value, `None` if a growth is refused.
-    pub fn of<D: Display>(alloc: Global, value: &D) -> Option<Page>
-        ensures { IfSome result (λ page. page.is_cut ≡ true → IsCutPage page.bytes.items) }
-    {
+    /// A page that begins with a text.
+    pub fn begun(alloc: Global, text: &str) -> Page {
         let mut page = Page {
             bytes: Vec::new(alloc),
-            most: MOST_BYTES - CUT.len(),
             is_cut: false,
             has_failed: false,
         };
-        let _ = write!(page, "{value}");
-        if page.is_cut {
-            page.end_cut();
+        page.put(text);
+        page
+    }
+
+    /// Writes a text.
+    pub fn put(&mut self, text: &str) {
+        for byte in text.as_bytes() {
+            self.put_shown(*byte);
+        }
+    }
+
+    /// Writes what `write!` is given.
+    pub fn write_fmt<D: Display + Drop>(&mut self, values: D) {
+        let _ = self.write(values);
+    }
+
+    /// The page whole. A longer text is cut at the end of a line, and the last line says so. There
+    /// is none if a growth was refused.
+    pub fn end(self) -> Option<Page>
+        ensures { IfSome result (λ page. page.is_cut ≡ true → IsCutPage page.bytes.items) }
+    {
+        let mut page = self;
+        if page.is_cut && page.end_cut().is_err() {
+            page.has_failed = true;
         }
         if page.has_failed { None } else { Some(page) }
     }
@@ -56,27 +73,18 @@ impl Page {
     }
 
     // Takes away what is behind the last line feed, and says that it is cut.
-    fn end_cut(&mut self)
-        ensures { self.new.has_failed ≡ false → IsCutPage self.new.bytes.items }
+    fn end_cut(&mut self) -> Result<(), AllocError>
+        ensures { OnOk result (IsCutPage self.new.bytes.items) }
     {
         let bytes = self.bytes.as_slice();
-        let room = bytes.len().min(MOST_BYTES - CUT.len());
-        let end = lines_end(&bytes[..room]);
+        let end = lines_end(&bytes[..bytes.len().min(MOST_BEFORE)]);
         self.bytes.truncate(end);
-        self.most = MOST_BYTES;
-        for byte in CUT.as_bytes() {
-            self.put_shown(*byte);
-        }
+        self.bytes.extend_from_slice(CUT.as_bytes())?;
+        Ok(())
     }
 
     // Writes a byte of a text.
-    fn put_shown(&mut self, byte: u8)
-        ensures most { self.new.most ≡ self.old.most }
-        ensures failed { self.new.has_failed ≡ false → self.old.has_failed ≡ false }
-        ensures shown { is_shown byte ≡ true → length self.old.bytes.items < self.old.most
-            → self.new.has_failed ≡ false
-            → self.new.bytes.items ≡ self.old.bytes.items ++ byte ∷ [] }
-    {
+    fn put_shown(&mut self, byte: u8) {
         match byte {
             10 | 32..=126 => self.put_byte(byte),
             other => {
@@ -91,12 +99,8 @@ impl Page {
     // Writes a byte, if there is room for it.
     fn put_byte(&mut self, byte: u8)
         requires { is_shown byte ≡ true }
-        ensures most { self.new.most ≡ self.old.most }
-        ensures failed { self.new.has_failed ≡ false → self.old.has_failed ≡ false }
-        ensures shown { length self.old.bytes.items < self.old.most → self.new.has_failed ≡ false
-            → self.new.bytes.items ≡ self.old.bytes.items ++ byte ∷ [] }
     {
-        if self.bytes.len() >= self.most {
+        if self.bytes.len() >= MOST_BEFORE {
             self.is_cut = true;
         } else if self.bytes.push(byte).is_err() {
             self.has_failed = true;
@@ -118,9 +122,7 @@ pub fn with_page(mut text: Vec<u8>, page: Option<Page>) -> Vec<u8>
 
 impl fmt::Write for Page {
     fn write_str(&mut self, text: &str) -> fmt::Result {
-        for byte in text.as_bytes() {
-            self.put_shown(*byte);
-        }
+        self.put(text);
         if self.is_cut || self.has_failed {
             Err(fmt::Error)
         } else {
