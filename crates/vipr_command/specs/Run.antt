@@ -27,8 +27,6 @@ use Rattle.vipr_check.specs.declared.verdict.Fault.TheVariants.{Read as CheckRea
 use Rattle.vipr_check.specs.declared.verdict.Verdict.{Verdict}
 use Rattle.vipr_tighten.specs.Tightens.{KindOfText, any_kind, kind_read}
 use Rattle.vipr_write.specs.declared.form.Form.{Form}
-use Rattle.vipr_write.specs.declared.write.WriteError.{WriteError}
-use Rattle.vipr_write.specs.declared.write.WriteError.TheVariants as write
 use Rattle.vipr_page.specs.Page.{IsPage}
 use Rattle.vipr_command.specs.Args.{asked_by, command_word, words_fault}
 use Rattle.vipr_command.specs.Text.{answer_lines, sum_read, verdict_lines}
@@ -57,10 +55,6 @@ exit_status (Err f) = 3
 abbrev pub fault_for : CheckFault → CommandFault
 fault_for CheckRead = Read
 fault_for CheckMemory = Memory
-
-abbrev pub write_fault_for : WriteError → CommandFault
-write_fault_for (write.Write n) = Write n
-write_fault_for (write.Memory n) = Memory
 
 -- what is printed for a fault, without the line feed
 abbrev pub fault_text : CommandFault → List ℕ

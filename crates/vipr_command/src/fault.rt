@@ -1,13 +1,12 @@
 //! Why a command is cut short.
 ghost use Rattle.std.specs.Prelude.{◌≡◌};
-ghost use Rattle.vipr_command.specs.Run.{fault_for, write_fault_for};
+ghost use Rattle.vipr_command.specs.Run.{fault_for};
 ghost use Rattle.vipr_command.specs.Tighten.{tighten_fault_for};
 ghost use Rattle.vipr_command.specs.declared.fault.CommandFault.TheVariants.{Memory, Write};
 
 use std::alloc::AllocError;
 use vipr_bytes::WriteFailed;
 use vipr_tighten::TightenFault;
-use vipr_write::WriteError;
 
 /// Why a command was cut short.
 #[derive(Clone, Copy, Debug, PartialEq, Eq)]
@@ -33,17 +32,6 @@ impl From<vipr_check::Fault> for CommandFault {
         match fault {
             vipr_check::Fault::Read => CommandFault::Read,
             vipr_check::Fault::Memory => CommandFault::Memory,
-        }
-    }
-}
-
-impl From<WriteError> for CommandFault {
-    ghost from_gives = { λ error answer. answer ≡ write_fault_for error };
-
-    fn from(error: WriteError) -> CommandFault {
-        match error {
-            WriteError::Write { taken } => CommandFault::Write { taken },
-            WriteError::Memory { taken: _ } => CommandFault::Memory,
         }
     }
 }
