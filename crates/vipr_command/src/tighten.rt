@@ -71,20 +71,12 @@ fn settle<D: Folder>(
     ensures { Settles tightened (D.holds files.old) (D.holds files.new) name.now
         (D.Out.output place) result }
 {
-    match tightened {
-        Ok(Outcome::Refused(refusal)) => {
-            files.abandon(place);
-            Ok(Outcome::Refused(refusal))
-        }
-        Ok(outcome) => {
-            files.keep(name, place)?;
-            Ok(outcome)
-        }
-        Err(fault) => {
-            files.abandon(place);
-            Err(CommandFault::from(fault))
-        }
+    if let Ok(Outcome::Tightened { .. }) = tightened {
+        files.keep(name, place)?;
+    } else {
+        files.abandon(place);
     }
+    Ok(tightened?)
 }
 
 /// Writes a certificate's text in a form, tightened by the rules of a profile, to a sink. Reports
