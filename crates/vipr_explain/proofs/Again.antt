@@ -1,23 +1,20 @@
 -- Items of a text that are read again, one after the other
 use Rattle.std.proofs.Common.{◌≡◌, ℕ, zero, suc, ◌+◌, ◌-◌, ◌<◌, inl, inr, ◌⊎◌, List, [], ◌∷◌, ◌++◌, map}
 use Rattle.std.proofs.Common.{length, filter, Option, Some, None, Result, Ok, Err, refl, sym, ap}
-use Rattle.std.proofs.Common.{◌∙◌, append_assoc, arith, OnOk}
+use Rattle.std.proofs.Common.{◌∙◌, arith, OnOk}
 use Rattle.std.specs.Option.{IsSome}
 use Rattle.std.specs.List.{enumerate_from}
-use Rattle.std.proofs.lemmas.List.{append-nil, length-append}
+use Rattle.std.proofs.lemmas.List.{length-append}
 use Rattle.std.proofs.lemmas.List.Elements.{filter-append}
-use Rattle.vipr_spec.specs.Input.{Input}
 use Rattle.vipr_spec.specs.Certificate.{Named, Problem, Derivation}
 use Rattle.vipr_spec.specs.Constraint.{Row}
 use Rattle.vipr_spec.specs.Reading.{Rest, Read, ◌>>=◌, read_each, derivation_read}
 use Rattle.vipr_spec.specs.Reading.{derivations_read, problem_read}
-use Rattle.vipr_bytes.specs.Known.{IfKnown}
 use Rattle.vipr_scan.specs.Faults.{Fails}
 use Rattle.vipr_scan.specs.Giving.{rest_of}
 use Rattle.vipr_scan.specs.declared.error.TextError.{TextError}
 use Rattle.vipr_read.specs.Items.{Items as Reader, Knows, Remembers, Moves, HasNone, HasPassed}
 use Rattle.vipr_read.specs.Items.{NextItem}
-use Rattle.vipr_read.specs.Parsing.{with_front}
 use Rattle.vipr_explain.specs.Found.{AreDerivationsRead, AreFoundItems, AreSolutionsRead, HasFault}
 use Rattle.vipr_explain.specs.Found.{IsReaderBehind, Missed, count_read, head_read, is_wanted, numbered_of}
 use Rattle.vipr_explain.specs.Found.{solutions_read, wanted_among}
@@ -63,49 +60,9 @@ module _ {A : Type 0} (item : Rest → Read A) where
       let one : m ≡ suc (m - 1) = omega arith in
       rw one (rw (each_more (m - 1) r) (fault_first (read_each item (m - 1) r) _ (fault_of_more n more (m - 1) r s xs (omega arith) so_far next)))
 
-  -- ---- by what is left: of total, which began with the front
-
-  regroup : (front : List A) (x : A) (read : Read (List A)) → with_front front (read >>= λ xs. Ok (x ∷ xs.0, xs.1)) ≡ with_front (front ++ x ∷ []) read
-  regroup front x (Ok xs) = ap (λ (ys : List A). Ok (ys, xs.1)) (simp append_assoc)
-  regroup front x (Err e) = refl
-
-  -- one more was read
-  pub one_more : (front : List A) (n k : ℕ) (l l' : Rest) (x : A) (total : Read (List A)) → n ≡ suc k
-      → item l ≡ Ok (x, l') → with_front front (read_each item n l) ≡ total
-      → with_front (front ++ x ∷ []) (read_each item k l') ≡ total
-  unfolding read_each
-  one_more front n k l l' x total e h so_far =
-      let one : with_front front (read_each item n l) ≡ with_front (front ++ x ∷ []) (read_each item k l') =
-      rw (e, h) (regroup front x (read_each item k l')) in
-      sym one ∙ so_far
-
-  -- all were read
-  pub all_read : (front : List A) (n : ℕ) (l : Rest) (total : Read (List A)) → n ≡ 0
-      → with_front front (read_each item n l) ≡ total → total ≡ Ok (front, l)
-  unfolding read_each
-  all_read front n l total e so_far =
-      let one : with_front front (read_each item n l) ≡ Ok (front, l) = rw e (ap (λ (xs : List A). Ok (xs, l)) (append-nil front)) in
-      sym so_far ∙ one
-
-  pub none_yet : (read : Read (List A)) → with_front [] read ≡ read
-  none_yet (Ok xs) = refl
-  none_yet (Err e) = refl
-
-pub known_by : (o : Option Input) (P Q : Input → Type 0) → ((i : Input) → P i → Q i) → IfKnown o P
-    → IfKnown o Q
-known_by None P Q k h = tt
-known_by (Some i) P Q k h = λ short. k i (h short)
-
 pub on_ok : {T E : Type 0} (r : Result T E) (P Q : Type 0) → (P → Q) → OnOk r P → OnOk r Q
 on_ok (Ok x) P Q f h = f h
 on_ok (Err e) P Q f h = tt
-
-pub remembers_both : (a b c : Reader) → Remembers a b → Remembers b c → Remembers a c
-remembers_both a b c first second = record {
-  variables = second.variables ∙ first.variables;
-  constraints = second.constraints ∙ first.constraints;
-  objective = second.objective ∙ first.objective;
-}
 
 -- ---- a reader behind so many
 
@@ -128,17 +85,6 @@ at_front item head p r knows known counted =
       counted = counted ∙ ap (λ n. Ok ((p, n), rest_of r.rest)) (omega arith);
       read = refl;
     }
-
--- what is left behind a reading
-after : {A : Type 0} → Read (List A) → Rest
-after (Ok xs) = xs.1
-after (Err f) = rest_of None
-
-pub from_front : {A : Type 0} (item : Problem → Rest → Read A) (head : Read (Problem × ℕ)) (p : Problem)
-    (r : Reader) → IsReaderBehind A item head p [] r → head ≡ Ok ((p, r.left), rest_of r.rest)
-unfolding read_each after
-from_front item head p r h =
-    h.counted ∙ ap (λ n. Ok ((p, n), h.start)) (omega arith) ∙ ap (λ s. Ok ((p, r.left), s)) (ap after h.read)
 
 pub counted_down : {X : Type 0} (old new : Reader) (o : Option X) → 0 < old.left
     → Moves HasNone old new (Ok o) → old.left ≡ suc new.left

@@ -3,6 +3,4 @@ mod Dropping
 mod Lacks
 mod Tokens
 mod Walking
-mod NearOrder
 mod Nearing
-mod Gaps

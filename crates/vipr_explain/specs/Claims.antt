@@ -1,8 +1,7 @@
 -- What is found of a claim: the goal that proves it, or the constraints that come nearest to it
 use Rattle.std.specs.Prelude.{ℕ, ⊤, List, [], ◌∷◌, map, Option, Some, None}
 use Rattle.vipr_spec.specs.Constraint.{Profile}
-use Rattle.vipr_bytes.specs.Known.{IfKnown, text_of}
-use Rattle.vipr_explain.specs.Found.{AreItemsOf, text_input}
+use Rattle.vipr_explain.specs.Found.{AreItemsOf, text_rest}
 use Rattle.vipr_explain.specs.Near.{IsNearSearch}
 use Rattle.vipr_explain.specs.declared.goal.UnprovedClaim.{UnprovedClaim}
 use Rattle.vipr_explain.specs.declared.shown.PlacedItems.{PlacedItems}
@@ -15,5 +14,5 @@ IsGoalRead text _ _ = ⊥
 
 -- the nearest constraints of a text, and those that are shown
 pub record IsUnproved (P : Profile) (text : List ℕ) (u : UnprovedClaim) : Type 0 where
-  pub search : IfKnown (text_input text) (λ i. IsNearSearch P (text_of i) u.search)
+  pub search : IsNearSearch P (text_rest text) u.search
   pub items : AreItemsOf text (map (λ n. n.index) u.search.near.items) u.items

@@ -1,13 +1,12 @@
 -- What is found when a text is read again
 use Rattle.std.specs.Prelude.{◌≡◌, ◌≤◌, ◌⊎◌, ℕ, ◌+◌, ◌-◌, ◌<◌, ◌==◌, ◌++◌, ◌∷◌, [], ⊤, min}
-use Rattle.std.specs.Prelude.{max, fold, filter, Bool, List, map, length, Option, Some, Result}
+use Rattle.std.specs.Prelude.{max, fold, filter, Bool, List, map, length, Result}
 use Rattle.std.specs.Prelude.{Ok, Err, IfOk, IsSome, false}
 use Rattle.std.specs.List.{list_any, enumerate_from}
 use Rattle.vipr_spec.specs.Certificate.{Named, Problem, Derivation}
 use Rattle.vipr_spec.specs.Constraint.{Row}
 use Rattle.vipr_spec.specs.Reading.{Rest, Fault, Read, ◌>>=◌, read_each, problem_read}
 use Rattle.vipr_spec.specs.Reading.{solution_read, derivations_read, derivation_read}
-use Rattle.vipr_spec.specs.Input.{Input}
 use Rattle.vipr_bytes.specs.Known.{text_of}
 use Rattle.vipr_scan.specs.Giving.{rest_of}
 use Rattle.vipr_read.specs.Items.{Items as Reader, Knows}
@@ -19,11 +18,7 @@ use Rattle.vipr_explain.specs.declared.items.Numbered.{Numbered}
 use Rattle.vipr_explain.specs.declared.items.Items.{Items}
 use Rattle.vipr_explain.specs.declared.shown.PlacedItems.{PlacedItems}
 
--- the input that the bytes of a text in memory are
-abbrev pub text_input : List ℕ → Option Input
-text_input bytes = Some (record { bytes = bytes; fails = false })
-
--- all that there is to read of it
+-- all that there is to read of a text in memory
 abbrev pub text_rest : List ℕ → Rest
 text_rest bytes = text_of (record { bytes = bytes; fails = false })
 

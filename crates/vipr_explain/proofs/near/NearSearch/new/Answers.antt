@@ -1,19 +1,26 @@
-use Rattle.std.proofs.Common.{length, ap, ◌∙◌, sym, subst}
+use Rattle.std.proofs.Common.{[], length, ap, ◌∙◌, refl, sym, subst}
 use Rattle.std.proofs.lemmas.List.{length-replicate, length-map}
 use Rattle.vipr_spec.specs.Fraction.{zero_ℚ}
 use Rattle.vipr_spec.specs.Certificate.{variables}
 use Rattle.vipr_linear.specs.Constraint.{constraint_of}
 use Rattle.vipr_cert.specs.Items.{named_of}
+use Rattle.vipr_table.specs.History.{IsTableOf}
 use Rattle.vipr_table.specs.Table.{DerivedBelow, empty_table}
-use Rattle.vipr_table.proofs.Laws.{DerivedBelow-empty}
+use Rattle.vipr_table.proofs.Laws.{DerivedBelow-empty, IsTableOf-empty}
+use Rattle.vipr_explain.specs.Near.{of_none, without_solutions}
+use Rattle.vipr_explain.proofs.Nearing.{back_start}
 use Rattle.vipr_explain.proofs.near.NearSearch.new.Goals as goal
 
-pub returns-in-Ok-clause-ready : goal.returns-in-Ok-clause-ready
-returns-in-Ok-clause-ready c = record {
-  below = subst (DerivedBelow (variables c.args.problem.now)) (sym c.new-rows.ensures) (DerivedBelow-empty (variables c.args.problem.now) _);
-  scratch = ap (λ a. length a.sums) c.in-Ok.ensures ∙ length-replicate (length c.names.result.now) zero_ℚ ∙ ap length c.names.ensures.names;
-}
-
-pub returns-in-Ok-clause-rows : goal.returns-in-Ok-clause-rows
-returns-in-Ok-clause-rows c =
-    c.new-rows.ensures ∙ ap empty_table (sym (length-map c.cons.result.now (named_of constraint_of)) ∙ ap length c.cons.ensures.constraints)
+pub returns-in-Ok : goal.returns-in-Ok
+returns-in-Ok c =
+    let p = c.args.problem.now in
+    let n = variables p in
+    let rows = c.new-in-Ok-2.ensures ∙ ap empty_table (sym (length-map c.cons.result.now (named_of constraint_of)) ∙ ap length c.cons.ensures.constraints) in
+    record {
+      target = c.in_ok-target.ensures;
+      rows = subst (IsTableOf (without_solutions p [])) (sym rows) (IsTableOf-empty (without_solutions p []) refl);
+      back = back_start p;
+      below = subst (DerivedBelow n) (sym rows) (DerivedBelow-empty n _);
+      scratch = ap (λ a. length a.sums) c.in-Ok.ensures ∙ length-replicate (length c.names.result.now) zero_ℚ ∙ ap length c.names.ensures.names;
+      near = λ more. ([], of_none, c.new-in-Ok.ensures.items);
+    }

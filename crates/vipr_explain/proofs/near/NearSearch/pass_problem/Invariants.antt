@@ -1,9 +1,7 @@
-use Rattle.std.proofs.Common.{◌≡◌}
-use Rattle.vipr_explain.specs.Near.{AreNearest, problem_alone}
+use Rattle.std.proofs.Common.{[]}
+use Rattle.vipr_rules.specs.Profile.{profile_of}
+use Rattle.vipr_explain.specs.Near.{HasSearched}
 use Rattle.vipr_explain.proofs.near.NearSearch.pass_problem.Given as goal
 
 abbrev pub invariant-loop-index : goal.invariant-loop-index
-invariant-loop-index l = record {
-  kept : l.self ≡ record l.initial.self { near = l.self.near };
-  near : AreNearest (problem_alone l.problem) l.index l.initial.self.target l.self.near.items;
-}
+invariant-loop-index l = HasSearched (profile_of l.subject.profile) l.problem [] l.index l.self

@@ -1,23 +1,23 @@
-use Rattle.std.proofs.Common.{◌+◌, sym, subst, refl}
-use Rattle.vipr_explain.specs.Near.{AreNearest, MissesBy, IsLike}
-use Rattle.vipr_explain.specs.declared.near.Near.{Near}
+use Rattle.std.proofs.Common.{◌+◌, sym, subst}
 use Rattle.std.specs.Prelude.{◌↔◌, IsTrue}
 use Rattle.std.specs.FinSet.{contains}
 use Rattle.vipr_spec.specs.Certificate.{RestsOn}
 use Rattle.vipr_rules.specs.Claim.{IsMetBy}
+use Rattle.vipr_explain.specs.Near.{AreNearest, MissesBy, IsLike}
+use Rattle.vipr_explain.specs.declared.near.Near.{Near}
 use Rattle.vipr_explain.proofs.Again.{on_ok}
-use Rattle.vipr_explain.proofs.Nearing.{free_is, nearest_kept, nearest_more}
-use Rattle.vipr_explain.proofs.near.NearSearch.add.Goals as goal
+use Rattle.vipr_explain.proofs.Nearing.{free_is, nearest_like, nearest_unlike}
+use Rattle.vipr_explain.proofs.near.add.Goals as goal
 
-pub returns-then-not-is_like-clause-near : goal.returns-then-not-is_like-clause-near
-returns-then-not-is_like-clause-near c = λ d within says rests near.
-    let t = c.args.self.now.target in
-    nearest_kept d c.args.index t c.args.self.now.near.items
+pub returns-then-not-is_like : goal.returns-then-not-is_like
+returns-then-not-is_like c = λ d says rests near.
+    let t = c.args.target.now in
+    nearest_unlike d t c.args.index c.args.all.now.items
     (λ like. let h = c.is_like.ensures.1 (subst (IsLike t) says like) in let f = c.if-not-is_like.true in absurd (cc (h, f))) near
 
-pub returns-clause-near : goal.returns-clause-near
-returns-clause-near c = λ d within says rests near.
-    let t = c.args.self.now.target in
+pub returns : goal.returns
+returns c = λ d says rests near.
+    let t = c.args.target.now in
     let n : Near = record {
       index = c.args.index;
       is_strong = c.is_met_by.result;
@@ -26,12 +26,11 @@ returns-clause-near c = λ d within says rests near.
       is_free = c.is_empty.result;
       crossed = c.args.crossed;
     } in
-    on_ok c.insert.result _ (AreNearest d (c.args.index + 1) t c.insert.new.all.items)
-    (λ e. subst (AreNearest d (c.args.index + 1) t) (sym e) (nearest_more d c.args.index t c.args.self.now.near.items n near (record {
-      within = within;
+    on_ok c.insert.result _ (AreNearest d t (c.args.index + 1) c.insert.new.all.items)
+    (λ e. subst (AreNearest d t (c.args.index + 1)) (sym e) (nearest_like d t n c.args.all.now.items (record {
       like = subst (IsLike t) (sym says) (c.is_like.ensures.0 c.if-not-is_like.false);
       strong = subst (λ x. IsTrue c.is_met_by.result ↔ IsMetBy t x) (sym says) c.is_met_by.ensures;
       gap = subst (λ x. MissesBy t x c.gap_of.result) (sym says) c.gap_of.ensures;
       rests = λ a. subst (λ s. IsTrue (contains s a) ↔ RestsOn d c.args.index a) (sym c.in_ok-clone.ensures.cases) (rests a);
       free = free_is d c.args.index c.args.assumptions.now c.is_empty.result c.is_empty.ensures rests;
-    }) refl)) c.insert.ensures
+    }) near)) c.insert.ensures
