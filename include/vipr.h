@@ -101,6 +101,9 @@ size_t vipr_cause_name(uint32_t cause, char *name, size_t room);
 /* The version of the library, VIPR_VERSION of the header that it was built with, in the same way. */
 size_t vipr_version(char *version, size_t room);
 
+/* The SHA-256 of a text in 64 hex digits of lower case, as `vipr check --sum` prints it, in the same way. Returns 64. */
+size_t vipr_digest(const void *text, size_t size, char *digest, size_t room);
+
 #ifdef __cplusplus
 }
 #endif

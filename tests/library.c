@@ -1,6 +1,6 @@
 /* Calls the library on a file, with a buffer of its own, and writes what the buffer holds and then a line of numbers.
  *
- * usage: library FILE CALL PROFILE COMPACT ROOM ..  CALL is check, report, explain, long, show or tighten
+ * usage: library FILE CALL PROFILE COMPACT ROOM ..  CALL is check, report, explain, long, show, digest or tighten
  *        library name CAUSE ROOM ..
  *        library version ROOM
  *        library growths FILE
@@ -19,9 +19,9 @@
 
 #define ROOM 4096
 
-enum call { CHECK, REPORT, EXPLAIN, EXPLAIN_LONG, SHOW, TIGHTEN, CALLS };
+enum call { CHECK, REPORT, EXPLAIN, EXPLAIN_LONG, SHOW, DIGEST, TIGHTEN, CALLS };
 
-static const char *const NAMES[] = {"check", "report", "explain", "long", "show", "tighten"};
+static const char *const NAMES[] = {"check", "report", "explain", "long", "show", "digest", "tighten"};
 
 /* What a call is asked, and what it answers. */
 struct job {
@@ -93,6 +93,9 @@ static int32_t run(struct job *it)
         return vipr_explain_long(it->profile, "standard input", 14, it->text, it->size, it->buffer, it->room, &it->length);
     case SHOW:
         return vipr_show(it->compact, it->text, it->size, it->buffer, it->room, &it->length, &it->answer);
+    case DIGEST:
+        it->length = vipr_digest(it->text, it->size, it->buffer, it->room);
+        return 0;
     default:
         return vipr_tighten(it->profile, it->compact, it->text, it->size, it->buffer, it->room, &it->length, &it->figures);
     }

@@ -10,6 +10,7 @@ library, and so do those in C, C++ and Rust with the archive. Memcheck and helgr
 it. `make uninstall-lib` removes all of it. Prints each difference, and last `library: N texts, F different`. What
 isn't built for want of a compiler is named. The exit status is 1 if a text or a file differs.
 """
+import hashlib
 import os
 import re
 import shutil
@@ -239,6 +240,8 @@ def look_at_calls(program, path, whole):
         length = len(wanted_of_it[1])
         for room in {0, 1, max(0, length - 1), length, length + 3} if whole else {length}:
             rows.append(([*words, room], answered(room, *wanted_of_it)))
+    digest = hashlib.sha256(path.read_bytes()).hexdigest().encode()
+    rows += [(['digest', 1, 0, room], ended(room, digest)) for room in (0, 63, 64, 65, 70)]
     compare([program, path], rows)
 
 
@@ -265,7 +268,7 @@ def look_at_memory(program, room):
         return
     front = ['valgrind', '-q', '--error-exitcode=9']
     for path in (TOP / 'examples/branch_and_bound.vipr', TOP / 'examples/overflow.vipr', room / 'infeasible.10'):
-        words = [word for call in ('check', 'report', 'explain', 'long', 'show', 'tighten') for word in (call, 1, 1, 100)]
+        words = [word for call in ('check', 'report', 'explain', 'long', 'show', 'digest', 'tighten') for word in (call, 1, 1, 100)]
         said = run([*front, '--leak-check=full', '--show-leak-kinds=all', program, path, *words], timeout=LONG)
         if said.returncode or said.stderr:
             fail(f'memcheck of {path.name}: {said.stderr!r}')

@@ -17,6 +17,7 @@ Prints each fault, and last `python: N checks, F failed`; the exit status is 1 i
 """
 import functools
 import gzip
+import hashlib
 import importlib.util
 import json
 import lzma
@@ -143,8 +144,11 @@ def calls(texts):
                 else:
                     line = f'kept {got.kept} removed {got.removed} peak {got.peak_before} {got.peak_after}\n'
                     check((got.text, line.encode()) == (out, fault), f'tighten: {line}, {fault}')
+    for text in (b'', b'\0', *EXAMPLES.values()):
+        check(vipr.digest(text) == hashlib.sha256(text).hexdigest(), f'the digest is {vipr.digest(text)}')
     check(vipr.version() in run([PROGRAM, '--version']).stdout.decode(), 'the versions differ')
-    for wrong, error in ((lambda: vipr.check(b'', 3), vipr.BadProfile), (lambda: vipr.check('VER 1.0'), TypeError)):
+    for wrong, error in ((lambda: vipr.check(b'', 3), vipr.BadProfile), (lambda: vipr.check('VER 1.0'), TypeError),
+                         (lambda: vipr.digest('VER 1.0'), TypeError)):
         try:
             wrong()
             check(False, f'no {error.__name__}')

@@ -119,6 +119,8 @@ def functions(path):
             if char == '{':
                 end = braced(text, at)
                 break
+            if char == '[':
+                at = text.index(']', at)
             if char == ';':
                 end = at
                 break

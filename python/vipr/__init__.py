@@ -7,15 +7,15 @@
     else:
         print(verdict.refusal.cause.word)
 
-`check`, `explain`, `explain_long`, `show` and `tighten` are calls of the proved library. Everything else in this package
-is plain Python that nothing proves: `read` gives a certificate as values, and the modules check_all, compare_mps, picture
-and stats are commands.
+`check`, `explain`, `explain_long`, `show`, `tighten` and `digest` are calls of the proved library. Everything else in this
+package is plain Python that nothing proves: `read` gives a certificate as values, and the modules check_all, compare_mps,
+picture and stats are commands.
 """
 from .certificate import Certificate, Constraint, Derivation, Problem, Solution, read, read_problem
-from .library import BadProfile, Error, LibraryMissing, OutOfMemory, Tightened, check, explain, explain_long, show, tighten
-from .library import version
+from .library import BadProfile, Error, LibraryMissing, OutOfMemory, Tightened, check, digest, explain, explain_long, show
+from .library import tighten, version
 from .verdict import Cause, Claim, Place, Refusal, Verdict
 
 __all__ = ['BadProfile', 'Cause', 'Certificate', 'Claim', 'Constraint', 'Derivation', 'Error', 'LibraryMissing',
-           'OutOfMemory', 'Place', 'Problem', 'Refusal', 'Solution', 'Tightened', 'Verdict', 'check', 'explain',
+           'OutOfMemory', 'Place', 'Problem', 'Refusal', 'Solution', 'Tightened', 'Verdict', 'check', 'digest', 'explain',
            'explain_long', 'read', 'read_problem', 'show', 'tighten', 'version']

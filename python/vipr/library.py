@@ -70,20 +70,26 @@ def _library() -> ctypes.CDLL:
         library.vipr_show.argtypes = [_NUMBER, *text, *buffer, ctypes.POINTER(_Answer)]
         library.vipr_tighten.argtypes = [_NUMBER, _NUMBER, *text, *buffer, ctypes.POINTER(_Figures)]
         library.vipr_version.argtypes, library.vipr_version.restype = [_TEXT, _SIZE], _SIZE
+        library.vipr_digest.argtypes, library.vipr_digest.restype = [*text, _TEXT, _SIZE], _SIZE
     except (OSError, AttributeError) as fault:
         raise LibraryMissing(f'{name}: {fault}') from fault
     return library
 
 
-def _call(name: str, options: Tuple[int | bytes, ...], text: bytes, *behind: ctypes.Structure) -> Tuple[bool, bytes]:
-    """Whether the status is 0, and the text of a call, which is made again if its text needs more room."""
+def _only_bytes(text: bytes) -> bytes:
     if not isinstance(text, bytes):
         raise TypeError(f'a certificate is bytes, not {type(text).__name__}')
+    return text
+
+
+def _call(name: str, options: Tuple[int | bytes, ...], text: bytes, *behind: ctypes.Structure) -> Tuple[bool, bytes]:
+    """Whether the status is 0, and the text of a call, which is made again if its text needs more room."""
+    size = len(_only_bytes(text))
     call, length = getattr(_library(), name), _SIZE(ROOM)
     while True:
         room = length.value
         buffer = ctypes.create_string_buffer(max(1, room))
-        status = call(*options, text, len(text), buffer, room, ctypes.byref(length), *map(ctypes.byref, behind))
+        status = call(*options, text, size, buffer, room, ctypes.byref(length), *map(ctypes.byref, behind))
         if status == 2:
             raise BadProfile('the profiles are 1 and 2')
         if status == 3:
@@ -145,8 +151,18 @@ def tighten(text: bytes, profile: int = 1, compact: bool = False) -> Tightened |
     return Tightened(shown, figures.kept, figures.removed, figures.peak_before, figures.peak_after)
 
 
+def _word(name: str, *text: bytes | int) -> str:
+    """The word that a call writes, which has at most 64 bytes."""
+    buffer = ctypes.create_string_buffer(65)
+    getattr(_library(), name)(*text, buffer, len(buffer))
+    return buffer.value.decode()
+
+
+def digest(text: bytes) -> str:
+    """The SHA-256 of a text in hex digits, as `vipr check --sum` prints it. Raises LibraryMissing."""
+    return _word('vipr_digest', _only_bytes(text), len(text))
+
+
 def version() -> str:
     """The version of the library. Raises LibraryMissing."""
-    buffer = ctypes.create_string_buffer(32)
-    _library().vipr_version(buffer, len(buffer))
-    return buffer.value.decode()
+    return _word('vipr_version')

@@ -13,6 +13,7 @@ ghost use Rattle.vipr_spec.specs.Causes.{cause_name};
 ghost use Rattle.vipr_check.specs.Checks.{Checks};
 ghost use Rattle.vipr_check.specs.declared.verdict.Fault.{Fault as Failure};
 ghost use Rattle.vipr_check.specs.declared.verdict.Verdict.{Verdict as Answered};
+ghost use Rattle.vipr_text.specs.Digest.{hex_digest};
 ghost use Rattle.vipr_c.specs.AnswerOf.{answer_of_verdict, status_of};
 ghost use Rattle.vipr_c.specs.Handed.{ExplainsAtLength, ExplainsBy, Fills, ReportsBy, ended};
 ghost use Rattle.vipr_c.specs.Handed.{profile_numbered};
@@ -25,6 +26,7 @@ use crate::tightened::Figures;
 use std::alloc::Global;
 use vipr_bytes::Bytes;
 use vipr_check::{Fault, Verdict, check};
+use vipr_text::hex_digest;
 
 /// Checks the certificate in memory, writes the verdict to `answer`, and returns 0 if
 /// it is verified, 1 if it is refused, and 3 if a growth was refused and there is no verdict.
@@ -170,4 +172,14 @@ pub extern "C" fn vipr_version(version: &mut [u8]) -> usize
     ensures count { result ≡ length (codes "1.0.0") }
 {
     end(version, "1.0.0".as_bytes())
+}
+
+/// Writes the SHA-256 of the text, in 64 hex digits of lower case, to `digest` in the form of
+/// `vipr_cause_name`, and returns 64.
+#[unsafe(no_mangle)]
+pub extern "C" fn vipr_digest(text: &[u8], digest: &mut [u8]) -> usize
+    ensures word { digest.new ≡ ended digest.old (hex_digest text.now) }
+    ensures count { result ≡ 64 }
+{
+    end(digest, &hex_digest(text))
 }

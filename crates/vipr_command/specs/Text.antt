@@ -1,12 +1,11 @@
 -- What the program prints of a verdict
 use Rattle.std.specs.Prelude.{ℕ, List, [], ◌++◌, codes, if◌then◌else◌}
-use Rattle.hex.specs.Hex.{encode_lower}
-use Rattle.sha2.specs.Sha256.{sha256}
 use Rattle.vipr_spec.specs.Input.{Input}
 use Rattle.vipr_check.specs.Explanation.{explained_text}
 use Rattle.vipr_check.specs.Text.{verdict_text}
 use Rattle.vipr_check.specs.declared.detail.Detail.{Detail}
 use Rattle.vipr_check.specs.declared.verdict.Verdict.{Verdict}
+use Rattle.vipr_text.specs.Digest.{hex_digest}
 use Rattle.vipr_command.specs.declared.request.Task.{Task}
 use Rattle.vipr_command.specs.declared.request.Task.TheVariants.{Check}
 
@@ -21,7 +20,7 @@ answer_lines _ v x = explained_text v x
 
 -- the line of the digest
 abbrev pub sum_line : List ℕ → List ℕ
-sum_line bytes = codes "sha256 " ++ encode_lower (sha256 bytes) ++ codes "\n"
+sum_line bytes = codes "sha256 " ++ hex_digest bytes ++ codes "\n"
 
 -- the same of bytes behind which no read failed
 abbrev pub sum_read : Input → List ℕ

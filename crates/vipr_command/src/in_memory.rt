@@ -11,12 +11,12 @@ use crate::check::print_verdict;
 use crate::explain::print_explanation;
 use crate::fault::CommandFault;
 use crate::request::{Job, Task};
-use sha2::{Digest as _, Sha256};
 use std::alloc::{AllocError, Global};
 use vipr_bytes::{BUFFER_BYTES, Bytes, Failed, Sink, Source, write_bytes};
 use vipr_check::{Detail, Explanation, Verdict, explain_in};
 use vipr_explain::page_for;
 use vipr_page::{Page, with_page};
+use vipr_text::hex_digest;
 
 /// What a source gave: its bytes, and whether a read failed behind them.
 #[derive(Drop)]
@@ -185,7 +185,7 @@ impl ReadText {
         let sum = self.sum(alloc, job.has_sum)?;
         let lines = lines(alloc, task, verdict, detail)?;
         let mut text = with_page(lines.into_bytes(), self.page(alloc, job, verdict, detail));
-        text.extend_from_slice(sum.as_bytes())?;
+        text.extend_from_slice(sum.as_slice())?;
         Ok(text)
     }
 
@@ -201,15 +201,18 @@ impl ReadText {
     }
 
     // The line of its digest, if that is asked for and no read failed.
-    fn sum(&self, alloc: Global, is_asked: bool) -> Result<String, AllocError>
-        ensures { IfOk result (λ line. string_bytes line
+    fn sum(&self, alloc: Global, is_asked: bool) -> Result<Vec<u8>, AllocError>
+        ensures { IfOk result (λ line. line.items
             ≡ sum_asked is_asked (input_of self.now.bytes.items self.now.has_failed)) }
     {
+        let mut line = Vec::new(alloc);
         if !is_asked || self.has_failed {
-            return Ok(String::new(alloc));
+            return Ok(line);
         }
-        let digest = hex::encode(alloc, Sha256::digest(self.bytes.as_slice()))?;
-        format!(in alloc; "sha256 {digest}\n")
+        line.extend_from_slice("sha256 ".as_bytes())?;
+        line.extend_from_slice(&hex_digest(self.bytes.as_slice()))?;
+        line.push(b'\n')?;
+        Ok(line)
     }
 
     // All bytes of the source, if no read failed.
