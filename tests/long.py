@@ -441,11 +441,11 @@ CAUSES = [
     + ' RTP infeas SOL 1 s 0 DER 0',
     'VER 1.0 VAR 1 x INT 0 OBJ min 1 0 1 CON 0 0 RTP range -inf 1 SOL 11 ' + 's 1 0 2 ' * 10 + 's 1 0 1 DER 0',
 ]
-# Texts of the sources that no page has: of sections without items, of faults that there aren't, of a verdict on another
-# text, of a read that fails (hostile.py tries it), and of pages that are longer than those of the file.
+# Texts of the sources that no page has: of faults that there aren't, of a verdict on another text, of a read that fails
+# (hostile.py tries it), and of pages that are longer than those of the file.
 UNREACHED = {
-    'item', 'the end of the text: the last derivation is before this', 'a token',
-    'see the table of causes in docs/FORMAT.md', "\nthe verdict isn't one of this text, so it isn't explained\n",
+    'the end of the text: the last derivation is before this', 'see the table of causes in docs/FORMAT.md',
+    "\nthe verdict isn't one of this text, so it isn't explained\n",
     "\na read failed behind what is refused, so it isn't explained\n", '.. the rest is left out\n',
 }
 # What a page says of a multiplier with which a derivation follows: that, the present one if there is one, and where.

@@ -75,7 +75,8 @@ word_taken text ts n size p mid new w past at some within solid white are bytes 
       token = record { bytes = take size xs; offset = n };
       others = tokens_from false false (n + size) (drop size xs);
       tokens = sym are ∙ ap (λ q. words_at q n xs) past ∙ all;
-      word = record { bytes = bytes; place = spot ∙ at.place };
+      bytes = bytes;
+      place = spot ∙ at.place;
       left = record {
         n = n + size;
         at = behind;

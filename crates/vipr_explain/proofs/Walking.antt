@@ -21,8 +21,8 @@ pub walks_on : {S : Type 0} {stops : S → Bool} {next : S → List ℕ → Span
 walks_on {stops = stops} {next = next} {text = text} {s = s} new w h goes gives = record {
   others = gives.others;
   left = gives.left;
-  same = ap (λ b. walked stops next text (next s b (span_of w.spot b)) gives.others) gives.word.bytes
-      ∙ ap (λ (at : Spot). walked stops next text (next s gives.token.bytes (span_of at gives.token.bytes)) gives.others) gives.word.place
+  same = ap (λ b. walked stops next text (next s b (span_of w.spot b)) gives.others) gives.bytes
+      ∙ ap (λ (at : Spot). walked stops next text (next s gives.token.bytes (span_of at gives.token.bytes)) gives.others) gives.place
       ∙ sym (one gives.token gives.others) ∙ ap (walked stops next text s) (sym gives.tokens) ∙ h.same;
 }
   where

@@ -1,5 +1,5 @@
 -- Which derivation is the last one that names a constraint
-use Rattle.std.specs.Prelude.{◌≡◌, ◌⊎◌, ℕ, Bool, false, List, [], ◌∷◌, ◌==◌, ◌||◌, ◌&&◌, length}
+use Rattle.std.specs.Prelude.{◌≡◌, ◌⊎◌, ℕ, Bool, false, List, [], ◌∷◌, ◌==◌, ◌&&◌, length}
 use Rattle.std.specs.Prelude.{nat_lt, if◌then◌else◌, Option, Some, None, Ok, IsSome}
 use Rattle.std.specs.List.{enumerate_from, list_any}
 use Rattle.vipr_spec.specs.Certificate.{Problem, Derivation, Reason, References, no_references}
@@ -15,8 +15,7 @@ use Rattle.vipr_explain.specs.Found.{HasFault, head_read}
 abbrev pub are_to : ℕ → References → Bool
 are_to index no_references = false
 are_to index (by_entries es) = list_any (λ e. e.0 == index) es
-are_to index (by_branches i1 l1 i2 l2) =
-    (i1 == index) || ((l1 == index) || ((i2 == index) || (l2 == index)))
+are_to index (by_branches i1 l1 i2 l2) = list_any (λ i. i == index) (i1 ∷ l1 ∷ i2 ∷ l2 ∷ [])
 
 -- a reason names a constraint
 abbrev pub names_constraint : ℕ → Reason → Bool

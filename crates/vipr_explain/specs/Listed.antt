@@ -1,8 +1,8 @@
 -- The constraints that an explanation names
 use Rattle.std.specs.Prelude.{ℕ, List, ◌==◌, Option, Some, None, codes, find}
 use Rattle.std.specs.Prelude.{slice_get, option_map}
-use Rattle.vipr_spec.specs.Certificate as is
-use Rattle.vipr_spec.specs.Constraint as spec
+use Rattle.std.specs.Option.{option_or}
+use Rattle.vipr_spec.specs.Constraint.{Constraint}
 use Rattle.vipr_linear.specs.Constraint.{constraint_of}
 use Rattle.vipr_cert.specs.Items.{reason_of}
 use Rattle.vipr_cert.specs.Reasons.{reason_word}
@@ -15,23 +15,16 @@ use Rattle.vipr_explain.specs.declared.items.Numbered.{Numbered}
 abbrev pub kept_derivation : List Numbered → ℕ → Option Derivation
 kept_derivation kept index = option_map (λ n. n.derivation) (find (λ n. n.index == index) kept)
 
-abbrev pub stated_or : Option (is.Named spec.Constraint) → Option Derivation
-    → Option spec.Constraint
-stated_or (Some named) kept = Some named.item
-stated_or None kept = option_map (λ d. constraint_of d.constraint) kept
-
-abbrev pub name_or : Option (is.Named spec.Constraint) → Option Derivation → Option (List ℕ)
-name_or (Some named) kept = Some named.name
-name_or None kept = option_map (λ d. d.name) kept
-
 -- a constraint of the problem, or one that was kept, and its name
-abbrev pub known_constraint : Items → ℕ → Option spec.Constraint
-known_constraint items index = stated_or (slice_get items.problem.constraints index)
-    (kept_derivation items.derivations.items index)
+abbrev pub known_constraint : Items → ℕ → Option Constraint
+known_constraint items index =
+    option_or (option_map (λ n. n.item) (slice_get items.problem.constraints index))
+    (option_map (λ d. constraint_of d.constraint) (kept_derivation items.derivations.items index))
 
 abbrev pub known_name : Items → ℕ → Option (List ℕ)
-known_name items index = name_or (slice_get items.problem.constraints index)
-    (kept_derivation items.derivations.items index)
+known_name items index =
+    option_or (option_map (λ n. n.name) (slice_get items.problem.constraints index))
+    (option_map (λ d. d.name) (kept_derivation items.derivations.items index))
 
 -- the word of its reason, and this if it has none
 abbrev pub word_or_given : Option Derivation → List ℕ

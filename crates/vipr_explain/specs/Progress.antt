@@ -85,20 +85,20 @@ ended_before None p = wants p wanted.Nothing
 abbrev pub section_ended : TextProgress → TextProgress
 section_ended p = ended_before (next_section p.section) p
 
--- the next item of a section, if there is one
-abbrev pub item_begun : TextProgress → TextProgress
-item_begun p = if nat_lt p.item p.items then wants p (first_of_item p.section)
-    else section_ended p
+-- the item of this position in a section, if there is one; else the section ends
+abbrev pub item_begun : ℕ → TextProgress → TextProgress
+item_begun n p = if nat_lt n p.items then record p { item = n; wanted = first_of_item p.section }
+    else section_ended (record p { item = n })
 
 abbrev pub item_ended : TextProgress → TextProgress
-item_ended p = item_begun (record p { item = in_u32 (p.item + 1) })
+item_ended p = item_begun (in_u32 (p.item + 1)) p
 
 -- behind the number of a section's items
 abbrev pub count_passed : Section → TextProgress → ℕ → TextProgress
-count_passed section.Variables p n = item_begun (record p { item = 0; items = n; variables = n })
+count_passed section.Variables p n = item_begun 0 (record p { items = n; variables = n })
 count_passed section.Constraints p n =
-    record p { item = 0; items = n; constraints = n; wanted = wanted.BoundCount }
-count_passed _ p n = item_begun (record p { item = 0; items = n })
+    record p { items = n; constraints = n; wanted = wanted.BoundCount }
+count_passed _ p n = item_begun 0 (record p { items = n })
 
 -- behind the name of an item
 abbrev pub name_passed : Section → TextProgress → TextProgress
@@ -117,28 +117,26 @@ abbrev pub parts_ended : Wanted → TextProgress → TextProgress
 parts_ended wanted.RowIndex p = row_ended p.section p
 parts_ended _ p = wants p wanted.CloseBrace
 
--- the next one of these parts, if there is one
-abbrev pub part_begun : Wanted → TextProgress → TextProgress
-part_begun part p = if nat_lt p.part p.parts then wants p part else parts_ended part p
-
-abbrev pub parts_begun : Wanted → ℕ → TextProgress → TextProgress
-parts_begun part n p = part_begun part (record p { part = 0; parts = n })
+-- the part of this position, of so many, which begins with this, if there is one
+abbrev pub part_begun : Wanted → ℕ → ℕ → TextProgress → TextProgress
+part_begun first n all p = if nat_lt n all then record p { part = n; parts = all; wanted = first }
+    else parts_ended first (record p { part = n; parts = all })
 
 abbrev pub part_ended : Wanted → TextProgress → TextProgress
-part_ended part p = part_begun part (record p { part = in_u32 (p.part + 1) })
+part_ended first p = part_begun first (in_u32 (p.part + 1)) p.parts p
 
 -- behind a token where this is wanted
 abbrev pub passed_at : Wanted → TextProgress → List ℕ → TextProgress
 passed_at wanted.Keyword p word = wants p (first_of p.section)
 passed_at wanted.Version p word = section_ended p
 passed_at wanted.Count p word = count_passed p.section p (count_spelled word)
-passed_at wanted.BoundCount p word = item_begun p
+passed_at wanted.BoundCount p word = item_begun 0 p
 passed_at wanted.Name p word = name_passed p.section p
 passed_at wanted.IntegerIndex p word = item_ended p
 passed_at wanted.Direction p word = wants p wanted.RowCount
 passed_at wanted.Sense p word = wants p wanted.RightHandSide
 passed_at wanted.RightHandSide p word = wants p wanted.RowCount
-passed_at wanted.RowCount p word = parts_begun wanted.RowIndex (count_spelled word) p
+passed_at wanted.RowCount p word = part_begun wanted.RowIndex 0 (count_spelled word) p
 passed_at wanted.RowIndex p word = wants p wanted.RowCoefficient
 passed_at wanted.RowCoefficient p word = part_ended wanted.RowIndex p
 passed_at wanted.Claim p word = if bytes_eq word (codes "range") then wants p wanted.LowerBound
@@ -148,7 +146,7 @@ passed_at wanted.UpperBound p word = section_ended p
 passed_at wanted.OpenBrace p word = wants p wanted.Reason
 passed_at wanted.Reason p word =
     record p { part = 0; parts = 4; wanted = first_of_reason word }
-passed_at wanted.EntryCount p word = parts_begun wanted.EntryIndex (count_spelled word) p
+passed_at wanted.EntryCount p word = part_begun wanted.EntryIndex 0 (count_spelled word) p
 passed_at wanted.EntryIndex p word = wants p wanted.EntryMultiplier
 passed_at wanted.EntryMultiplier p word = part_ended wanted.EntryIndex p
 passed_at wanted.Branch p word = part_ended wanted.Branch p

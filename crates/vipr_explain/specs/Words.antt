@@ -33,17 +33,13 @@ pub record AreLeft (text : List ℕ) (ts : List Token) (w : Words) : Type 0 wher
   pub at : IsAtByte text n w
   pub tokens : words_at w.position n w.rest.now ≡ ts
 
--- a token of a text
-pub record IsWord (text : List ℕ) (t : Token) (w : TextWord) : Type 0 where
-  pub bytes : w.bytes.now ≡ t.bytes
-  pub place : w.spot ≡ place_at text t.offset
-
 -- the first of these tokens of a text was given, and the others are to come; or none is to come
 pub record GivesFirst (text : List ℕ) (ts : List Token) (new : Words) (w : TextWord) : Type 0 where
   pub token : Token
   pub others : List Token
   pub tokens : ts ≡ token ∷ others
-  pub word : IsWord text token w
+  pub bytes : w.bytes.now ≡ token.bytes
+  pub place : w.spot ≡ place_at text token.offset
   pub left : AreLeft text others new
 
 abbrev pub GivesWord : List ℕ → List Token → Words → Option TextWord → Type 0

@@ -11,7 +11,7 @@ ghost use Rattle.vipr_explain.specs.Drops.{names_constraint};
 ghost use Rattle.vipr_explain.specs.Refused.{IsLastUseIn};
 ghost use Rattle.vipr_explain.specs.Found.{AreDerivationsRead, Missed, head_read, text_rest};
 
-use crate::excerpt::{KnownPlace, PlaceLabel};
+use crate::excerpt::KnownPlace;
 use crate::items::open_derivations;
 use crate::marks::{ItemSort, find_item};
 use crate::text::{Reread, Subject};
@@ -39,11 +39,8 @@ impl<'a> LastUse<'a> {
             (λ m. Missed m (head_read (text_rest subject.entry.text.now))) }
     {
         let last = last_use(subject.alloc, subject.text, index, user)?;
-        let mark = find_item(subject.alloc, subject.text, ItemSort::Constraints, index)?;
-        let place = match mark {
-            Some(mark) => Some(KnownPlace::of(subject.text, mark.last)),
-            None => None,
-        };
+        let mark = find_item(subject, ItemSort::Constraints, index)?;
+        let place = mark.map(|mark| KnownPlace::of(subject.text, mark.last));
         Ok(LastUse { index, last, place })
     }
 
@@ -55,7 +52,8 @@ impl<'a> LastUse<'a> {
             "  constraint {index} was dropped behind the last reference that it states\n"
         );
         if let Some(place) = self.place {
-            place.write(page, file, PlaceLabel::LastReference(self.last));
+            let last = self.last;
+            place.write(page, file, format_args!("write {last} or -1 here"));
             write!(
                 page,
                 "  = help: or is a constraint other than [{index}] meant?\n"

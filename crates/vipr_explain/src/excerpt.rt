@@ -5,12 +5,11 @@ ghost use Rattle.vipr_page.specs.Page.{line_byte};
 
 use crate::text::{Span, Spot};
 use itoa::Buffer;
+use std::fmt::Display;
 use vipr_page::{Page, StrangeBytes};
 
 /// How many bytes of a line are shown before a place, and from it on.
-const MOST_BEFORE: u64 = 60;
-
-const MOST_BEHIND: u64 = 60;
+const MOST_SHOWN: u64 = 60;
 
 /// How many carets are shown.
 const MOST_CARETS: usize = 40;
@@ -32,58 +31,41 @@ impl<'a> KnownPlace<'a> {
         ensures { IsPlaceAt text.now span result }
     {
         let spot = span.spot;
-        let count = spot.column.saturating_sub(1).min(MOST_BEFORE);
+        let count = spot.column.saturating_sub(1).min(MOST_SHOWN);
         let line = line_of(from(text, spot.offset));
         KnownPlace {
             spot,
             size: span.size,
             before: first(from(text, spot.offset.saturating_sub(count)), count),
-            behind: first(line, MOST_BEHIND),
-            is_cut: line.len() as u64 > MOST_BEHIND,
+            behind: first(line, MOST_SHOWN),
+            is_cut: line.len() as u64 > MOST_SHOWN,
         }
     }
 
     /// Writes the place in a file of this name, with carets and a label below it.
-    pub(crate) fn write(&self, page: &mut Page, file: &[u8], label: PlaceLabel) {
+    pub(crate) fn write<L: Display + Drop>(&self, page: &mut Page, file: &[u8], label: L) {
         let line = self.spot.line;
         let column = self.spot.column;
         let margin = digits_of(line);
         let file = StrangeBytes(file);
-        let front = self.front();
+        let is_far = column > MOST_SHOWN + 1;
+        let front = if is_far { ".." } else { "" };
         let before = StrangeBytes(self.before);
         let behind = StrangeBytes(self.behind);
         let end = if self.is_cut { ".." } else { "" };
+        let carets = width_of_all(&self.behind[..self.size.min(self.behind.len())]);
         write_copies(page, " ", margin);
         write!(page, "--> {file}:{line}:{column}\n");
         write_copies(page, " ", margin);
         write!(page, " |\n{line} | {front}{before}{behind}{end}\n");
         write_copies(page, " ", margin);
         page.put(" | ");
-        self.write_carets(page);
-        match label {
-            PlaceLabel::Words(words) => write!(page, " {words}\n"),
-            PlaceLabel::LastReference(last) => write!(page, " write {last} or -1 here\n"),
-        }
+        write_copies(page, " ", front.len());
+        write_copies(page, " ", width_of_all(self.before));
+        write_copies(page, "^", carets.max(1).min(MOST_CARETS));
+        write!(page, " {label}\n");
         write_copies(page, " ", margin);
         page.put(" |\n");
-    }
-
-    // Writes carets below the place.
-    fn write_carets(&self, page: &mut Page) {
-        write_copies(page, " ", self.front().len());
-        write_copies(page, " ", width_of_all(self.before));
-        let size = self.size.min(self.behind.len());
-        let carets = width_of_all(&self.behind[..size]);
-        write_copies(page, "^", carets.max(1).min(MOST_CARETS));
-    }
-
-    // What stands for the bytes of the line that are left out in front.
-    fn front(&self) -> &'static str {
-        if self.spot.column > MOST_BEFORE.saturating_add(1) {
-            ".."
-        } else {
-            ""
-        }
     }
 }
 
@@ -127,14 +109,6 @@ fn is_in_line(byte: u8) -> bool
     byte != b'\n' && byte != b'\r'
 }
 
-/// What is said below a place.
-#[derive(Clone, Copy)]
-pub(crate) enum PlaceLabel {
-    Words(&'static str),
-    /// What the last reference there has to be.
-    LastReference(u32),
-}
-
 // Writes a text so many times.
 fn write_copies(page: &mut Page, text: &str, count: usize) {
     for _ in 0..count {
@@ -144,11 +118,10 @@ fn write_copies(page: &mut Page, text: &str, count: usize) {
 
 // How many columns bytes take on a page.
 fn width_of_all(bytes: &[u8]) -> usize {
-    let mut count: usize = 0;
-    for byte in bytes {
-        count = count.saturating_add(width_of(*byte));
-    }
-    count
+    bytes.iter().fold(
+        0,
+        |count: usize, byte| count.saturating_add(width_of(*byte)),
+    )
 }
 
 // How many columns a byte takes on a page.

@@ -43,10 +43,8 @@ impl Items {
         ensures { option_map (λ d. d.now) result
             ≡ kept_derivation self.now.derivations.items index }
     {
-        match self.derivations.iter().find(|kept| kept.index == index) {
-            Some(kept) => Some(&kept.derivation),
-            None => None,
-        }
+        let kept = self.derivations.iter().find(|kept| kept.index == index)?;
+        Some(&kept.derivation)
     }
 
     /// A constraint, of the problem or derived, if it was kept.
@@ -55,10 +53,7 @@ impl Items {
     {
         match self.problem.cons().get(index as usize) {
             Some(named) => Some(&named.item),
-            None => match self.derivation(index) {
-                Some(derivation) => Some(&derivation.constraint),
-                None => None,
-            },
+            None => Some(&self.derivation(index)?.constraint),
         }
     }
 
@@ -68,10 +63,7 @@ impl Items {
     {
         match self.problem.cons().get(index as usize) {
             Some(named) => Some(&named.name),
-            None => match self.derivation(index) {
-                Some(derivation) => Some(&derivation.name),
-                None => None,
-            },
+            None => Some(&self.derivation(index)?.name),
         }
     }
 

@@ -5,7 +5,7 @@ ghost use Rattle.vipr_explain.specs.Marked.{IsMarkOf, is_behind, is_of, is_past}
 ghost use Rattle.vipr_explain.specs.Marked.{is_past_head, marked, marks_in, with_last};
 
 use crate::items::greatest;
-use crate::text::Span;
+use crate::text::{Span, Subject};
 use crate::wanted::{Section, TextProgress, Wanted};
 use crate::words::Words;
 use std::alloc::{AllocError, Global};
@@ -50,14 +50,13 @@ pub(crate) struct ItemPlace {
 
 /// The place of an item of a kind by its index.
 pub(crate) fn find_item(
-    alloc: Global,
-    text: &[u8],
+    subject: Subject<'_>,
     kind: ItemSort,
     index: u32,
 ) -> Result<Option<ItemPlace>, AllocError>
-    ensures { IfOk result (IsMarkOf kind text.now index) }
+    ensures { IfOk result (IsMarkOf kind subject.entry.text.now index) }
 {
-    let marks = find_items(alloc, text, kind, [index].as_slice())?;
+    let marks = find_items(subject.alloc, subject.text, kind, [index].as_slice())?;
     Ok(mark_of(marks.as_slice(), index))
 }
 
@@ -88,10 +87,7 @@ pub(crate) fn find_items(
 pub(crate) fn mark_of(marks: &[ItemPlace], index: u32) -> Option<ItemPlace>
     ensures { result ≡ place_found marks.now index }
 {
-    match find_mark(marks, index) {
-        Some(mark) => Some(*mark),
-        None => None,
-    }
+    find_mark(marks, index).copied()
 }
 
 // A reference to it.

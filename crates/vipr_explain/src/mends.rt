@@ -173,13 +173,10 @@ fn mended_side(
 
 // Whether a constraint has as many variables as there are differences, and that of the first one.
 fn has_variables_of(constraint: &Constraint, differences: &[Difference]) -> bool {
-    match differences {
-        [first, ..] => {
-            constraint.row.entries().len() == differences.len()
-                && !constraint.row.coefficient(first.variable).is_zero()
-        }
-        [] => false,
-    }
+    constraint.row.entries().len() == differences.len()
+        && differences
+            .first()
+            .is_some_and(|it| !constraint.row.coefficient(it.variable).is_zero())
 }
 
 // The multiplier that mends these differences, unless it turns the sense of the sum around.
@@ -197,10 +194,7 @@ fn multiplier_by(
         }
         multiplier = Some(found);
     }
-    match multiplier {
-        Some(found) if keeps_sense(constraint.sense, sense, found) => Some(found),
-        _ => None,
-    }
+    multiplier.filter(|found| keeps_sense(constraint.sense, sense, *found))
 }
 
 // Whether a multiple of a constraint has the sense of a sum.

@@ -64,98 +64,78 @@ fn add_earlier(wanted: &mut Vec<u32>, own: u32, index: u32) -> Result<(), AllocE
 fn position_at_fault(fault: StepFault<'_>, entries: &[(u32, Frac)]) -> Option<usize> {
     match fault.what {
         StepDetail::Entry(entry) => Some(*entry as usize),
-        StepDetail::Index(index) => {
-            for (position, entry) in entries.iter().enumerate() {
-                let is_used = fault.cause != cause::DROPPED || entry.1.numer() != 0;
-                if entry.0 == *index && is_used {
-                    return Some(position);
-                }
-            }
-            None
-        }
+        StepDetail::Index(index) => entries.iter().position(|entry| {
+            entry.0 == *index && (fault.cause != cause::DROPPED || entry.1.numer() != 0)
+        }),
         _ => None,
     }
 }
 
-/// The reason of the derivation of a constraint, with what is known of it.
-#[derive(Clone, Copy)]
-pub(crate) struct ReasonLines<'a> {
-    pub(crate) known: &'a PlacedItems,
-    pub(crate) fault: StepFault<'a>,
-    pub(crate) reason: &'a Reason,
+/// Writes the reason of a derivation: the first entries of a sum, and the one at fault.
+pub(crate) fn write_reason(
+    page: &mut Page,
+    known: &PlacedItems,
+    fault: StepFault<'_>,
+    reason: &Reason,
+) {
+    let own = fault.index;
+    let word = reason.word();
+    match reason.references() {
+        References::Nothing => {
+            let note = match reason {
+                Reason::Sol => ", the cutoff at the best listed solution",
+                _ => "",
+            };
+            write!(page, "  its reason   {word}{note}\n");
+        }
+        References::Entries(entries) => {
+            let count = entries.len();
+            write!(page, "  its reason   {word} of {count}:\n");
+            let at_fault = position_at_fault(fault, entries);
+            for (position, entry) in entries.iter().enumerate() {
+                let (index, multiplier) = *entry;
+                let is_at_fault = at_fault == Some(position);
+                if position == MOST_ENTRIES {
+                    write!(page, "      .. ({count} entries)\n");
+                }
+                if position < MOST_ENTRIES || is_at_fault {
+                    write!(page, "      {multiplier} x ");
+                    write_constraint(page, known, own, index);
+                    if is_at_fault {
+                        write!(page, " <-- entry {position}");
+                    }
+                    page.put("\n");
+                }
+            }
+        }
+        References::Branches { i1, l1, i2, l2 } => {
+            write_branch(page, known, own, "  case 1 gives ", i1);
+            write_branch(page, known, own, "     assuming  ", l1);
+            write_branch(page, known, own, "  case 2 gives ", i2);
+            write_branch(page, known, own, "     assuming  ", l2);
+        }
+    }
 }
 
-impl ReasonLines<'_> {
-    /// Writes it.
-    pub(crate) fn write(&self, page: &mut Page) {
-        let word = self.reason.word();
-        match self.reason.references() {
-            References::Nothing => {
-                let note = match self.reason {
-                    Reason::Sol => ", the cutoff at the best listed solution",
-                    _ => "",
-                };
-                write!(page, "  its reason   {word}{note}\n");
-            }
-            References::Entries(entries) => self.write_sum(page, word, entries),
-            References::Branches { i1, l1, i2, l2 } => {
-                self.write_branch(page, "  case 1 gives ", i1);
-                self.write_branch(page, "     assuming  ", l1);
-                self.write_branch(page, "  case 2 gives ", i2);
-                self.write_branch(page, "     assuming  ", l2);
-            }
-        }
+// Writes a constraint of a join.
+fn write_branch(page: &mut Page, known: &PlacedItems, own: u32, label: &str, index: u32) {
+    page.put(label);
+    write_constraint(page, known, own, index);
+    if index < own {
+        let word = known.items.reason_word(index);
+        write!(page, " {word}");
     }
+    page.put("\n");
+}
 
-    // Writes the first entries of a sum, and the one at fault.
-    fn write_sum(&self, page: &mut Page, word: &str, entries: &[(u32, Frac)]) {
-        let count = entries.len();
-        write!(page, "  its reason   {word} of {count}:\n");
-        let at_fault = position_at_fault(self.fault, entries);
-        for (position, entry) in entries.iter().take(MOST_ENTRIES).enumerate() {
-            self.write_entry(page, *entry, position, at_fault == Some(position));
-        }
-        if count > MOST_ENTRIES {
-            write!(page, "      .. ({count} entries)\n");
-        }
-        if let Some(position) = at_fault {
-            if position >= MOST_ENTRIES && position < count {
-                self.write_entry(page, entries[position], position, true);
-            }
-        }
-    }
-
-    // Writes an entry of a sum.
-    fn write_entry(&self, page: &mut Page, entry: (u32, Frac), position: usize, is_at_fault: bool) {
-        let (index, multiplier) = entry;
-        write!(page, "      {multiplier} x ");
-        self.write_constraint(page, index);
-        if is_at_fault {
-            write!(page, " <-- entry {position}");
-        }
-        page.put("\n");
-    }
-
-    // Writes a constraint of a join.
-    fn write_branch(&self, page: &mut Page, label: &str, index: u32) {
-        page.put(label);
-        self.write_constraint(page, index);
-        if index < self.fault.index {
-            let word = self.known.items.reason_word(index);
-            write!(page, " {word}");
-        }
-        page.put("\n");
-    }
-
-    // Writes a constraint that the derivation refers to.
-    fn write_constraint(&self, page: &mut Page, index: u32) {
-        if index < self.fault.index {
-            self.known.write_constraint(page, index);
-        } else if index == self.fault.index {
-            write!(page, "[{index}], this derivation itself");
-        } else {
-            write!(page, "[{index}], which is not before this derivation");
-        }
+// Writes a constraint that a derivation refers to.
+fn write_constraint(page: &mut Page, known: &PlacedItems, own: u32, index: u32) {
+    if index < own {
+        known.write_constraint(page, index);
+    } else if index == own {
+        write!(page, "[{index}], this derivation itself");
+    } else {
+        write!(page, "[{index}], which is not before this derivation");
     }
 }
 

@@ -5,7 +5,7 @@ ghost use Rattle.vipr_spec.specs.Reading.{problem_read};
 ghost use Rattle.vipr_explain.specs.Found.{Because, IsListedSolution, LacksListed, text_rest};
 ghost use Rattle.vipr_explain.specs.Refused.{IsBroken, IsSolutionPlace};
 
-use crate::excerpt::{KnownPlace, PlaceLabel};
+use crate::excerpt::KnownPlace;
 use crate::items::{open_problem, read_solution};
 use crate::marks::{ItemPlace, ItemSort, find_item};
 use crate::shown::write_line;
@@ -51,14 +51,14 @@ impl<'a> RefusedSolution<'a> {
         ensures broken { IfOk result
             (λ s. IsBroken subject.entry.text.now detail.now s.broken) }
     {
-        let place = solution_place(subject, number)?;
+        let mark = find_item(subject, ItemSort::Solutions, number)?;
         let broken = broken_place(subject, detail)?;
         let (problem, solution) = read_solution(subject.alloc, subject.text, number)?;
         Ok(RefusedSolution {
             problem,
             solution,
             number,
-            place,
+            place: mark.map(|mark| KnownPlace::of(subject.text, mark.name)),
             broken,
         })
     }
@@ -74,14 +74,10 @@ impl<'a> RefusedSolution<'a> {
         };
         write!(page, "error: solution {number} `{name}` {fault}\n");
         if let Some(place) = self.place {
-            place.write(page, file, PlaceLabel::Words("this solution"));
+            place.write(page, file, "this solution");
         }
         match detail {
-            Detail::NotWhole {
-                variable,
-                value,
-                ..
-            } => write_not_whole(page, &self.problem, *variable, *value),
+            Detail::NotWhole { variable, .. } => write_not_whole(page, self, *variable),
             Detail::Breaks {
                 constraint,
                 left,
@@ -102,29 +98,12 @@ impl<'a> RefusedSolution<'a> {
     }
 }
 
-// The place of a solution.
-fn solution_place(subject: Subject<'_>, number: u32) -> Result<Option<KnownPlace<'_>>, AllocError>
-    ensures { IfOk result (IsSolutionPlace subject.entry.text.now number) }
-{
-    match find_item(subject.alloc, subject.text, ItemSort::Solutions, number)? {
-        Some(mark) => Ok(Some(KnownPlace::of(subject.text, mark.name))),
-        None => Ok(None),
-    }
-}
-
 // The place of the constraint that a solution breaks, if that is the fault.
 fn broken_place(subject: Subject<'_>, detail: &Detail) -> Result<Option<ItemPlace>, AllocError>
     ensures { IfOk result (IsBroken subject.entry.text.now detail.now) }
 {
     match detail {
-        Detail::Breaks { constraint, .. } => {
-            find_item(
-                subject.alloc,
-                subject.text,
-                ItemSort::Constraints,
-                *constraint,
-            )
-        }
+        Detail::Breaks { constraint, .. } => find_item(subject, ItemSort::Constraints, *constraint),
         _ => Ok(None),
     }
 }
@@ -133,8 +112,10 @@ pub(crate) const PAST_LIMIT: &str =
     "  = help: docs/FORMAT.md says what can help when a number is past the limit\n";
 
 // Writes which variable isn't whole.
-fn write_not_whole(page: &mut Page, problem: &Problem, index: u32, value: Frac) {
+fn write_not_whole(page: &mut Page, known: &RefusedSolution<'_>, index: u32) {
+    let problem = &known.problem;
     let name = VariableName { problem, index };
+    let value = known.solution.item.0.coefficient(index);
     write!(
         page,
         "  {name} (variable {index}) is {value} here, and has to be whole (INT)\n  \
@@ -164,18 +145,12 @@ fn write_broken(page: &mut Page, known: &RefusedSolution<'_>, index: u32, left: 
         page,
         "; the left side is {left}, which is not {sign} {right}"
     );
-    let gap = gap_between(left, right);
+    let gap = right.add(left.neg()).ok().map(|gap| size_of(gap));
     if let Some(gap) = gap {
         write!(page, ", off by {gap}");
     }
     let hint = solution_hint(known, constraint, gap);
     write!(page, "\n  = help: {hint}\n");
-}
-
-// How far two numbers are apart, if that fits.
-fn gap_between(left: Frac, right: Frac) -> Option<Frac> {
-    let gap = right.add(left.neg()).ok()?;
-    Some(size_of(gap))
 }
 
 // What is likely to be wrong with a solution that breaks a constraint by so much.
@@ -221,28 +196,11 @@ fn write_values(page: &mut Page, problem: &Problem, row: &Row, solution: &Soluti
     }
 }
 
-/// The objective at a listed solution.
-#[derive(Drop)]
-struct KnownValue {
-    number: u32,
-    name: Name,
-    value: Frac,
-}
-
-impl KnownValue {
-    // Writes it on a line.
-    fn write(&self, page: &mut Page) {
-        let number = self.number;
-        let name = ShownName(&self.name);
-        let value = self.value;
-        write!(page, "solution {number} `{name}`: objective {value}\n");
-    }
-}
-
-/// The objective at the first listed solutions, and its best value at all of them.
+/// The objective at the first listed solutions, behind the number and the name of each, and its
+/// best value at all of them.
 #[derive(Drop)]
 pub(crate) struct ListedValues {
-    first: Vec<KnownValue>,
+    first: Vec<(u32, Name, Frac)>,
     best: Option<Frac>,
     /// Whether the lower bound of the claim is above the upper one.
     is_exchanged: bool,
@@ -275,7 +233,7 @@ impl ListedValues {
         );
         for known in &self.first {
             page.put("  ");
-            known.write(page);
+            write_value(page, known);
         }
         if self.is_exchanged {
             page.put(
@@ -303,13 +261,10 @@ impl ListedValues {
             page.put("no solution is listed\n");
             return;
         };
-        for known in &self.first {
-            if known.value == best {
-                known.write(page);
-                return;
-            }
+        match self.first.iter().find(|known| known.2 == best) {
+            Some(known) => write_value(page, known),
+            None => write!(page, "a listed solution: objective {best}\n"),
         }
-        write!(page, "a listed solution: objective {best}\n");
     }
 
     // Adds the objective at all solutions that are to come.
@@ -347,14 +302,17 @@ impl ListedValues {
         };
         self.best = better(problem, self.best, value);
         if number < MOST_SOLUTIONS {
-            self.first.push(KnownValue {
-                number,
-                name,
-                value,
-            })?;
+            self.first.push((number, name, value))?;
         } else {
             drop(name);
         }
         Ok(())
     }
+}
+
+// Writes a solution and the objective there on a line.
+fn write_value(page: &mut Page, known: &(u32, Name, Frac)) {
+    let (number, value) = (known.0, known.2);
+    let name = ShownName(&known.1);
+    write!(page, "solution {number} `{name}`: objective {value}\n");
 }

@@ -1,15 +1,15 @@
 //! A derivation that is refused.
 ghost use Rattle.std.specs.Prelude.{◌∷◌, [], IfErr, IfOk};
 ghost use Rattle.vipr_explain.specs.Found.{AreFoundItems, Because, Missed, head_read, text_rest};
-ghost use Rattle.vipr_explain.specs.Refused.{AreFacts, AreNamedBy, IsNamePlace, IsRefusedStep};
-ghost use Rattle.vipr_explain.specs.Refused.{IsRepair, LacksStep};
+ghost use Rattle.vipr_explain.specs.Refused.{AreFacts, AreNamedBy, IsRefusedStep, IsRepair};
+ghost use Rattle.vipr_explain.specs.Refused.{LacksStep};
 
 use crate::drops::LastUse;
-use crate::excerpt::{KnownPlace, PlaceLabel};
+use crate::excerpt::KnownPlace;
 use crate::items::{Items, read_items};
 use crate::marks::mark_of;
 use crate::mends::{Mend, StatedSum, find_mends, is_turned};
-use crate::reason::{ReasonLines, step_indices, write_sources};
+use crate::reason::{step_indices, write_reason, write_sources};
 use crate::shown::PlacedItems;
 use crate::solution::PAST_LIMIT;
 use crate::text::{Reread, Subject};
@@ -73,7 +73,10 @@ impl<'a> RefusedStep<'a> {
         match read_named(subject, fault, &own) {
             Ok((known, facts)) => Ok(RefusedStep {
                 own,
-                place: step_place(subject, &known, fault.index),
+                place: mark_of(known.marks.as_slice(), fault.index).map(|mark| KnownPlace::of(
+                    subject.text,
+                    mark.name,
+                )),
                 known,
                 facts,
                 profile: subject.profile,
@@ -95,16 +98,11 @@ impl<'a> RefusedStep<'a> {
         write!(page, "error: derivation {index} `{name}` ");
         write_fault(page, fault);
         if let Some(place) = self.place {
-            place.write(page, file, PlaceLabel::Words("this derivation"));
+            place.write(page, file, "this derivation");
         }
         let problem = &self.known.items.problem;
         write_labelled(page, problem, "  it states    ", &own.constraint);
-        let reason = ReasonLines {
-            known: &self.known,
-            fault,
-            reason: &own.reason,
-        };
-        reason.write(page);
+        write_reason(page, &self.known, fault, &own.reason);
         write_facts(page, self, &own.reason, fault.what);
         write_help(page, fault.cause, problem.cons().len());
         if let StepFacts::Dropped(dropped) = &self.facts {
@@ -184,16 +182,6 @@ impl<'a> StepFacts<'a> {
     }
 }
 
-// The place of a derivation.
-fn step_place<'a>(subject: Subject<'a>, known: &PlacedItems, index: u32) -> Option<KnownPlace<'a>>
-    ensures { IsNamePlace subject.entry.text.now known.now.marks.items index result }
-{
-    match mark_of(known.marks.as_slice(), index) {
-        Some(mark) => Some(KnownPlace::of(subject.text, mark.name)),
-        None => None,
-    }
-}
-
 // The right-hand side that `rnd` gives in place of `lin`, if that is enough.
 fn rounding_of(
     ints: &Ints,
@@ -254,27 +242,36 @@ fn write_facts(page: &mut Page, refused: &RefusedStep<'_>, reason: &Reason, what
                     "  = help: `rnd` in place of `lin` rounds the right-hand side to {side}\n"
                 );
             }
-            if let Reason::Sol = reason {
-                page.put(NOTHING_BETTER);
+            let help = if let Reason::Sol = reason {
+                "  = help: state what was computed: `sol` gives the best listed value, and nothing \
+                 better\n"
             } else if is_turned(computed, stated, differences) {
-                page.put(OTHER_SIGN);
+                "  = help: each coefficient has the other sign: multiply all multipliers by -1\n"
             } else {
                 for mend in mends {
                     mend.write(page, items);
                 }
-                page.put(STATE_OR_MEND);
-            }
+                "  = help: state what was computed, or mend the reason: a multiplier, which \
+                 constraints it names, or a number in one of them\n"
+            };
+            page.put(help);
         }
         (StepDetail::Sum(sum), StepFacts::Sum(faults)) => {
             write_labelled(page, problem, "    sum        ", sum);
             write_faults(page, problem, faults);
-            page.put(NO_ROUNDING);
+            page.put(
+                "  = help: `lin` in place of `rnd` proves this sum as it is; or choose multipliers \
+                 with which all coefficients are whole\n",
+            );
         }
         (StepDetail::Pair(first, second), StepFacts::Pair(faults, is_split)) => {
             write_labelled(page, problem, "    first      ", first);
             write_labelled(page, problem, "    second     ", second);
             if first.row.entries() != second.row.entries() {
-                page.put(OTHER_ROWS);
+                page.put(
+                    "    they are about different rows: a split is of one row, at most k and at \
+                     least k + 1\n",
+                );
             } else if faults.is_empty() {
                 write_gap(page, refused.profile, *is_split, first, second);
             } else {
@@ -284,22 +281,6 @@ fn write_facts(page: &mut Page, refused: &RefusedStep<'_>, reason: &Reason, what
         _ => {}
     }
 }
-
-const NOTHING_BETTER: &str =
-    "  = help: state what was computed: `sol` gives the best listed value, \
-    and nothing better\n";
-
-const OTHER_SIGN: &str =
-    "  = help: each coefficient has the other sign: multiply all multipliers by -1\n";
-
-const STATE_OR_MEND: &str = "  = help: state what was computed, or mend the reason: a multiplier, \
-    which constraints it names, or a number in one of them\n";
-
-const NO_ROUNDING: &str = "  = help: `lin` in place of `rnd` proves this sum as it is; or choose \
-    multipliers with which all coefficients are whole\n";
-
-const OTHER_ROWS: &str =
-    "    they are about different rows: a split is of one row, at most k and at least k + 1\n";
 
 // Writes which two sides are a split, and which these are.
 fn write_gap(

@@ -3,8 +3,8 @@ ghost use Rattle.std.specs.Prelude.{◌≡◌, ◌+◌, ◌↔◌, IsTrue, lengt
 ghost use Rattle.vipr_explain.specs.Syntax.{IsFoundAt, found_at_start, found_behind};
 ghost use Rattle.vipr_explain.specs.Words.{span_of};
 
-use crate::excerpt::{KnownPlace, PlaceLabel, part_of};
-use crate::hints::{TokenFault, write_hints};
+use crate::excerpt::{KnownPlace, part_of};
+use crate::hints::write_hint;
 use crate::text::{Span, Spot};
 use crate::wanted::{Section, TextProgress, Wanted};
 use crate::wanted_words::write_wanted;
@@ -14,8 +14,8 @@ use vipr_page::{CutBytes, Page};
 
 /// How far a text was read before the token at a fault, and that token.
 #[derive(Clone, Copy)]
-struct FaultToken {
-    progress: TextProgress,
+pub(crate) struct FaultToken {
+    pub(crate) progress: TextProgress,
     /// The name of the item that the token is in, empty before that is read.
     name: Span,
     word: Span,
@@ -60,9 +60,9 @@ impl FaultToken {
 /// A fault of a text: the token at it, and its place.
 #[derive(Clone, Copy)]
 pub(crate) struct TextFault<'a> {
-    found: FaultToken,
-    name: &'a [u8],
-    word: &'a [u8],
+    pub(crate) found: FaultToken,
+    pub(crate) name: &'a [u8],
+    pub(crate) word: &'a [u8],
     /// Whether the text ends with the token's last byte.
     is_last: bool,
     place: KnownPlace<'a>,
@@ -92,35 +92,33 @@ impl<'a> TextFault<'a> {
 
     /// Writes the page of a fault of this cause.
     pub(crate) fn write(&self, page: &mut Page, cause: u8, file: &[u8]) {
-        let found = &self.found;
+        let progress = &self.found.progress;
         let fault = cause::name(cause);
+        let (wanted, label) = if self.found.is_end {
+            (
+                "the text ends where this is wanted: ",
+                "the text ends behind this",
+            )
+        } else {
+            ("wanted ", "this was found")
+        };
         write!(page, "error: {fault}: ");
         if cause == cause::TRAILING_TEXT {
             page.put("text behind the last derivation");
         } else {
-            page.put(if found.is_end {
-                "the text ends where this is wanted: "
-            } else {
-                "wanted "
-            });
-            write_wanted(page, &found.progress);
+            page.put(wanted);
+            write_wanted(page, progress);
         }
         page.put("\n");
-        let label = PlaceLabel::Words(if found.is_end {
-            "the text ends behind this"
-        } else {
-            "this was found"
-        });
         self.place.write(page, file, label);
-        write_context(page, &found.progress, self.name);
-        let fault = TokenFault {
-            cause,
-            progress: found.progress,
-            name: self.name,
-            word: self.word,
-            is_last: self.is_last && !found.is_end,
-        };
-        write_hints(page, fault);
+        write_context(page, progress, self.name);
+        let is_begun = !matches!(progress.section, Section::Version) && !self.found.is_end;
+        if is_begun && self.is_last && cause != cause::TRAILING_TEXT {
+            page.put("  = help: the text ends with this token: is the file cut?\n");
+        }
+        page.put("  = help: ");
+        write_hint(page, cause, self);
+        page.put("\n");
     }
 }
 
@@ -134,42 +132,21 @@ fn ends_text(span: Span, text: &[u8]) -> bool
 // Writes which part of which item was being read.
 fn write_context(page: &mut Page, progress: &TextProgress, name: &[u8]) {
     let keyword = progress.section.keyword();
+    let (item, _) = progress.section.words();
     write!(page, "  = reading: {keyword}");
-    if has_items(progress.section) && !is_in_head(progress.wanted) {
-        let item = progress.section.item();
-        let index = progress.index();
-        let number = progress.item.saturating_add(1);
-        let items = progress.items;
-        write!(page, ", {item} {index} ({number} of {items})");
-        if has_name(progress) {
-            let name = CutBytes(name);
-            write!(page, ", `{name}`");
+    match progress.wanted {
+        Wanted::Keyword | Wanted::Count | Wanted::BoundCount | Wanted::Nothing => {}
+        _ if item.is_empty() => {}
+        wanted => {
+            let index = progress.index();
+            let number = progress.item.saturating_add(1);
+            let items = progress.items;
+            write!(page, ", {item} {index} ({number} of {items})");
+            if !matches!(wanted, Wanted::IntegerIndex | Wanted::Name) {
+                let name = CutBytes(name);
+                write!(page, ", `{name}`");
+            }
         }
     }
     page.put("\n");
-}
-
-// Whether a section has items.
-fn has_items(section: Section) -> bool {
-    !matches!(
-        section,
-        Section::Version | Section::Objective | Section::Claim
-    )
-}
-
-// Whether this is wanted before the items.
-fn is_in_head(wanted: Wanted) -> bool {
-    matches!(
-        wanted,
-        Wanted::Keyword | Wanted::Count | Wanted::BoundCount | Wanted::Nothing
-    )
-}
-
-// Whether the name of the item was read.
-fn has_name(progress: &TextProgress) -> bool {
-    match (progress.section, progress.wanted) {
-        (Section::Integers, _) => false,
-        (_, Wanted::Name) => false,
-        _ => true,
-    }
 }

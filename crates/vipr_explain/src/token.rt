@@ -1,15 +1,16 @@
 //! What a token looks like, for those who have to guess what was meant by it.
 
-use crate::wanted::{Section, is_word};
+use crate::wanted::{KEYWORDS, is_word};
 use vipr_frac::Frac;
 use vipr_page::fraction_of;
 
 /// What a token looks like.
 #[derive(Clone, Copy)]
 pub(crate) enum Look {
-    Keyword(Section),
-    /// A keyword but for capitals.
-    SmallKeyword(Section),
+    /// It is the keyword of a section.
+    Heading,
+    /// It is one but for capitals.
+    SmallHeading,
     NotAscii,
     /// It ends with a comma or a semicolon.
     Separated,
@@ -23,50 +24,34 @@ pub(crate) enum Look {
     Word,
 }
 
+const INFINITIES: [&[u8]; 3] = [b"inf", b"infinity", b"infty"];
+
 impl Look {
     /// What these bytes look like.
     pub(crate) fn of(word: &[u8]) -> Look {
-        match (section_of(word), word) {
-            (Some(section), _) if is_word(word, section.keyword()) => Look::Keyword(section),
-            (Some(section), _) => Look::SmallKeyword(section),
+        let number = match word {
+            [b'+' | b'-', number @ ..] => number,
+            _ => word,
+        };
+        match (keyword_of(word), fraction_of(word)) {
+            (Some(keyword), _) if is_word(word, keyword) => Look::Heading,
+            (Some(_), _) => Look::SmallHeading,
             _ if !word.is_ascii() => Look::NotAscii,
-            (_, [_, .., b',' | b';']) => Look::Separated,
-            (_, [b'+' | b'-', number @ ..]) => Look::of_number(word, number),
-            _ => Look::of_number(word, word),
-        }
-    }
-
-    // What it looks like, by the bytes behind its sign.
-    fn of_number(word: &[u8], number: &[u8]) -> Look {
-        if is_infinity(number) {
-            return Look::Infinity;
-        }
-        match (number, fraction_of(word)) {
+            _ if matches!(word, [_, .., b',' | b';']) => Look::Separated,
+            _ if INFINITIES.iter().any(|it| it.eq_ignore_ascii_case(number)) => Look::Infinity,
             (_, Some(fraction)) => Look::Decimal(fraction),
-            ([b'0'..=b'9' | b'.', others @ ..], None) => {
-                if others.contains(&b'/') {
-                    Look::Fraction
-                } else if others.contains(&b',') {
-                    Look::Comma
-                } else if others.contains(&b'e') || others.contains(&b'E') {
-                    Look::Exponent
-                } else {
-                    Look::Number
-                }
-            }
-            _ => Look::Word,
+            _ if !matches!(number, [b'0'..=b'9' | b'.', ..]) => Look::Word,
+            _ if number.contains(&b'/') => Look::Fraction,
+            _ if number.contains(&b',') => Look::Comma,
+            _ if number.contains(&b'e') || number.contains(&b'E') => Look::Exponent,
+            _ => Look::Number,
         }
     }
 }
 
-// The section whose keyword these bytes are, but for capitals.
-fn section_of(word: &[u8]) -> Option<Section> {
-    Section::ALL.into_iter().find(|section| word.eq_ignore_ascii_case(section.keyword().as_bytes()))
-}
-
-// Whether a number means that there is no bound.
-fn is_infinity(number: &[u8]) -> bool {
-    number.eq_ignore_ascii_case(b"inf")
-        || number.eq_ignore_ascii_case(b"infinity")
-        || number.eq_ignore_ascii_case(b"infty")
+/// The keyword that these bytes are, but for capitals.
+pub(crate) fn keyword_of(word: &[u8]) -> Option<&'static str> {
+    KEYWORDS
+        .into_iter()
+        .find(|keyword| word.eq_ignore_ascii_case(keyword.as_bytes()))
 }

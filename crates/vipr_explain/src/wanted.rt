@@ -2,10 +2,8 @@
 ghost use Rattle.std.specs.Prelude.{◌≡◌};
 ghost use Rattle.std.specs.Str.{bytes_eq};
 ghost use Rattle.vipr_explain.specs.Progress.{at_start, count_passed, count_spelled};
-ghost use Rattle.vipr_explain.specs.Progress.{first_of, first_of_item, first_of_reason, index_of};
-ghost use Rattle.vipr_explain.specs.Progress.{item_begun, item_ended, name_passed, next_section};
-ghost use Rattle.vipr_explain.specs.Progress.{part_begun, part_ended, parts_begun, passed};
-ghost use Rattle.vipr_explain.specs.Progress.{row_ended, section_ended};
+ghost use Rattle.vipr_explain.specs.Progress.{first_of_reason, index_of, item_begun, next_section};
+ghost use Rattle.vipr_explain.specs.Progress.{part_begun, passed, section_ended};
 
 /// The sections of a certificate, in their order.
 #[derive(Clone, Copy)]
@@ -65,42 +63,26 @@ pub(crate) struct TextProgress {
     pub(crate) parts: u32,
 }
 
-impl Section {
-    /// All of them.
-    pub(crate) const ALL: [Section; 8] = [
-        Section::Version,
-        Section::Variables,
-        Section::Integers,
-        Section::Objective,
-        Section::Constraints,
-        Section::Claim,
-        Section::Solutions,
-        Section::Derivations,
-    ];
+/// The keywords of the sections, in their order.
+pub(crate) const KEYWORDS: [&str; 8] = ["VER", "VAR", "INT", "OBJ", "CON", "RTP", "SOL", "DER"];
 
+impl Section {
     /// Its keyword.
     pub(crate) fn keyword(self) -> &'static str {
-        match self {
-            Section::Version => "VER",
-            Section::Variables => "VAR",
-            Section::Integers => "INT",
-            Section::Objective => "OBJ",
-            Section::Constraints => "CON",
-            Section::Claim => "RTP",
-            Section::Solutions => "SOL",
-            Section::Derivations => "DER",
-        }
+        KEYWORDS[self as usize]
     }
 
-    /// What one of its items is.
-    pub(crate) fn item(self) -> &'static str {
+    /// What one of its items is, if it has any, and what it is without an item.
+    pub(crate) fn words(self) -> (&'static str, &'static str) {
         match self {
-            Section::Variables => "variable",
-            Section::Integers => "integer variable",
-            Section::Constraints => "constraint",
-            Section::Solutions => "solution",
-            Section::Derivations => "derivation",
-            Section::Version | Section::Objective | Section::Claim => "item",
+            Section::Version => ("", "`VER 1.0`"),
+            Section::Variables => ("variable", "`VAR COUNT NAME ..`"),
+            Section::Integers => ("integer variable", "`INT 0` if no variable is integer"),
+            Section::Objective => ("", "`OBJ min 0` if there is no objective"),
+            Section::Constraints => ("constraint", "`CON 0 0` if there is no constraint"),
+            Section::Claim => ("", "`RTP infeas` or `RTP range LOWER UPPER`"),
+            Section::Solutions => ("solution", "`SOL 0` if none is listed"),
+            Section::Derivations => ("derivation", "`DER 0` if nothing is derived"),
         }
     }
 
@@ -117,28 +99,6 @@ impl Section {
             Section::Claim => Some(Section::Solutions),
             Section::Solutions => Some(Section::Derivations),
             Section::Derivations => None,
-        }
-    }
-
-    // What follows its keyword.
-    fn first(self) -> Wanted
-        ensures { result ≡ first_of self }
-    {
-        match self {
-            Section::Version => Wanted::Version,
-            Section::Objective => Wanted::Direction,
-            Section::Claim => Wanted::Claim,
-            _ => Wanted::Count,
-        }
-    }
-
-    // What one of its items begins with.
-    fn first_of_item(self) -> Wanted
-        ensures { result ≡ first_of_item self }
-    {
-        match self {
-            Section::Integers => Wanted::IntegerIndex,
-            _ => Wanted::Name,
         }
     }
 }
@@ -174,35 +134,42 @@ impl TextProgress {
     pub(crate) fn pass(&mut self, word: &[u8])
         ensures { self.new ≡ passed self.old word.now }
     {
+        let next_item = self.item.saturating_add(1);
+        let next_part = self.part.saturating_add(1);
         match self.wanted {
-            Wanted::Keyword => self.wanted = self.section.first(),
-            Wanted::Version => self.end_section(),
+            Wanted::Keyword => match self.section {
+                Section::Version => self.wanted = Wanted::Version,
+                Section::Objective => self.wanted = Wanted::Direction,
+                Section::Claim => self.wanted = Wanted::Claim,
+                _ => self.wanted = Wanted::Count,
+            },
             Wanted::Count => self.pass_count(count_of(word)),
-            Wanted::BoundCount => self.begin_item(),
-            Wanted::Name => self.pass_name(),
-            Wanted::IntegerIndex => self.end_item(),
-            Wanted::Direction => self.wanted = Wanted::RowCount,
+            Wanted::BoundCount => self.begin_item(0),
+            Wanted::Name => match self.section {
+                Section::Variables => self.begin_item(next_item),
+                Section::Solutions => self.wanted = Wanted::RowCount,
+                _ => self.wanted = Wanted::Sense,
+            },
             Wanted::Sense => self.wanted = Wanted::RightHandSide,
-            Wanted::RightHandSide => self.wanted = Wanted::RowCount,
-            Wanted::RowCount => self.begin_parts(Wanted::RowIndex, count_of(word)),
+            Wanted::Direction | Wanted::RightHandSide => self.wanted = Wanted::RowCount,
+            Wanted::RowCount => self.begin_part(Wanted::RowIndex, 0, count_of(word)),
             Wanted::RowIndex => self.wanted = Wanted::RowCoefficient,
-            Wanted::RowCoefficient => self.end_part(Wanted::RowIndex),
+            Wanted::RowCoefficient => self.begin_part(Wanted::RowIndex, next_part, self.parts),
             Wanted::Claim if is_word(word, "range") => self.wanted = Wanted::LowerBound,
-            Wanted::Claim => self.end_section(),
             Wanted::LowerBound => self.wanted = Wanted::UpperBound,
-            Wanted::UpperBound => self.end_section(),
+            Wanted::Version | Wanted::Claim | Wanted::UpperBound => self.end_section(),
             Wanted::OpenBrace => self.wanted = Wanted::Reason,
             Wanted::Reason => {
                 self.part = 0;
                 self.parts = 4;
                 self.wanted = first_of_reason(word);
             }
-            Wanted::EntryCount => self.begin_parts(Wanted::EntryIndex, count_of(word)),
+            Wanted::EntryCount => self.begin_part(Wanted::EntryIndex, 0, count_of(word)),
             Wanted::EntryIndex => self.wanted = Wanted::EntryMultiplier,
-            Wanted::EntryMultiplier => self.end_part(Wanted::EntryIndex),
-            Wanted::Branch => self.end_part(Wanted::Branch),
+            Wanted::EntryMultiplier => self.begin_part(Wanted::EntryIndex, next_part, self.parts),
+            Wanted::Branch => self.begin_part(Wanted::Branch, next_part, self.parts),
             Wanted::CloseBrace => self.wanted = Wanted::LastReference,
-            Wanted::LastReference => self.end_item(),
+            Wanted::IntegerIndex | Wanted::LastReference => self.begin_item(next_item),
             Wanted::Nothing => {}
         }
     }
@@ -224,90 +191,45 @@ impl TextProgress {
     fn pass_count(&mut self, count: u32)
         ensures { self.new ≡ count_passed self.old.section self.old count }
     {
-        self.item = 0;
         self.items = count;
         match self.section {
             Section::Variables => {
                 self.variables = count;
-                self.begin_item();
+                self.begin_item(0);
             }
             Section::Constraints => {
                 self.constraints = count;
                 self.wanted = Wanted::BoundCount;
             }
-            _ => self.begin_item(),
+            _ => self.begin_item(0),
         }
     }
 
-    // Begins the next item, if there is one.
-    fn begin_item(&mut self)
-        ensures { self.new ≡ item_begun self.old }
+    // Begins the item of this position, if there is one; else the section ends.
+    fn begin_item(&mut self, item: u32)
+        ensures { self.new ≡ item_begun item self.old }
     {
-        if self.item < self.items {
-            self.wanted = self.section.first_of_item();
-        } else {
-            self.end_section();
-        }
-    }
-
-    // Ends an item.
-    fn end_item(&mut self)
-        ensures { self.new ≡ item_ended self.old }
-    {
-        self.item = self.item.saturating_add(1);
-        self.begin_item();
-    }
-
-    // Passes the name of an item.
-    fn pass_name(&mut self)
-        ensures { self.new ≡ name_passed self.old.section self.old }
-    {
+        self.item = item;
         match self.section {
-            Section::Variables => self.end_item(),
-            Section::Solutions => self.wanted = Wanted::RowCount,
-            _ => self.wanted = Wanted::Sense,
+            _ if item >= self.items => self.end_section(),
+            Section::Integers => self.wanted = Wanted::IntegerIndex,
+            _ => self.wanted = Wanted::Name,
         }
     }
 
-    // Begins so many parts of the item, each of which begins with this.
-    fn begin_parts(&mut self, part: Wanted, count: u32)
-        ensures { self.new ≡ parts_begun part count self.old }
+    // Begins the part of this position, of so many, with this; behind the last one the row or the
+    // reason ends.
+    fn begin_part(&mut self, first: Wanted, part: u32, parts: u32)
+        ensures { self.new ≡ part_begun first part parts self.old }
     {
-        self.part = 0;
-        self.parts = count;
-        self.begin_part(part);
-    }
-
-    // Ends a part of the item.
-    fn end_part(&mut self, part: Wanted)
-        ensures { self.new ≡ part_ended part self.old }
-    {
-        self.part = self.part.saturating_add(1);
-        self.begin_part(part);
-    }
-
-    // Begins the next part of the item, if there is one; else its row or its reason ends.
-    fn begin_part(&mut self, part: Wanted)
-        ensures { self.new ≡ part_begun part self.old }
-    {
-        if self.part < self.parts {
-            self.wanted = part;
-            return;
-        }
-        match part {
-            Wanted::RowIndex => self.end_row(),
+        self.part = part;
+        self.parts = parts;
+        match (first, self.section) {
+            _ if part < parts => self.wanted = first,
+            (Wanted::RowIndex, Section::Objective) => self.end_section(),
+            (Wanted::RowIndex, Section::Derivations) => self.wanted = Wanted::OpenBrace,
+            (Wanted::RowIndex, _) => self.begin_item(self.item.saturating_add(1)),
             _ => self.wanted = Wanted::CloseBrace,
-        }
-    }
-
-    // Ends a row.
-    fn end_row(&mut self)
-        ensures { self.new ≡ row_ended self.old.section self.old }
-    {
-        match self.section {
-            Section::Objective => self.end_section(),
-            Section::Derivations => self.wanted = Wanted::OpenBrace,
-            _ => self.end_item(),
         }
     }
 }

@@ -1,7 +1,7 @@
 //! The whole explanation of a verdict: what is found for it, and how that is shown.
 ghost use Rattle.std.specs.Prelude.{IfErr};
 ghost use Rattle.vipr_explain.specs.Found.{Because};
-ghost use Rattle.vipr_explain.specs.Refused.{LacksItem, LacksPlace, LacksStep};
+ghost use Rattle.vipr_explain.specs.Refused.{LacksItem};
 
 use crate::goal::{ProvedClaim, UnprovedClaim};
 use crate::solution::{ListedValues, RefusedSolution};
@@ -9,7 +9,7 @@ use crate::step::{RefusedStep, StepFault};
 use crate::syntax::TextFault;
 use crate::text::{Reread, Subject};
 use std::alloc::Global;
-use vipr_check::{Detail, Place, Refusal, Report, Verdict};
+use vipr_check::{Detail, Place, Report, Verdict};
 use vipr_frac::Frac;
 use vipr_page::Page;
 use vipr_rules::Profile;
@@ -43,7 +43,8 @@ pub fn page_for(
     detail: &Detail,
 ) -> Option<Page> {
     let Some(text) = text else {
-        return Page::begun(alloc, NO_WHOLE_TEXT).end();
+        let why = "\na read failed behind what is refused, so it isn't explained\n";
+        return Page::begun(alloc, why).end();
     };
     let subject = Subject {
         alloc,
@@ -62,70 +63,40 @@ pub fn page_for(
             page.end()
         }
         Err(TextError::Memory) => None,
-        Err(_) => Page::begun(alloc, ANOTHER_TEXT).end(),
+        Err(_) => {
+            let why = "\nthe verdict isn't one of this text, so it isn't explained\n";
+            Page::begun(alloc, why).end()
+        }
     }
 }
-
-// What stands in the place of a page.
-const NO_WHOLE_TEXT: &str = "\na read failed behind what is refused, so it isn't explained\n";
-
-const ANOTHER_TEXT: &str = "\nthe verdict isn't one of this text, so it isn't explained\n";
 
 // Finds what explains a verdict.
 fn find<'a>(subject: Subject<'a>, verdict: &'a Verdict, detail: &'a Detail) -> Reread<Findings<'a>>
     ensures { IfErr result (λ m. Because m (LacksItem subject.entry.text.now verdict.now)) }
 {
-    match verdict {
+    let refusal = match verdict {
         Verdict::Verified(report) => {
-            Ok(Findings::Proved(ProvedClaim::find(subject, report)?, report))
+            return Ok(Findings::Proved(ProvedClaim::find(subject, report)?, report));
         }
-        Verdict::Refused(refusal) => find_refusal(subject, *refusal, detail),
-    }
-}
-
-// Finds what explains a refusal.
-fn find_refusal<'a>(
-    subject: Subject<'a>,
-    refusal: Refusal,
-    detail: &'a Detail,
-) -> Reread<Findings<'a>>
-    ensures { IfErr result (λ m. Because m (LacksPlace subject.entry.text.now refusal.place)) }
-{
+        Verdict::Refused(refusal) => *refusal,
+    };
     let cause = refusal.cause;
-    match refusal.place {
-        Place::Byte(offset) => Ok(Findings::Text(TextFault::find(subject.text, offset), cause)),
-        Place::Sol(number) => {
+    match (refusal.place, detail) {
+        (Place::Byte(offset), _) => {
+            Ok(Findings::Text(TextFault::find(subject.text, offset), cause))
+        }
+        (Place::Sol(number), _) => {
             let known = RefusedSolution::find(subject, number, detail)?;
             Ok(Findings::Solution(known, detail))
         }
-        Place::Der(index) => find_step(subject, cause, index, detail),
-        Place::End => find_end(subject, detail),
-    }
-}
-
-// Finds what explains the refusal of a derivation.
-fn find_step<'a>(
-    subject: Subject<'a>,
-    cause: u8,
-    index: u32,
-    detail: &'a Detail,
-) -> Reread<Findings<'a>>
-    ensures { IfErr result (λ m. Because m (LacksStep subject.entry.text.now index)) }
-{
-    match detail {
-        Detail::Step { what, .. } => {
+        (Place::Der(index), Detail::Step { what, .. }) => {
             let fault = StepFault { cause, index, what };
             Ok(Findings::Step(RefusedStep::find(subject, fault)?, fault))
         }
-        _ => Ok(Findings::Nothing),
-    }
-}
-
-// Finds what explains that a claim isn't proved, or not attained.
-fn find_end<'a>(subject: Subject<'a>, detail: &Detail) -> Reread<Findings<'a>> {
-    match detail {
-        Detail::NoProof(_) => Ok(Findings::NoProof(UnprovedClaim::find(subject)?)),
-        Detail::NoPrimal(bound) => Ok(Findings::NoPrimal(ListedValues::find(subject)?, *bound)),
+        (Place::End, Detail::NoProof(_)) => Ok(Findings::NoProof(UnprovedClaim::find(subject)?)),
+        (Place::End, Detail::NoPrimal(bound)) => {
+            Ok(Findings::NoPrimal(ListedValues::find(subject)?, *bound))
+        }
         _ => Ok(Findings::Nothing),
     }
 }
