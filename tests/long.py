@@ -522,7 +522,7 @@ def texts_of_pages():
             if is_bytes:
                 continue
             text = re.sub(r'\\\n\s*', '', literal).replace('\\n', '\n').replace('\\"', '"').replace('\\\\', '\\')
-            parts = re.split(r'\{\w*\}', text.replace('{{', '{').replace('}}', '}'))
+            parts = re.split(r'\{[\w:]*\}', text.replace('{{', '{').replace('}}', '}'))
             yield f'{file.parent.parent.name}/{file.name}', text, '.*'.join(map(re.escape, parts))
 
 

@@ -125,6 +125,7 @@ fn width_of_all(bytes: &[u8]) -> usize {
 }
 
 // How many columns a byte takes on a page.
+#[tactic(auto, unfolding(vipr_page::specs::Page::line_byte))]
 fn width_of(byte: u8) -> usize
     ensures { result ≡ length (line_byte byte) }
 {

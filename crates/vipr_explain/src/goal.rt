@@ -116,11 +116,7 @@ impl UnprovedClaim {
         page.put("wanted: a constraint that rests on no assumption and ");
         match self.bound() {
             Some(constraint) => {
-                let problem = &self.items.items.problem;
-                let algebra = Algebra {
-                    problem,
-                    constraint,
-                };
+                let algebra = Algebra(&self.items.items.problem, constraint);
                 write!(page, "says {algebra} or stronger\n");
             }
             None => page.put("is absurd, as 0 >= 1\n"),

@@ -45,8 +45,7 @@ impl Mend {
         let multiplier = self.multiplier;
         match self.variable {
             Some(index) => {
-                let problem = &items.problem;
-                let name = VariableName { problem, index };
+                let name = VariableName(&items.problem, index);
                 write!(page, "  = help: the coefficient of {name} is");
             }
             None => page.put("  = help: all coefficients are"),
@@ -57,8 +56,7 @@ impl Mend {
             None => write!(page, " for one more entry, [{index}]"),
         }
         if let Some(name) = items.name(index) {
-            let name = ShownName(name);
-            write!(page, " {name}");
+            write!(page, " {}", ShownName(name.as_bytes()));
         }
         page.put(if self.is_enough {
             ", and the derivation follows\n"

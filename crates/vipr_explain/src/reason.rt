@@ -146,10 +146,7 @@ pub(crate) fn write_sources(
     entries: &[(u32, Frac)],
     variable: u32,
 ) {
-    let name = VariableName {
-        problem: &items.problem,
-        index: variable,
-    };
+    let name = VariableName(&items.problem, variable);
     write!(page, "      {name} comes from");
     let mut count: usize = 0;
     let mut is_whole = true;

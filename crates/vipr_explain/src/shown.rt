@@ -30,17 +30,11 @@ impl PlacedItems {
         let items = &self.items;
         write!(page, "[{index}] ");
         if let Some(name) = items.name(index) {
-            let name = ShownName(name);
-            write!(page, "{name}");
+            write!(page, "{}", ShownName(name.as_bytes()));
         }
         page.put("  ");
         if let Some(constraint) = items.constraint(index) {
-            let problem = &items.problem;
-            let algebra = Algebra {
-                problem,
-                constraint,
-            };
-            write!(page, "{algebra}");
+            write!(page, "{}", Algebra(&items.problem, constraint));
         }
         write_line(page, mark_of(self.marks.as_slice(), index));
     }

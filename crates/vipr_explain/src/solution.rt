@@ -66,7 +66,7 @@ impl<'a> RefusedSolution<'a> {
     /// Writes the page of the solution, which is refused so.
     pub(crate) fn write(&self, page: &mut Page, detail: &Detail, file: &[u8]) {
         let number = self.number;
-        let name = ShownName(&self.solution.name);
+        let name = ShownName(self.solution.name.as_bytes());
         let fault = match detail {
             Detail::NotWhole { .. } => "is not whole at an integer variable",
             Detail::Breaks { .. } => "breaks a constraint",
@@ -114,7 +114,7 @@ pub(crate) const PAST_LIMIT: &str =
 // Writes which variable isn't whole.
 fn write_not_whole(page: &mut Page, known: &RefusedSolution<'_>, index: u32) {
     let problem = &known.problem;
-    let name = VariableName { problem, index };
+    let name = VariableName(problem, index);
     let value = known.solution.item.0.coefficient(index);
     write!(
         page,
@@ -129,12 +129,9 @@ fn write_broken(page: &mut Page, known: &RefusedSolution<'_>, index: u32, left: 
     let Some(broken) = problem.cons().get(index as usize) else {
         return;
     };
-    let name = ShownName(&broken.name);
+    let name = ShownName(broken.name.as_bytes());
     let constraint = &broken.item;
-    let algebra = Algebra {
-        problem,
-        constraint,
-    };
+    let algebra = Algebra(problem, constraint);
     write!(page, "  constraint {index} `{name}`: {algebra}");
     write_line(page, known.broken);
     page.put("\n  ");
@@ -185,9 +182,8 @@ fn write_values(page: &mut Page, problem: &Problem, row: &Row, solution: &Soluti
         } else {
             ", "
         };
-        let index = entry.0;
-        let name = VariableName { problem, index };
-        let value = solution.0.coefficient(index);
+        let name = VariableName(problem, entry.0);
+        let value = solution.0.coefficient(entry.0);
         write!(page, "{front}{name} = {value}");
     }
     let count = entries.len();
@@ -313,6 +309,6 @@ impl ListedValues {
 // Writes a solution and the objective there on a line.
 fn write_value(page: &mut Page, known: &(u32, Name, Frac)) {
     let (number, value) = (known.0, known.2);
-    let name = ShownName(&known.1);
+    let name = ShownName(known.1.as_bytes());
     write!(page, "solution {number} `{name}`: objective {value}\n");
 }

@@ -94,7 +94,7 @@ impl<'a> RefusedStep<'a> {
             return;
         };
         let index = fault.index;
-        let name = ShownName(&own.name);
+        let name = ShownName(own.name.as_bytes());
         write!(page, "error: derivation {index} `{name}` ");
         write_fault(page, fault);
         if let Some(place) = self.place {
@@ -307,11 +307,7 @@ fn write_gap(
 
 // Writes a constraint behind a label.
 fn write_labelled(page: &mut Page, problem: &Problem, label: &str, constraint: &Constraint) {
-    let algebra = Algebra {
-        problem,
-        constraint,
-    };
-    write!(page, "{label}{algebra}\n");
+    write!(page, "{label}{}\n", Algebra(problem, constraint));
 }
 
 // Writes what is likely to be wrong; the problem has so many constraints.

@@ -10,7 +10,7 @@ use crate::wanted::{Section, TextProgress, Wanted};
 use crate::wanted_words::write_wanted;
 use crate::words::{TextWord, Words};
 use vipr_check::cause;
-use vipr_page::{CutBytes, Page};
+use vipr_page::{Page, ShownName};
 
 /// How far a text was read before the token at a fault, and that token.
 #[derive(Clone, Copy)]
@@ -143,7 +143,7 @@ fn write_context(page: &mut Page, progress: &TextProgress, name: &[u8]) {
             let items = progress.items;
             write!(page, ", {item} {index} ({number} of {items})");
             if !matches!(wanted, Wanted::IntegerIndex | Wanted::Name) {
-                let name = CutBytes(name);
+                let name = ShownName(name);
                 write!(page, ", `{name}`");
             }
         }

@@ -1,7 +1,7 @@
 -- What a page holds: bytes that a terminal shows as they are.
-use Rattle.std.specs.Prelude.{◌==◌, ◌&&◌, ◌||◌, ◌≡◌, ◌≢◌, ◌⊎◌, ◌<◌, ◌≤◌, ◌/◌, ◌%◌, ◌-◌, ℕ, Bool}
-use Rattle.std.specs.Prelude.{true, false, List, [], ◌∷◌, ◌++◌, codes}
-use Rattle.std.specs.Prelude.{length, slice_index, nat_le, if◌then◌else◌, flat_map}
+use Rattle.std.specs.Prelude.{◌==◌, ◌&&◌, ◌||◌, ◌≡◌, ◌<◌, ◌≤◌, ◌/◌, ◌%◌, ◌-◌, ℕ, Bool, true, false}
+use Rattle.std.specs.Prelude.{List, [], ◌∷◌, ◌++◌, codes, length, slice_index, nat_le, flat_map}
+use Rattle.std.specs.Prelude.{if◌then◌else◌}
 use Rattle.std.specs.Fmt.{digit_glyph}
 use Rattle.std.specs.List.{All}
 
@@ -15,15 +15,12 @@ pub record IsPage (text : List ℕ) : Type 0 where
   pub short : length text ≤ 65536
   pub shown : All (λ b. is_shown b ≡ true) text
 
--- `\xNN`
-abbrev pub escape : ℕ → List ℕ
-escape b = 92 ∷ 120 ∷ digit_glyph false (b / 16) ∷ digit_glyph false (b % 16) ∷ []
-
--- a byte of a stranger's text, which stays on its line: a tab is a space, a line feed is escaped,
--- and a backslash is doubled
-abbrev pub line_byte : ℕ → List ℕ
+-- a byte of a stranger's text, which stays on its line: a tab is a space, a backslash is doubled,
+-- and what isn't printable ASCII, as a line feed, is escaped as `\xNN`
+unfoldable pub line_byte : ℕ → List ℕ
 line_byte b = if b == 9 then 32 ∷ [] else (if b == 92 then 92 ∷ 92 ∷ []
-    else (if nat_le 32 b && nat_le b 126 then b ∷ [] else escape b))
+    else (if nat_le 32 b && nat_le b 126 then b ∷ []
+    else 92 ∷ 120 ∷ digit_glyph false (b / 16) ∷ digit_glyph false (b % 16) ∷ []))
 
 -- bytes of a stranger's text
 abbrev pub shown_bytes : List ℕ → List ℕ
@@ -31,15 +28,9 @@ shown_bytes bytes = flat_map line_byte bytes
 
 -- ---- a page that is cut
 
--- n bytes are whole lines
-abbrev pub AreLines : List ℕ → ℕ → Type 0
-AreLines bytes n = (n ≡ 0) ⊎ (slice_index bytes (n - 1) ≡ 10)
-
--- whole lines are before here, and no line ends behind
-pub record IsLinesEnd (bytes : List ℕ) (n : ℕ) : Type 0 where
-  pub within : n ≤ length bytes
-  pub lines : AreLines bytes n
-  pub last : (k : ℕ) → n ≤ k → k < length bytes → slice_index bytes k ≢ 10
+-- whole lines: the last byte, if there is one, is a line feed
+abbrev pub AreLines : List ℕ → Type 0
+AreLines text = 0 < length text → slice_index text (length text - 1) ≡ 10
 
 -- the last line of a page that is cut
 abbrev pub cut_line : List ℕ
@@ -48,5 +39,5 @@ cut_line = codes ".. the rest is left out\n"
 -- whole lines, and behind them the line that says so
 pub record IsCutPage (text : List ℕ) : Type 0 where
   pub lines : List ℕ
-  pub whole : AreLines lines (length lines)
+  pub whole : AreLines lines
   pub is : text ≡ lines ++ cut_line

@@ -16,12 +16,7 @@ pub record RoundsInto (sense : Sense) (computed stated : ℚ) (k : ℤ) : Type 0
   pub bound : RoundsTo sense computed k
   pub enough : Compares sense (whole k) stated
 
--- the right-hand side that rnd gives, if it is enough
-abbrev pub IsRoundedBound : Sense → ℚ → ℚ → Option ℤ → Type 0
-IsRoundedBound sense computed stated (Some k) = RoundsInto sense computed stated k
-IsRoundedBound sense computed stated None = (k : ℤ) → ¬ RoundsInto sense computed stated k
-
--- the same, if the constraint can be rounded
+-- the right-hand side that rnd gives, if the constraint can be rounded and that is enough
 abbrev pub IsRounded : Ints → Constraint → Constraint → Option ℤ → Type 0
 IsRounded integers computed stated (Some k) = CanRound integers computed stated
     × RoundsInto computed.sense computed.bound stated.bound k

@@ -1,17 +1,16 @@
 -- What keeps a row from being whole
-use Rattle.std.specs.Prelude.{ℕ, List, ◌++◌, ◌==◌, flat_map, not}
+use Rattle.std.specs.Prelude.{ℕ, List, [], ◌∷◌, ◌++◌, ◌==◌, flat_map, if◌then◌else◌}
 use Rattle.std.specs.FinMap.{entries}
 use Rattle.std.specs.FinSet.{contains}
 use Rattle.vipr_spec.specs.Constraint.{Ints, Row}
 use Rattle.vipr_spec.specs.Fraction.{ℚ}
-use Rattle.vipr_page.specs.Differences.{one_if}
 use Rattle.vipr_page.specs.declared.faults.RowFault.{RowFault}
 use Rattle.vipr_page.specs.declared.faults.RowFault.TheVariants.{NotWhole, NotInteger}
 
 -- a coefficient that isn't whole, and a variable that isn't an integer one
 abbrev pub faults_at : Ints → ℕ × ℚ → List RowFault
-faults_at integers e = one_if (not (e.1.denom == 1)) (NotWhole e.0 e.1)
-    ++ one_if (not (contains integers e.0)) (NotInteger e.0)
+faults_at integers e = (if e.1.denom == 1 then [] else NotWhole e.0 e.1 ∷ [])
+    ++ (if contains integers e.0 then [] else NotInteger e.0 ∷ [])
 
 -- none if the row is whole
 abbrev pub row_faults : Ints → Row → List RowFault

@@ -1,6 +1,7 @@
 //! How what a reason gives differs from what a derivation states.
-ghost use Rattle.std.specs.Prelude.{◌≡◌, ◌++◌, IfOk, OnOk};
-ghost use Rattle.vipr_page.specs.Differences.{difference_at, one_if, row_differences};
+ghost use Rattle.std.specs.Prelude.{◌≡◌, IfOk};
+ghost use Rattle.vipr_page.specs.Differences.{addition_at, change_at, difference_at};
+ghost use Rattle.vipr_page.specs.Differences.{row_differences};
 
 use crate::algebra::{VariableName, sign_of, size_of};
 use crate::page::Page;
@@ -9,8 +10,8 @@ use vipr_cert::Problem;
 use vipr_frac::Frac;
 use vipr_linear::{Constraint, Row, Sense};
 
-/// How many differences are shown.
-const MOST_SHOWN: usize = 6;
+/// How many differences, or faults, are shown.
+pub(crate) const MOST_SHOWN: usize = 6;
 
 /// A variable whose coefficients differ in two rows.
 #[derive(Clone, Copy)]
@@ -29,16 +30,29 @@ pub fn row_differences(
 ) -> Result<Vec<Difference>, AllocError>
     ensures { IfOk result (λ found. found.items ≡ row_differences computed.now stated.now) }
 {
-    let mut found = Vec::new(alloc);
-    for entry in computed.entries() {
-        let here = difference_at(computed, stated, entry.0);
-        push_if(&mut found, here.computed != here.stated, here)?;
-    }
-    for other in stated.entries() {
-        let here = difference_at(computed, stated, other.0);
-        push_if(&mut found, here.computed == Frac::zero(), here)?;
-    }
-    Ok(found)
+    let changes = computed.entries().iter();
+    let changes = changes.filter_map(|entry| change_at(computed, stated, entry.0));
+    let additions = stated.entries().iter();
+    let additions = additions.filter_map(|entry| addition_at(computed, stated, entry.0));
+    changes.chain(additions).collect(alloc)
+}
+
+// The difference at an entry of the computed row, if the stated one has another.
+#[tactic(auto, unfolding(crate::specs::Differences::change_at))]
+fn change_at(computed: &Row, stated: &Row, variable: u32) -> Option<Difference>
+    ensures { result ≡ change_at computed.now stated.now variable }
+{
+    let here = difference_at(computed, stated, variable);
+    (here.computed != here.stated).then_some(here)
+}
+
+// The difference at an entry of the stated row, if the computed one has none.
+#[tactic(auto, unfolding(crate::specs::Differences::addition_at))]
+fn addition_at(computed: &Row, stated: &Row, variable: u32) -> Option<Difference>
+    ensures { result ≡ addition_at computed.now stated.now variable }
+{
+    let here = difference_at(computed, stated, variable);
+    (here.computed == Frac::zero()).then_some(here)
 }
 
 // The coefficients of a variable in two rows.
@@ -50,20 +64,6 @@ fn difference_at(computed: &Row, stated: &Row, variable: u32) -> Difference
         computed: computed.coefficient(variable),
         stated: stated.coefficient(variable),
     }
-}
-
-/// Adds an item, if it is wanted.
-pub(crate) fn push_if<T: Copy>(
-    items: &mut Vec<T>,
-    is_wanted: bool,
-    item: T,
-) -> Result<(), AllocError>
-    ensures { OnOk result (items.new.items ≡ items.old.items ++ one_if is_wanted item) }
-{
-    if is_wanted {
-        items.push(item)?;
-    }
-    Ok(())
 }
 
 /// Writes how two constraints differ, whose rows differ so.
@@ -86,18 +86,13 @@ pub fn write_differences(
 // Writes how the senses differ, or else the right-hand sides.
 fn write_sides(page: &mut Page, computed: &Constraint, stated: &Constraint) {
     if computed.sense != Sense::E && computed.sense != stated.sense {
-        let computed = sign_of(computed.sense);
-        let stated = sign_of(stated.sense);
-        write!(page, "the sense: computed {computed}, stated {stated}");
+        let (given, stated) = (sign_of(computed.sense), sign_of(stated.sense));
+        write!(page, "the sense: computed {given}, stated {stated}");
         return;
     }
-    let computed = computed.rhs;
-    let stated = stated.rhs;
-    write!(
-        page,
-        "right-hand side: computed {computed}, stated {stated}"
-    );
-    if let Ok(gap) = computed.add(stated.neg()) {
+    let (given, stated) = (computed.rhs, stated.rhs);
+    write!(page, "right-hand side: computed {given}, stated {stated}");
+    if let Ok(gap) = given.add(stated.neg()) {
         let size = size_of(gap);
         write!(page, ", which says {size} too much");
     }
@@ -109,13 +104,10 @@ fn write_rows(page: &mut Page, problem: &Problem, differences: &[Difference]) {
     for (position, difference) in differences.iter().take(MOST_SHOWN).enumerate() {
         let front = if position == 0 { " " } else { "; " };
         let index = difference.variable;
-        let name = VariableName { problem, index };
-        let computed = difference.computed;
-        let stated = difference.stated;
-        write!(
-            page,
-            "{front}{name} (variable {index}): computed {computed}, stated {stated}"
-        );
+        let name = VariableName(problem, index);
+        let (given, stated) = (difference.computed, difference.stated);
+        write!(page, "{front}{name} (variable {index}): ");
+        write!(page, "computed {given}, stated {stated}");
     }
     let count = differences.len();
     if count > MOST_SHOWN {

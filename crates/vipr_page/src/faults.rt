@@ -1,17 +1,14 @@
 //! What keeps a row from being whole.
-ghost use Rattle.std.specs.Prelude.{◌≡◌, ◌++◌, IfOk, OnOk};
-ghost use Rattle.vipr_page.specs.RowFaults.{faults_at, row_faults};
+ghost use Rattle.std.specs.Prelude.{◌≡◌, IfOk};
+ghost use Rattle.vipr_page.specs.RowFaults.{row_faults};
 
 use crate::algebra::VariableName;
-use crate::differences::push_if;
+use crate::differences::MOST_SHOWN;
 use crate::page::Page;
 use std::alloc::{AllocError, Global};
 use vipr_cert::Problem;
 use vipr_frac::Frac;
 use vipr_linear::{Ints, Row};
-
-/// How many faults are shown.
-const MOST_SHOWN: usize = 6;
 
 /// Why a row isn't whole.
 #[derive(Clone, Copy)]
@@ -29,41 +26,27 @@ pub fn row_faults(alloc: Global, ints: &Ints, row: &Row) -> Result<Vec<RowFault>
 {
     let mut faults = Vec::new(alloc);
     for entry in row.entries() {
-        add_faults(&mut faults, ints, *entry)?;
+        let (variable, coefficient) = *entry;
+        if !coefficient.is_whole() {
+            faults.push(RowFault::NotWhole(variable, coefficient))?;
+        }
+        if !ints.contains(variable) {
+            faults.push(RowFault::NotInteger(variable))?;
+        }
     }
     Ok(faults)
-}
-
-// Adds those of an entry.
-fn add_faults(faults: &mut Vec<RowFault>, ints: &Ints, entry: (u32, Frac)) -> Result<(), AllocError>
-    ensures { OnOk result (faults.new.items ≡ faults.old.items ++ faults_at ints.now entry) }
-{
-    let (variable, coefficient) = entry;
-    push_if(
-        faults,
-        !coefficient.is_whole(),
-        RowFault::NotWhole(variable, coefficient),
-    )?;
-    push_if(
-        faults,
-        !ints.contains(variable),
-        RowFault::NotInteger(variable),
-    )
 }
 
 /// Writes the first faults of a row, a line each.
 pub fn write_faults(page: &mut Page, problem: &Problem, faults: &[RowFault]) {
     for fault in faults.iter().take(MOST_SHOWN) {
         match *fault {
-            RowFault::NotWhole(index, coefficient) => {
-                let name = VariableName { problem, index };
-                write!(
-                    page,
-                    "    the coefficient {coefficient} of {name} is not whole\n"
-                );
+            RowFault::NotWhole(index, value) => {
+                let name = VariableName(problem, index);
+                write!(page, "    the coefficient {value} of {name} is not whole\n");
             }
             RowFault::NotInteger(index) => {
-                let name = VariableName { problem, index };
+                let name = VariableName(problem, index);
                 write!(
                     page,
                     "    {name} is not an integer variable: list its index {index} in INT and make \

@@ -1,24 +1,19 @@
 //! A page of text for a terminal.
-ghost use Rattle.std.specs.Prelude.{◌≡◌, ◌<◌, ◌++◌, ℕ, List, [], None, false, true, IfSome};
-ghost use Rattle.std.specs.Prelude.{OnOk};
-ghost use Rattle.std.specs.Fmt.{digit_glyph};
-ghost use Rattle.vipr_page.specs.Page.{IsCutPage, IsLinesEnd, IsPage, is_shown};
+ghost use Rattle.std.specs.Prelude.{◌≡◌, ◌≢◌, ◌≤◌, ◌<◌, ◌++◌, ℕ, List, [], None, true, IfSome};
+ghost use Rattle.std.specs.Prelude.{OnOk, length, slice_index, take};
+ghost use Rattle.vipr_page.specs.Page.{AreLines, IsCutPage, IsPage, is_shown};
 
 use std::alloc::{AllocError, Global};
-use std::fmt;
-use std::fmt::{Display, Write};
-
-/// The most bytes of a page.
-const MOST_BYTES: usize = 65536;
+use std::fmt::{self, Display, Write};
 
 // The last line of a page that is cut.
 const CUT: &str = ".. the rest is left out\n";
 
-// How many bytes a page has before it.
-const MOST_BEFORE: usize = MOST_BYTES - CUT.len();
+// The most bytes of a page before it: with it they are 65,536.
+const MOST_BEFORE: usize = 65536 - CUT.len();
 
 /// A text of at most 65,536 bytes, which are printable ASCII and line feeds. Every other byte that
-/// is written to it is escaped as `\xNN`, so no control and no direction mark reaches a terminal.
+/// is written to it is a question mark, so no control and no direction mark reaches a terminal.
 /// What a longer text has more is left out, and a growth that is refused is remembered.
 #[derive(Drop)]
 pub struct Page {
@@ -43,7 +38,10 @@ impl Page {
     /// Writes a text.
     pub fn put(&mut self, text: &str) {
         for byte in text.as_bytes() {
-            self.put_shown(*byte);
+            match *byte {
+                10 | 32..=126 => self.put_byte(*byte),
+                _ => self.put_byte(b'?'),
+            }
         }
     }
 
@@ -54,14 +52,13 @@ impl Page {
 
     /// The page whole. A longer text is cut at the end of a line, and the last line says so. There
     /// is none if a growth was refused.
-    pub fn end(self) -> Option<Page>
+    pub fn end(mut self) -> Option<Page>
         ensures { IfSome result (λ page. page.is_cut ≡ true → IsCutPage page.bytes.items) }
     {
-        let mut page = self;
-        if page.is_cut && page.end_cut().is_err() {
-            page.has_failed = true;
+        if self.has_failed || (self.is_cut && self.end_cut().is_err()) {
+            return None;
         }
-        if page.has_failed { None } else { Some(page) }
+        Some(self)
     }
 
     /// Its text.
@@ -81,19 +78,6 @@ impl Page {
         self.bytes.truncate(end);
         self.bytes.extend_from_slice(CUT.as_bytes())?;
         Ok(())
-    }
-
-    // Writes a byte of a text.
-    fn put_shown(&mut self, byte: u8) {
-        match byte {
-            10 | 32..=126 => self.put_byte(byte),
-            other => {
-                self.put_byte(b'\\');
-                self.put_byte(b'x');
-                self.put_byte(digit(other / 16));
-                self.put_byte(digit(other % 16));
-            }
-        }
     }
 
     // Writes a byte, if there is room for it.
@@ -123,34 +107,19 @@ pub fn with_page(mut text: Vec<u8>, page: Option<Page>) -> Vec<u8>
 impl fmt::Write for Page {
     fn write_str(&mut self, text: &str) -> fmt::Result {
         self.put(text);
-        if self.is_cut || self.has_failed {
-            Err(fmt::Error)
-        } else {
-            Ok(())
-        }
+        Ok(())
     }
 }
 
-// Where the last line that is whole ends.
+// Where the last line that is whole ends: no line ends behind.
 fn lines_end(bytes: &[u8]) -> usize
-    ensures { IsLinesEnd bytes.now result }
+    ensures within { result ≤ length bytes.now }
+    ensures lines { AreLines (take result bytes.now) }
+    ensures last { (k : ℕ) → result ≤ k → k < length bytes.now → slice_index bytes.now k ≢ 10 }
 {
     let mut end = bytes.len();
     while end > 0 && bytes[end - 1] != b'\n' {
         end -= 1;
     }
     end
-}
-
-/// A hexadecimal digit.
-pub(crate) fn digit(value: u8) -> u8
-    requires { value < 16 }
-    ensures shown { is_shown result ≡ true }
-    ensures digit { result ≡ digit_glyph false value }
-{
-    if value < 10 {
-        b'0' + value
-    } else {
-        b'a' - 10 + value
-    }
 }

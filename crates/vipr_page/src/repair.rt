@@ -1,19 +1,23 @@
 //! How a derivation that doesn't follow from its reason can be repaired.
-ghost use Rattle.std.specs.Prelude.{◌≡◌, ◌≢◌, ◌≤◌, ◌↔◌, IfSome, IsTrue, unsigned_abs};
+ghost use Rattle.std.specs.Prelude.{◌≡◌, ◌≢◌, ◌≤◌, ◌↔◌, IfOk, IfSome, IsTrue, unsigned_abs};
 ghost use Rattle.vipr_spec.specs.Constraint.{equal, RoundsTo};
-ghost use Rattle.vipr_spec.specs.Fraction.{most, whole, ◌+ℚ◌, ◌*ℚ◌};
+ghost use Rattle.vipr_spec.specs.Fraction.{most, neg_ℚ, whole, ◌+ℚ◌, ◌*ℚ◌};
 ghost use Rattle.vipr_linear.specs.Constraint.{constraint_of, sense_of};
-ghost use Rattle.vipr_page.specs.Repairs.{CanRound, IsRounded, IsRoundedBound, Mends};
+ghost use Rattle.vipr_page.specs.Repairs.{CanRound, IsRounded, Mends};
 
-use vipr_frac::Frac;
+use vipr_frac::{Frac, Overflow};
 use vipr_linear::{Constraint, Ints, Sense, compares, is_whole_row};
 
 /// The right-hand side to which `rnd` rounds the computed constraint, if that is strong enough.
 pub fn rounded(ints: &Ints, computed: &Constraint, stated: &Constraint) -> Option<i128>
     ensures { IsRounded ints.now (constraint_of computed.now) (constraint_of stated.now) result }
 {
-    if can_round(ints, computed, stated) {
-        rounded_bound(computed.sense, computed.rhs, stated.rhs)
+    if !can_round(ints, computed, stated) {
+        return None;
+    }
+    let bound = rounded_side(computed.sense, computed.rhs);
+    if compares(computed.sense, whole(bound), stated.rhs) {
+        Some(bound)
     } else {
         None
     }
@@ -29,19 +33,6 @@ fn can_round(ints: &Ints, computed: &Constraint, stated: &Constraint) -> bool
         && computed.sense != Sense::E
         && computed.row.is_same(&stated.row)
         && is_whole_row(&computed.row, ints)
-}
-
-// The right-hand side rounded, if it is as strong as the stated one.
-fn rounded_bound(sense: Sense, computed: Frac, stated: Frac) -> Option<i128>
-    requires { sense_of sense ≢ equal }
-    ensures { IsRoundedBound (sense_of sense) computed stated result }
-{
-    let bound = rounded_side(sense, computed);
-    if compares(sense, whole(bound), stated) {
-        Some(bound)
-    } else {
-        None
-    }
 }
 
 // The right-hand side rounded.
@@ -69,28 +60,20 @@ fn whole(k: i128) -> Frac
 pub fn mended(multiplier: Frac, coefficient: Frac, computed: Frac, stated: Frac) -> Option<Frac>
     ensures { IfSome result (λ k. Mends multiplier coefficient computed stated k) }
 {
-    let missing = sum(stated, computed.neg())?;
-    let mended = sum(multiplier, product(missing, inverse(coefficient)?)?)?;
-    let added = product(sum(mended, multiplier.neg())?, coefficient)?;
-    if sum(computed, added)? == stated {
-        Some(mended)
-    } else {
-        None
+    let missing = stated.add(computed.neg()).ok()?;
+    let change = missing.mul(inverse(coefficient)?).ok()?;
+    let mended = multiplier.add(change).ok()?;
+    match mended_by(multiplier, coefficient, computed, mended) {
+        Ok(sum) if sum == stated => Some(mended),
+        _ => None,
     }
 }
 
-// The sum of two numbers, if it fits.
-fn sum(a: Frac, b: Frac) -> Option<Frac>
-    ensures { IfSome result (λ s. s ≡ a +ℚ b) }
+// What a coefficient of a sum is with another multiplier.
+fn mended_by(old: Frac, coefficient: Frac, computed: Frac, new: Frac) -> Result<Frac, Overflow>
+    ensures { IfOk result (λ x. x ≡ computed +ℚ ((new +ℚ neg_ℚ old) *ℚ coefficient)) }
 {
-    a.add(b).ok()
-}
-
-// Their product, if it fits.
-fn product(a: Frac, b: Frac) -> Option<Frac>
-    ensures { IfSome result (λ p. p ≡ a *ℚ b) }
-{
-    a.mul(b).ok()
+    computed.add(new.add(old.neg())?.mul(coefficient)?)
 }
 
 // 1 divided by a number.

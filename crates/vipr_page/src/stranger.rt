@@ -1,9 +1,8 @@
 //! Bytes of a stranger's text, as a page shows them on one line.
 ghost use Rattle.std.specs.Prelude.{Some};
+ghost use Rattle.vipr_page.specs.Page.{line_byte, shown_bytes};
 
-use crate::page::digit;
-use std::fmt;
-use std::fmt::{Display, Formatter, Write};
+use std::fmt::{self, Display, Formatter, Write};
 
 /// A tab is shown as a space, a backslash is doubled, and each other byte that isn't printable
 /// ASCII is escaped.
@@ -15,8 +14,6 @@ pub struct StrangeBytes<'a>(pub &'a [u8]);
 struct StrangeByte(u8);
 
 impl Display for StrangeBytes<'_> {
-    ghost use Rattle.vipr_page.specs.Page.{shown_bytes};
-
     ghost output = { λ s. Some (shown_bytes s.0.now) };
 
     fn fmt<W: Write>(&self, f: &mut Formatter<W>) -> fmt::Result {
@@ -28,21 +25,16 @@ impl Display for StrangeBytes<'_> {
 }
 
 impl Display for StrangeByte {
-    ghost use Rattle.vipr_page.specs.Page.{line_byte};
-
     ghost output = { λ s. Some (line_byte s.0) };
 
+    #[tactic(auto, unfolding(crate::specs::Page::line_byte))]
     fn fmt<W: Write>(&self, f: &mut Formatter<W>) -> fmt::Result {
         let byte = self.0;
         match byte {
             9 => f.write_str(" "),
             92 => f.write_str("\\\\"),
             32..=126 => f.write_char(char::from(byte)),
-            _ => {
-                let high = char::from(digit(byte / 16));
-                let low = char::from(digit(byte % 16));
-                write!(f, "\\x{high}{low}")
-            }
+            _ => write!(f, "\\x{byte:02x}"),
         }
     }
 }

@@ -1,5 +1,0 @@
-mod Listing
-mod Counting
-mod Gathering
-mod Repairing
-mod Cutting
