@@ -47,25 +47,22 @@ impl<'a> KnownPlace<'a> {
         let line = self.spot.line;
         let column = self.spot.column;
         let margin = digits_of(line);
+        write_copies(page, " ", margin, "--> ");
         let file = StrangeBytes(file);
-        let is_far = column > MOST_SHOWN + 1;
-        let front = if is_far { ".." } else { "" };
+        write!(page, "{file}:{line}:{column}\n");
+        write_copies(page, " ", margin, " |\n");
+        let front = if column > MOST_SHOWN + 1 { ".." } else { "" };
         let before = StrangeBytes(self.before);
         let behind = StrangeBytes(self.behind);
         let end = if self.is_cut { ".." } else { "" };
+        write!(page, "{line} | {front}{before}{behind}{end}\n");
+        let width = width_of_all(self.before).saturating_add(front.len());
         let carets = width_of_all(&self.behind[..self.size.min(self.behind.len())]);
-        write_copies(page, " ", margin);
-        write!(page, "--> {file}:{line}:{column}\n");
-        write_copies(page, " ", margin);
-        write!(page, " |\n{line} | {front}{before}{behind}{end}\n");
-        write_copies(page, " ", margin);
-        page.put(" | ");
-        write_copies(page, " ", front.len());
-        write_copies(page, " ", width_of_all(self.before));
-        write_copies(page, "^", carets.max(1).min(MOST_CARETS));
-        write!(page, " {label}\n");
-        write_copies(page, " ", margin);
-        page.put(" |\n");
+        write_copies(page, " ", margin, " | ");
+        write_copies(page, " ", width, "");
+        write_copies(page, "^", carets.max(1).min(MOST_CARETS), " ");
+        write!(page, "{label}\n");
+        write_copies(page, " ", margin, " |\n");
     }
 }
 
@@ -109,19 +106,21 @@ fn is_in_line(byte: u8) -> bool
     byte != b'\n' && byte != b'\r'
 }
 
-// Writes a text so many times.
-fn write_copies(page: &mut Page, text: &str, count: usize) {
+// Writes a text so many times, and another one behind it.
+fn write_copies(page: &mut Page, text: &str, count: usize, behind: &str) {
     for _ in 0..count {
         page.put(text);
     }
+    page.put(behind);
 }
 
 // How many columns bytes take on a page.
 fn width_of_all(bytes: &[u8]) -> usize {
-    bytes.iter().fold(
-        0,
-        |count: usize, byte| count.saturating_add(width_of(*byte)),
-    )
+    let mut width: usize = 0;
+    for byte in bytes {
+        width = width.saturating_add(width_of(*byte));
+    }
+    width
 }
 
 // How many columns a byte takes on a page.

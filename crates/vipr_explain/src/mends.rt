@@ -124,7 +124,8 @@ fn mend_of(
     first
 }
 
-// A multiplier of a constraint that mends these differences, in place of the one that it has.
+// A multiplier of a constraint that mends these differences, in place of the one that it has. The
+// constraint has as many variables as there are differences, and that of the first one.
 fn mend_by(
     sum: StatedSum<'_>,
     index: u32,
@@ -132,16 +133,17 @@ fn mend_by(
     present: Option<Frac>,
     differences: &[Difference],
 ) -> Option<Mend> {
-    if !has_variables_of(constraint, differences) {
+    let [first, others @ ..] = differences else {
+        return None;
+    };
+    let row = &constraint.row;
+    if row.entries().len() != differences.len() || row.coefficient(first.variable).is_zero() {
         return None;
     }
     let old = present.unwrap_or(Frac::zero());
     let multiplier = multiplier_by(constraint, old, sum.stated.sense, differences)?;
     Some(Mend {
-        variable: match differences {
-            [difference] => Some(difference.variable),
-            _ => None,
-        },
+        variable: others.is_empty().then_some(first.variable),
         index,
         present,
         multiplier,
@@ -169,14 +171,6 @@ fn mended_side(
     added.add(sum.computed.rhs).ok()
 }
 
-// Whether a constraint has as many variables as there are differences, and that of the first one.
-fn has_variables_of(constraint: &Constraint, differences: &[Difference]) -> bool {
-    constraint.row.entries().len() == differences.len()
-        && differences
-            .first()
-            .is_some_and(|it| !constraint.row.coefficient(it.variable).is_zero())
-}
-
 // The multiplier that mends these differences, unless it turns the sense of the sum around.
 fn multiplier_by(
     constraint: &Constraint,
@@ -192,7 +186,8 @@ fn multiplier_by(
         }
         multiplier = Some(found);
     }
-    multiplier.filter(|found| keeps_sense(constraint.sense, sense, *found))
+    let found = multiplier?;
+    keeps_sense(constraint.sense, sense, found).then_some(found)
 }
 
 // Whether a multiple of a constraint has the sense of a sum.

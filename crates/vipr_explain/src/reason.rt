@@ -30,13 +30,12 @@ pub(crate) fn step_indices(
     match reason.references() {
         References::Nothing => {}
         References::Entries(entries) => {
-            for entry in entries.iter().take(MOST_ENTRIES) {
+            let at_fault = match position_at_fault(fault, entries) {
+                Some(position) => entries.get(position),
+                None => None,
+            };
+            for entry in entries.iter().take(MOST_ENTRIES).chain(at_fault) {
                 add_earlier(&mut wanted, fault.index, entry.0)?;
-            }
-            if let Some(position) = position_at_fault(fault, entries) {
-                if position < entries.len() {
-                    add_earlier(&mut wanted, fault.index, entries[position].0)?;
-                }
             }
         }
         References::Branches { i1, l1, i2, l2 } => {
@@ -64,9 +63,14 @@ fn add_earlier(wanted: &mut Vec<u32>, own: u32, index: u32) -> Result<(), AllocE
 fn position_at_fault(fault: StepFault<'_>, entries: &[(u32, Frac)]) -> Option<usize> {
     match fault.what {
         StepDetail::Entry(entry) => Some(*entry as usize),
-        StepDetail::Index(index) => entries.iter().position(|entry| {
-            entry.0 == *index && (fault.cause != cause::DROPPED || entry.1.numer() != 0)
-        }),
+        StepDetail::Index(index) => {
+            for (position, entry) in entries.iter().enumerate() {
+                if entry.0 == *index && (fault.cause != cause::DROPPED || !entry.1.is_zero()) {
+                    return Some(position);
+                }
+            }
+            None
+        }
         _ => None,
     }
 }
@@ -109,23 +113,23 @@ pub(crate) fn write_reason(
             }
         }
         References::Branches { i1, l1, i2, l2 } => {
-            write_branch(page, known, own, "  case 1 gives ", i1);
-            write_branch(page, known, own, "     assuming  ", l1);
-            write_branch(page, known, own, "  case 2 gives ", i2);
-            write_branch(page, known, own, "     assuming  ", l2);
+            let labels = [
+                ("  case 1 gives ", i1),
+                ("     assuming  ", l1),
+                ("  case 2 gives ", i2),
+                ("     assuming  ", l2),
+            ];
+            for (label, index) in labels {
+                page.put(label);
+                write_constraint(page, known, own, index);
+                if index < own {
+                    let word = known.items.reason_word(index);
+                    write!(page, " {word}");
+                }
+                page.put("\n");
+            }
         }
     }
-}
-
-// Writes a constraint of a join.
-fn write_branch(page: &mut Page, known: &PlacedItems, own: u32, label: &str, index: u32) {
-    page.put(label);
-    write_constraint(page, known, own, index);
-    if index < own {
-        let word = known.items.reason_word(index);
-        write!(page, " {word}");
-    }
-    page.put("\n");
 }
 
 // Writes a constraint that a derivation refers to.
@@ -148,23 +152,22 @@ pub(crate) fn write_sources(
 ) {
     let name = VariableName(&items.problem, variable);
     write!(page, "      {name} comes from");
+    let mut front = " ";
     let mut count: usize = 0;
     let mut is_whole = true;
     for entry in entries {
         let (index, multiplier) = *entry;
-        let coefficient = match items.constraint(index) {
-            Some(constraint) => constraint.row.coefficient(variable),
-            None => {
-                is_whole = false;
-                Frac::zero()
-            }
+        let Some(constraint) = items.constraint(index) else {
+            is_whole = false;
+            continue;
         };
+        let coefficient = constraint.row.coefficient(variable);
         if !coefficient.is_zero() {
-            count = count.saturating_add(1);
-            if count <= MOST_SOURCES {
-                let front = if count == 1 { " " } else { ", " };
+            if count < MOST_SOURCES {
                 write!(page, "{front}{multiplier} x {coefficient} of [{index}]");
             }
+            front = ", ";
+            count = count.saturating_add(1);
         }
     }
     page.put(if count > MOST_SOURCES || !is_whole {

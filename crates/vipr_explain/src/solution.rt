@@ -11,7 +11,7 @@ use crate::marks::{ItemPlace, ItemSort, find_item};
 use crate::shown::write_line;
 use crate::text::{Reread, Subject};
 use std::alloc::{AllocError, Global};
-use vipr_bytes::Source;
+use vipr_bytes::Bytes;
 use vipr_cert::{Claim, Name, Named, Problem};
 use vipr_check::Detail;
 use vipr_frac::Frac;
@@ -134,7 +134,6 @@ fn write_broken(page: &mut Page, known: &RefusedSolution<'_>, index: u32, left: 
     let algebra = Algebra(problem, constraint);
     write!(page, "  constraint {index} `{name}`: {algebra}");
     write_line(page, known.broken);
-    page.put("\n  ");
     write_values(page, problem, &constraint.row, &known.solution.item);
     let sign = sign_of(constraint.sense);
     let right = constraint.rhs;
@@ -142,8 +141,9 @@ fn write_broken(page: &mut Page, known: &RefusedSolution<'_>, index: u32, left: 
         page,
         "; the left side is {left}, which is not {sign} {right}"
     );
-    let gap = right.add(left.neg()).ok().map(|gap| size_of(gap));
+    let gap = right.add(left.neg()).ok();
     if let Some(gap) = gap {
+        let gap = size_of(gap);
         write!(page, ", off by {gap}");
     }
     let hint = solution_hint(known, constraint, gap);
@@ -163,32 +163,31 @@ fn solution_hint(
         ([b'0'..=b'9', ..], _) if known.solution.item.0.is_empty() => {
             "a number was read as the name: is the name missing?"
         }
-        (_, Some(gap)) if gap.denom() / 1000 >= gap.numer() => {
+        (_, Some(gap)) if gap.denom() / 1000 >= size_of(gap).numer() => {
             "is a value rounded, as one of floating point is? Write exact fractions"
         }
         _ => "change the solution, or leave it out; a variable that it doesn't list is 0",
     }
 }
 
-// Writes the values at the variables of a row. Many are cut, with the number of variables.
+// Writes a line of the values at a row's variables. Many are cut, with the number of variables.
 fn write_values(page: &mut Page, problem: &Problem, row: &Row, solution: &Solution) {
     let entries = row.entries();
-    if entries.is_empty() {
-        page.put("the row is empty");
-    }
     for (position, entry) in entries.iter().take(MOST_VALUES).enumerate() {
-        let front = if position == 0 {
-            "at the solution: "
+        page.put(if position == 0 {
+            "\n  at the solution: "
         } else {
             ", "
-        };
+        });
         let name = VariableName(problem, entry.0);
         let value = solution.0.coefficient(entry.0);
-        write!(page, "{front}{name} = {value}");
+        write!(page, "{name} = {value}");
     }
     let count = entries.len();
     if count > MOST_VALUES {
         write!(page, " .. ({count} variables)");
+    } else if count == 0 {
+        page.put("\n  the row is empty");
     }
 }
 
@@ -257,24 +256,26 @@ impl ListedValues {
             page.put("no solution is listed\n");
             return;
         };
-        match self.first.iter().find(|known| known.2 == best) {
-            Some(known) => write_value(page, known),
-            None => write!(page, "a listed solution: objective {best}\n"),
+        for known in &self.first {
+            if known.2 == best {
+                write_value(page, known);
+                return;
+            }
         }
+        write!(page, "a listed solution: objective {best}\n");
     }
 
     // Adds the objective at all solutions that are to come.
-    fn add_all<R: Source + Drop>(
+    fn add_all(
         &mut self,
         alloc: Global,
         problem: &Problem,
-        solutions: &mut Solutions<R>,
+        solutions: &mut Solutions<Bytes<'_>>,
     ) -> Reread<()> {
         let objective = Solution(problem.objective().clone()?);
         for number in 0..solutions.left() {
-            match solutions.next(alloc)? {
-                Some(solution) => self.add(problem, &objective, number, solution)?,
-                None => {}
+            if let Some(solution) = solutions.next(alloc)? {
+                self.add(problem, &objective, number, solution)?;
             }
         }
         Ok(())
