@@ -32,11 +32,14 @@ impl ProvedClaim {
         ensures { IfOk result
             (λ k. IsGoalRead subject.entry.text.now report.now.goal k.goal) }
     {
-        let values = ListedValues::find(subject)?;
-        match read_goal(subject, report) {
-            Ok(goal) => Ok(ProvedClaim { goal, values }),
+        let goal = match report.goal {
+            Some(goal) => Some(PlacedItems::read(subject, [goal].as_slice())?),
+            None => None,
+        };
+        match ListedValues::find(subject) {
+            Ok(values) => Ok(ProvedClaim { goal, values }),
             Err(missing) => {
-                drop(values);
+                drop(goal);
                 Err(missing)
             }
         }
@@ -60,16 +63,6 @@ impl ProvedClaim {
     }
 }
 
-// Reads the constraint that proves the dual side.
-fn read_goal(subject: Subject<'_>, report: &Report) -> Reread<Option<PlacedItems>>
-    ensures { IfOk result (IsGoalRead subject.entry.text.now report.now.goal) }
-{
-    match report.goal {
-        Some(goal) => Ok(Some(PlacedItems::read(subject, [goal].as_slice())?)),
-        None => Ok(None),
-    }
-}
-
 /// What is known if no constraint proves the claim: what is wanted, and the nearest constraints.
 #[derive(Drop)]
 pub(crate) struct UnprovedClaim {
@@ -85,7 +78,10 @@ impl UnprovedClaim {
         ensures { IfOk result
             (IsUnproved (profile_of subject.entry.profile) subject.entry.text.now) }
     {
-        let has_solution = has_solution(subject)?;
+        let (problem, solutions) = open_problem(subject.alloc, subject.text)?;
+        let has_solution = solutions.left() > 0;
+        drop(solutions);
+        drop(problem);
         let search = find_near(subject)?;
         match read_near(subject, search.near.as_slice()) {
             Ok(items) => Ok(UnprovedClaim {
@@ -112,8 +108,10 @@ impl UnprovedClaim {
 
     /// Writes the page of a claim that no constraint proves.
     pub(crate) fn write(&self, page: &mut Page) {
-        page.put("error: no constraint proves the claim\n  ");
-        page.put("wanted: a constraint that rests on no assumption and ");
+        page.put(
+            "error: no constraint proves the claim\n  \
+             wanted: a constraint that rests on no assumption and ",
+        );
         match self.bound() {
             Some(constraint) => {
                 let algebra = Algebra(&self.items.items.problem, constraint);
@@ -135,15 +133,6 @@ impl UnprovedClaim {
     }
 }
 
-// Whether a text lists a solution.
-fn has_solution(subject: Subject<'_>) -> Reread<bool> {
-    let (problem, solutions) = open_problem(subject.alloc, subject.text)?;
-    let count = solutions.left();
-    drop(solutions);
-    drop(problem);
-    Ok(count > 0)
-}
-
 // Reads constraints that come near.
 fn read_near(subject: Subject<'_>, near: &[Near]) -> Reread<PlacedItems>
     ensures { IfOk result
@@ -158,51 +147,53 @@ fn read_near(subject: Subject<'_>, near: &[Near]) -> Reread<PlacedItems>
 
 // Writes what to do, by what was found.
 fn write_advice(page: &mut Page, known: &UnprovedClaim) {
-    let near = &known.search.near;
-    if let Some(Join { i1, l1, i2, l2 }) = near.iter().find_map(|near| near.crossed) {
-        write!(
-            page,
-            "[{i1}] rests on [{l2}] and [{i2}] on [{l1}]: exchange l1 and l2, `uns {i1} {l2} {i2} {l1}`"
-        );
-        return;
+    let mut is_strong = false;
+    let mut free = None;
+    for near in &known.search.near {
+        if let Some(Join { i1, l1, i2, l2 }) = near.crossed {
+            write!(
+                page,
+                "[{i1}] rests on [{l2}] and [{i2}] on [{l1}]: exchange l1 and l2, `uns {i1} {l2} {i2} {l1}`"
+            );
+            return;
+        }
+        is_strong = is_strong || near.is_strong;
+        if free.is_none() && near.is_free && near.gap.is_some() {
+            free = Some(near.index);
+        }
     }
     let given = known.items.items.problem.cons().len();
-    let is_strong = near.iter().any(|near| near.is_strong);
-    let free = near.iter().find(|near| near.is_free && near.gap.is_some());
-    match (known.bound(), free) {
-        (Some(_), Some(free)) if free.index as usize >= given || !is_strong => {
-            let index = free.index;
+    page.put(match (known.bound(), free) {
+        (Some(_), Some(index)) if index as usize >= given || !is_strong => {
             write!(
                 page,
                 "behind RTP claim no more than [{index}] says: nothing stronger with this row is \
                  proved without an assumption; is a constant of the objective in the claim? The \
                  format has none"
             );
+            return;
         }
-        (Some(bound), None) if near.is_empty() && is_true_at_0(bound) => {
-            let sense = bound.sense;
-            let side = bound.rhs;
+        (Some(Constraint { row, sense, rhs }), None)
+            if known.search.near.is_empty()
+                && row.is_empty()
+                && compares(*sense, Frac::zero(), *rhs) => {
             write!(
                 page,
-                "add the derivation `NAME {sense} {side} 0 {{ lin 0 }} -1`, and 1 to the count \
+                "add the derivation `NAME {sense} {rhs} 0 {{ lin 0 }} -1`, and 1 to the count \
                  behind DER"
             );
+            return;
         }
-        (None, _) if known.has_solution => page.put(
+        (None, _) if known.has_solution => {
             "the text lists a solution that is feasible, so `infeas` is false: claim `range` and \
-             two bounds",
-        ),
-        _ if is_strong => page.put(
+             two bounds"
+        }
+        _ if is_strong => {
             "join the branches by `uns i1 l1 i2 l2`, so that no assumption is left, or claim \
-             behind RTP what is proved",
-        ),
-        _ => page.put("derive it, or claim behind RTP what is proved"),
-    }
-}
-
-// Whether a bound is one of the objective 0, and true.
-fn is_true_at_0(bound: &Constraint) -> bool {
-    bound.row.is_empty() && compares(bound.sense, Frac::zero(), bound.rhs)
+             behind RTP what is proved"
+        }
+        _ => "derive it, or claim behind RTP what is proved",
+    });
 }
 
 // Writes a constraint that comes near, and why it isn't enough.

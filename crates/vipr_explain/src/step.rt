@@ -95,8 +95,12 @@ impl<'a> RefusedStep<'a> {
         };
         let index = fault.index;
         let name = ShownName(own.name.as_bytes());
-        write!(page, "error: derivation {index} `{name}` ");
-        write_fault(page, fault);
+        let (before, behind) = words_of(fault.cause);
+        write!(page, "error: derivation {index} `{name}` {before}");
+        if let StepDetail::Index(at) | StepDetail::Entry(at) = fault.what {
+            write!(page, " {at}");
+        }
+        page.put(behind);
         if let Some(place) = self.place {
             place.write(page, file, "this derivation");
         }
@@ -104,7 +108,16 @@ impl<'a> RefusedStep<'a> {
         write_labelled(page, problem, "  it states    ", &own.constraint);
         write_reason(page, &self.known, fault, &own.reason);
         write_facts(page, self, &own.reason, fault.what);
-        write_help(page, fault.cause, problem.cons().len());
+        let count = problem.cons().len();
+        if fault.cause == cause::NOT_EARLIER && count > 0 {
+            write!(
+                page,
+                "  = help: constraints count from 0: the problem has {count}, so the first \
+                 derivation is {count}; is this line in front of one that it needs?\n"
+            );
+        } else {
+            page.put(help_for(fault.cause));
+        }
         if let StepFacts::Dropped(dropped) = &self.facts {
             dropped.write(page, file);
         }
@@ -197,28 +210,18 @@ fn rounding_of(
     }
 }
 
-// Writes what is wrong, behind the derivation's name.
-fn write_fault(page: &mut Page, fault: StepFault<'_>) {
-    match fault.what {
-        StepDetail::Index(index) => {
-            let (before, behind) = match fault.cause {
-                cause::NOT_EARLIER => ("names", ", which is not earlier"),
-                cause::DROPPED => ("needs", ", which was dropped"),
-                _ => ("takes", " for an assumption, which it is not"),
-            };
-            write!(page, "{before} constraint {index}{behind}\n");
-        }
-        StepDetail::Entry(entry) => {
-            let before = match fault.cause {
-                cause::OVERFLOW => "passes 2^127 - 1",
-                _ => "turns a sense around",
-            };
-            write!(page, "{before} at entry {entry} of its sum\n");
-        }
-        StepDetail::Sum(_) => page.put("has a sum that can't be rounded\n"),
-        StepDetail::Pair(_, _) => page.put("has two assumptions that are no split\n"),
-        StepDetail::Rows { .. } => page.put("does not follow from its reason\n"),
-        StepDetail::Nothing => page.put("needs a listed solution\n"),
+// What is said of a cause, in front of the number at fault and behind it.
+fn words_of(cause: u8) -> (&'static str, &'static str) {
+    match cause {
+        cause::NOT_EARLIER => ("names constraint", ", which is not earlier\n"),
+        cause::DROPPED => ("needs constraint", ", which was dropped\n"),
+        cause::NOT_ASSUMPTION => ("takes constraint", " for an assumption, which it is not\n"),
+        cause::MIXED_SIGNS => ("turns a sense around at entry", " of its sum\n"),
+        cause::OVERFLOW => ("passes 2^127 - 1 at entry", " of its sum\n"),
+        cause::NOT_ROUNDABLE => ("has a sum that can't be rounded\n", ""),
+        cause::NOT_SPLIT => ("has two assumptions that are no split\n", ""),
+        cause::NOT_DOMINATED => ("does not follow from its reason\n", ""),
+        _ => ("needs a listed solution\n", ""),
     }
 }
 
@@ -310,17 +313,9 @@ fn write_labelled(page: &mut Page, problem: &Problem, label: &str, constraint: &
     write!(page, "{label}{}\n", Algebra(problem, constraint));
 }
 
-// Writes what is likely to be wrong; the problem has so many constraints.
-fn write_help(page: &mut Page, cause: u8, count: usize) {
-    if cause == cause::NOT_EARLIER && count > 0 {
-        write!(
-            page,
-            "  = help: constraints count from 0: the problem has {count}, so the first derivation \
-             is {count}; is this line in front of one that it needs?\n"
-        );
-        return;
-    }
-    page.put(match cause {
+// What is likely to be wrong, by the cause.
+fn help_for(cause: u8) -> &'static str {
+    match cause {
         cause::NOT_EARLIER => {
             "  = help: constraints count from 0: the problem has none, so the first derivation is \
              0; is this line in front of one that it needs?\n"
@@ -338,5 +333,5 @@ fn write_help(page: &mut Page, cause: u8, count: usize) {
         cause::OVERFLOW => PAST_LIMIT,
         cause::NO_SOLUTION => "  = help: list a solution in SOL, or give another reason\n",
         _ => "",
-    });
+    }
 }
