@@ -1,22 +1,25 @@
 -- Items of a text that are read again, one after the other
 use Rattle.std.proofs.Common.{◌≡◌, ℕ, zero, suc, ◌+◌, ◌-◌, ◌<◌, inl, inr, ◌⊎◌, List, [], ◌∷◌, ◌++◌, map}
 use Rattle.std.proofs.Common.{length, filter, Option, Some, None, Result, Ok, Err, refl, sym, ap}
-use Rattle.std.proofs.Common.{◌∙◌, arith, OnOk}
+use Rattle.std.proofs.Common.{◌∙◌, arith, subst, IfErr, IfOk, OnOk}
 use Rattle.std.specs.Option.{IsSome}
+use Rattle.std.specs.Result.{result_and}
 use Rattle.std.specs.List.{enumerate_from}
 use Rattle.std.proofs.lemmas.List.{length-append}
 use Rattle.std.proofs.lemmas.List.Elements.{filter-append}
 use Rattle.vipr_spec.specs.Certificate.{Named, Problem, Derivation}
 use Rattle.vipr_spec.specs.Constraint.{Row}
-use Rattle.vipr_spec.specs.Reading.{Rest, Read, ◌>>=◌, read_each, derivation_read}
+use Rattle.vipr_spec.specs.Reading.{Rest, Fault, Read, ◌>>=◌, read_each, derivation_read}
 use Rattle.vipr_spec.specs.Reading.{derivations_read, problem_read}
 use Rattle.vipr_scan.specs.Faults.{Fails}
 use Rattle.vipr_scan.specs.Giving.{rest_of}
 use Rattle.vipr_scan.specs.declared.error.TextError.{TextError}
 use Rattle.vipr_read.specs.Items.{Items as Reader, Knows, Remembers, Moves, HasNone, HasPassed}
 use Rattle.vipr_read.specs.Items.{NextItem}
-use Rattle.vipr_explain.specs.Found.{AreDerivationsRead, AreFoundItems, AreSolutionsRead, HasFault}
-use Rattle.vipr_explain.specs.Found.{IsReaderBehind, Missed, count_read, head_read, is_wanted, numbered_of}
+use Rattle.vipr_explain.specs.Found.{AreDerivationsRead, AreFoundItems, AreReadSoFar, AreSolutionsRead}
+use Rattle.vipr_explain.specs.Found.{HasFault}
+use Rattle.vipr_explain.specs.Found.{IsReaderBehind, Missed, all_read, count_read, head_read}
+use Rattle.vipr_explain.specs.Found.{is_wanted, items_up_to, numbered_of}
 use Rattle.vipr_explain.specs.Found.{solutions_read, wanted_among}
 use Rattle.vipr_explain.specs.declared.items.Items.{Items}
 use Rattle.vipr_explain.specs.declared.items.Numbered.{Numbered}
@@ -50,19 +53,28 @@ module _ {A : Type 0} (item : Rest → Read A) where
   each_more zero r = refl
   each_more (suc n) r = each_behind n (item r) (each_more n)
 
-  -- a fault behind so many is one of more
+  -- a fault of so many is one of more
+  fault_of_first : (n more m : ℕ) (r : Rest) → m ≡ more + n → HasFault (read_each item n r)
+      → HasFault (read_each item m r)
+  fault_of_first n zero m r e fault = let same : m ≡ n = omega arith in rw same fault
+  fault_of_first n (suc more) m r e fault =
+      let one : m ≡ suc (m - 1) = omega arith in
+      rw one (rw (each_more (m - 1) r) (fault_first (read_each item (m - 1) r) _ (fault_of_first n more (m - 1) r (omega arith) fault)))
+
+  -- so is one behind so many
   fault_of_more : (n more m : ℕ) (r s : Rest) (xs : List A) → m ≡ suc (more + n)
       → read_each item n r ≡ Ok (xs, s) → HasFault (item s) → HasFault (read_each item m r)
-  fault_of_more n zero m r s xs e so_far next =
-      let one : m ≡ suc n = omega arith in
-      (next.0, rw one (rw (each_more n r, so_far, next.1) refl))
-  fault_of_more n (suc more) m r s xs e so_far next =
-      let one : m ≡ suc (m - 1) = omega arith in
-      rw one (rw (each_more (m - 1) r) (fault_first (read_each item (m - 1) r) _ (fault_of_more n more (m - 1) r s xs (omega arith) so_far next)))
+  fault_of_more n more m r s xs e so_far next =
+      fault_of_first (suc n) more m r (omega arith) (next.0, rw (each_more n r, so_far, next.1) refl)
 
 pub on_ok : {T E : Type 0} (r : Result T E) (P Q : Type 0) → (P → Q) → OnOk r P → OnOk r Q
 on_ok (Ok x) P Q f h = f h
 on_ok (Err e) P Q f h = tt
+
+pub ok_and : {T U E : Type 0} (r : Result T E) (x : U) (P : U → Type 0) → OnOk r (P x)
+    → IfOk (result_and r (Ok x)) P
+ok_and (Ok y) x P h = h
+ok_and (Err e) x P h = tt
 
 -- ---- a reader behind so many
 
@@ -86,10 +98,10 @@ at_front item head p r knows known counted =
       read = refl;
     }
 
-pub counted_down : {X : Type 0} (old new : Reader) (o : Option X) → 0 < old.left
-    → Moves HasNone old new (Ok o) → old.left ≡ suc new.left
-counted_down old new None some moves = absurd (omega (arith, moves.none))
-counted_down old new (Some x) some moves = moves.counted
+pub some_read : {X : Type 0} (old new : Reader) (o : Option X) → 0 < old.left
+    → Moves HasNone old new (Ok o) → (x : X) × (o ≡ Some x)
+some_read old new None some moves = absurd (omega (arith, moves.none))
+some_read old new (Some x) some moves = (x, refl)
 
 -- one more was read
 pub one_behind : {A : Type 0} {item : Problem → Rest → Read A} {head : Read (Problem × ℕ)} {p : Problem}
@@ -106,15 +118,30 @@ one_behind {item = item} {p = p} {xs = xs} x old new passed one known h =
       read = rw size (rw (each_more (item p) (length xs) h.start, h.read, one) refl);
     }
 
--- so was the next one, if one was left
-pub next_behind : {A X : Type 0} {item : Problem → Rest → Read A} {head : Read (Problem × ℕ)} {p : Problem}
-    {xs : List A} (view : X → A) (old new : Reader) (o : Option X) → 0 < old.left
-    → Moves HasNone old new (Ok o) → NextItem view (item p) (λ _. Ok tt) old new (Ok o)
-    → IsReaderBehind A item head p xs old → (x : A) × IsReaderBehind A item head p (xs ++ x ∷ []) new
-next_behind view old new None some moves next h = absurd (omega (arith, moves.none))
-next_behind view old new (Some x) some moves next h =
-    let one = next h.known in
-    (view x, one_behind (view x) old new moves one.1 one.2 h)
+-- so it was, and this is known of it
+module _ {A : Type 0} {item : Problem → Rest → Read A} {head : Read (Problem × ℕ)} {p : Problem}
+    {knew knows : List A → Type 0} {done : ℕ} where
+  pub read_on : (old new : Reader) (x : A) → HasPassed old new
+      → item p (rest_of old.rest) ≡ Ok (x, rest_of new.rest) → IsSome new.rest
+      → ((xs : List A) → length xs ≡ done → knew xs → knows (xs ++ x ∷ []))
+      → AreReadSoFar (IsReaderBehind A item head p) knew done old
+      → AreReadSoFar (IsReaderBehind A item head p) knows (done + 1) new
+  read_on old new x passed one known more h = record {
+    read = h.read ++ x ∷ [];
+    behind = one_behind x old new passed one known h.behind;
+    size = omega (arith, h.size, length-append h.read (x ∷ []));
+    known = more h.read h.size h.known;
+  }
+
+  pub next_read : {X : Type 0} (ended : Reader → Reader → Type 0) (ending : Rest → Result (Unit {0}) Fault)
+      (view : X → A) (old new : Reader) {o : Option X} (x : X) → o ≡ Some x → Moves ended old new (Ok o)
+      → NextItem view (item p) ending old new (Ok o)
+      → ((xs : List A) → length xs ≡ done → knew xs → knows (xs ++ view x ∷ []))
+      → AreReadSoFar (IsReaderBehind A item head p) knew done old
+      → AreReadSoFar (IsReaderBehind A item head p) knows (done + 1) new
+  next_read ended ending view old new x is moves next more h =
+      let one = subst (λ o. NextItem view (item p) ending old new (Ok o)) is next h.behind.known in
+      read_on old new (view x) (subst (λ o. Moves ended old new (Ok o)) is moves) one.1 one.2 more h
 
 -- it has a fault, so any number that goes on to it is missed
 pub none_behind : {A E : Type 0} {item : Problem → Rest → Read A} {head : Read (Problem × ℕ)} {p : Problem}
@@ -128,6 +155,26 @@ none_behind {item = item} {head = head} {p = p} {xs = xs} old e count some more 
     let all = count (p, length xs + old.left) in
     because e _ _ (λ fault. fault_behind head _ (λ h. read_each (item h.0.0) (count h.0) h.1) h.counted (fault_of_more (item p) (length xs) (all - (length xs + 1)) all h.start (rest_of old.rest) xs (omega arith) h.read fault))
     (missed_of e _ fails.1)
+
+-- ---- all derivations
+
+-- what can't be read up to an index can't be read at all
+pub some_missed : (wanted : List ℕ) (text : Rest) (m : TextError) → Missed m (items_up_to wanted text)
+    → Missed m (all_read text)
+some_missed wanted text m = because m _ _ (by (head_read text))
+  where
+    by : (h : Read (Problem × ℕ))
+        → HasFault (h >>= λ h. read_each (derivation_read h.0.0) (count_read wanted (length h.0.0.constraints) h.0.1) h.1)
+        → HasFault (h >>= λ h. read_each (derivation_read h.0.0) h.0.1 h.1)
+    by (Err f) fault = (f, refl)
+    by (Ok h) fault =
+        let some = count_read wanted (length h.0.0.constraints) h.0.1 in
+        fault_of_first (derivation_read h.0.0) some (h.0.1 - some) h.0.1 h.1 (omega arith) fault
+
+pub some_err : {A : Type 0} (r : Result A TextError) (wanted : List ℕ) (text : Rest)
+    → IfErr r (λ m. Missed m (items_up_to wanted text)) → IfErr r (λ m. Missed m (all_read text))
+some_err (Ok x) wanted text h = h
+some_err (Err m) wanted text h = some_missed wanted text m h
 
 -- ---- the head of a text
 
@@ -161,30 +208,20 @@ numbered_more first [] x = ap (λ n. (n, x) ∷ []) (omega arith)
 numbered_more first (y ∷ xs) x = ap (λ ys. (first, y) ∷ ys) (numbered_more (first + 1) xs x ∙ ap (λ n. enumerate_from (first + 1) xs ++ (n, x) ∷ []) (omega arith))
 
 -- so many derivations were read, and those of them that are wanted were kept
-pub record KeepsPartWay (text : Rest) (p : Problem) (wanted : List ℕ) (done : ℕ) (r : Reader)
-    (kept : List Numbered) : Type 0 where
-  pub read : List Derivation
-  pub behind : AreDerivationsRead text p read r
-  pub size : length read ≡ done
-  pub are : map numbered_of kept ≡ wanted_among wanted (length p.constraints) read
+abbrev pub KeepsPartWay : Rest → Problem → List ℕ → ℕ → Reader → List Numbered → Type 0
+KeepsPartWay text p wanted done r kept = AreReadSoFar (AreDerivationsRead text p)
+    (λ ds. map numbered_of kept ≡ wanted_among wanted (length p.constraints) ds) done r
 
-pub keeps_more : (text : Rest) (p : Problem) (wanted : List ℕ) (done index : ℕ) (old new : Reader)
-    (d : Derivation) (before now : List Numbered) → index ≡ length p.constraints + done
-    → HasPassed old new → derivation_read p (rest_of old.rest) ≡ Ok (d, rest_of new.rest)
-    → IsSome new.rest
+pub keeps_more : (wanted : List ℕ) (first index : ℕ) (d : Derivation) (before now : List Numbered)
     → map numbered_of now ≡ map numbered_of before ++ wanted_among wanted index (d ∷ [])
-    → KeepsPartWay text p wanted done old before → KeepsPartWay text p wanted (done + 1) new now
-keeps_more text p wanted done index old new d before now at passed one known kept so_far =
-    let first = length p.constraints in
+    → (ds : List Derivation) → index ≡ first + length ds
+    → map numbered_of before ≡ wanted_among wanted first ds
+    → map numbered_of now ≡ wanted_among wanted first (ds ++ d ∷ [])
+keeps_more wanted first index d before now kept ds at so_far =
     let is = is_wanted wanted in
-    record {
-      read = so_far.read ++ d ∷ [];
-      behind = one_behind d old new passed one known so_far.behind;
-      size = omega (arith, so_far.size, length-append so_far.read (d ∷ []));
-      are = kept ∙ ap (λ xs. xs ++ wanted_among wanted index (d ∷ [])) so_far.are
-          ∙ ap (λ n. wanted_among wanted first so_far.read ++ wanted_among wanted n (d ∷ [])) (omega (arith, at, so_far.size))
-          ∙ sym (ap (filter is) (numbered_more first so_far.read d) ∙ filter-append is (enumerate_from first so_far.read) ((first + length so_far.read, d) ∷ []));
-    }
+    kept ∙ ap (λ xs. xs ++ wanted_among wanted index (d ∷ [])) so_far
+    ∙ ap (λ n. wanted_among wanted first ds ++ wanted_among wanted n (d ∷ [])) at
+    ∙ sym (ap (filter is) (numbered_more first ds d) ∙ filter-append is (enumerate_from first ds) ((first + length ds, d) ∷ []))
 
 pub keeps_all : (text : Rest) (wanted : List ℕ) (done : ℕ) (r : Reader) (items : Items)
     → done ≡ count_read wanted (length items.problem.constraints) (done + r.left)
@@ -197,5 +234,5 @@ keeps_all text wanted done r items all so_far = record {
   read = so_far.read;
   rest = rest_of r.rest;
   each = rw (← so_far.size) at (ap (λ n. read_each (derivation_read items.problem) n so_far.behind.start) (sym all)) ∙ so_far.behind.read;
-  kept = so_far.are;
+  kept = so_far.known;
 }

@@ -14,6 +14,12 @@ because error.Read P Q f h = f h
 because error.Memory P Q f h = tt
 because error.Spent P Q f h = f h
 
+pub because_of : (m : TextError) (P : Type 0) → P → Because m P
+because_of (error.Refused c o) P h = h
+because_of error.Read P h = h
+because_of error.Memory P h = tt
+because_of error.Spent P h = h
+
 -- a call fails for the reason that a call in it gave
 pub err_is : {A : Type 0} (r : Result A TextError) {m : TextError} (P : TextError → Type 0)
     → IsErrAnd r (λ e. e ≡ m) → P m → IfErr r P

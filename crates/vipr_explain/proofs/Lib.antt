@@ -3,4 +3,7 @@ mod Dropping
 mod Lacks
 mod Tokens
 mod Walking
+mod Crossing
+mod NearOrder
 mod Nearing
+mod Valuing

@@ -1,12 +1,11 @@
 -- The search for the constraints that come nearest to a claim, one constraint after another
-use Rattle.std.proofs.Common.{◌≡◌, ℕ, zero, suc, ◌+◌, ◌<◌, Bool, true, false, cond, not, List, []}
-use Rattle.std.proofs.Common.{◌∷◌, ◌++◌, length, map, take, get_or, None, Some, refl, sym, ap}
+use Rattle.std.proofs.Common.{◌≡◌, ℕ, zero, suc, ◌+◌, ◌<◌, Bool, true, false, List, []}
+use Rattle.std.proofs.Common.{◌∷◌, ◌++◌, length, map, take, get_or, Option, None, Some, refl, sym, ap}
 use Rattle.std.proofs.Common.{◌∙◌, append_assoc, subst, inl, inr, arith, IsTrue}
-use Rattle.std.specs.Prelude.{◌↔◌, insert}
+use Rattle.std.specs.Prelude.{◌↔◌, ◌≢◌, if◌then◌else◌}
 use Rattle.std.specs.FinSet as set
 use Rattle.std.specs.FinSet.{FinSet, contains, contains-empty, same_set, nat_cmp-IsAntisymmetric}
 use Rattle.std.specs.Cmp.{nat_cmp_total}
-use Rattle.std.specs.List.{position_or_len}
 use Rattle.std.specs.Ordering.{nat_cmp}
 use Rattle.std.proofs.lemmas.Bool.{cases_lt}
 use Rattle.std.proofs.lemmas.List.{get_or_append_left, get_or-map, length-map, take-take}
@@ -14,7 +13,7 @@ use Rattle.vipr_spec.specs.Constraint.{Profile, Constraint as Meant, Condition, 
 use Rattle.vipr_spec.specs.Constraint.{NamesBelow}
 use Rattle.vipr_spec.specs.Certificate.{Problem, Derivation, Certificate, count, constraint_at}
 use Rattle.vipr_spec.specs.Certificate.{Named as Given, variables}
-use Rattle.vipr_spec.specs.Certificate.{reason_at, sol, RestsOn, RestsOnNothing, NamesEarlier}
+use Rattle.vipr_spec.specs.Certificate.{reason_at, sol, RefersTo, RestsOn, RestsOnNothing, NamesEarlier}
 use Rattle.vipr_spec.specs.Certificate.{no_constraint, is_assumption}
 use Rattle.vipr_spec.specs.Steps.{with_more, with_next, RefersBack, RestsBy}
 use Rattle.vipr_spec.proofs.Laws.{constraint_before, constraint_next, constraints_listed, count_next}
@@ -25,6 +24,8 @@ use Rattle.vipr_linear.specs.declared.constraint.Constraint.{Constraint}
 use Rattle.vipr_cert.specs.Items.{derivation_of, named_of, reason_of}
 use Rattle.vipr_cert.specs.declared.items.Derivation.{Derivation as Step}
 use Rattle.vipr_cert.specs.declared.items.Named.{Named}
+use Rattle.vipr_cert.specs.declared.items.Reason.{Reason}
+use Rattle.vipr_cert.specs.declared.items.Reason.TheVariants as by
 use Rattle.vipr_table.specs.Table.{DerivedBelow, step}
 use Rattle.vipr_table.specs.History.{IsTableOf}
 use Rattle.vipr_table.proofs.Laws.{DerivedBelow-step, IsTableOf-step}
@@ -33,9 +34,13 @@ use Rattle.vipr_rules.specs.Apply.{entry_resting_on}
 use Rattle.vipr_rules.specs.Claim.{IsTargetIn}
 use Rattle.vipr_rules.specs.declared.claim.Target.{Target}
 use Rattle.vipr_explain.specs.Near.{IsLike, comes_before, with_near, in_order, IsNear, AreNearest}
+use Rattle.vipr_explain.specs.Near.{IsCrossed, crossed_in}
 use Rattle.vipr_explain.specs.Near.{of_like, of_unlike, without_solutions, IsNextEntry, HasPassedAll}
+use Rattle.vipr_explain.specs.declared.near.Join.{Join}
 use Rattle.vipr_explain.specs.declared.near.Near.{Near}
 use Rattle.vipr_explain.specs.declared.near.NearSearch.{NearSearch}
+use Rattle.vipr_explain.proofs.Crossing.{crossed_next}
+use Rattle.vipr_explain.proofs.NearOrder.{next_near}
 
 -- ---- one constraint more
 
@@ -57,17 +62,13 @@ take_near : (k : ℕ) (n : Near) (ns : List Near) → take k (with_near n (take 
 take_near zero n ns = refl
 take_near (suc k) n [] = refl
 take_near (suc k) n (m ∷ ns) =
-    let behind : List Near → Bool → List Near = λ ms b. take (suc k) (insert (m ∷ ms) (cond (not b) (1 + position_or_len (comes_before n) ms) 0) n) in
+    let first : List Near → Bool → List Near = λ ms b. take (suc k) (if b then n ∷ m ∷ ms else m ∷ with_near n ms) in
     let rest = take_near k n ns in
-    elim (comes_before n m) as (λ b. behind (take k ns) b ≡ behind ns b) [
+    ap (take (suc k)) (next_near n m (take k ns)) ∙ (elim (comes_before n m) as (λ b. first (take k ns) b ≡ first ns b) [
       | true ↦ ap (λ ms. n ∷ ms) (take_behind k)
-      | false ↦ ap (λ i. take (suc k) (insert (m ∷ take k ns) i n)) (next (take k ns)) ∙ ap (λ ms. m ∷ ms) rest
-          ∙ sym (ap (λ i. take (suc k) (insert (m ∷ ns) i n)) (next ns))
-    ]
+      | false ↦ ap (λ ms. m ∷ ms) rest
+    ]) ∙ sym (ap (take (suc k)) (next_near n m ns))
   where
-    next : (ms : List Near) → 1 + position_or_len (comes_before n) ms ≡ suc (position_or_len (comes_before n) ms)
-    next ms = omega arith
-
     take_behind : (j : ℕ) → take j (m ∷ take j ns) ≡ take j (m ∷ ns)
     take_behind zero = refl
     take_behind (suc j) = ap (λ ms. m ∷ ms) (take-take j (suc j) ns (omega arith))
@@ -130,14 +131,15 @@ back_next c d back earlier k = elim (cases_lt k (count c)) [
 
 -- it is kept so, and its constraint was added
 pub passed_next : (P : Profile) (p : Problem) (ds : List Derivation) (d : Derivation) (e : Entry)
-    (s t : NearSearch) (i : ℕ) → i ≡ s.rows.next → t.target ≡ s.target → t.rows ≡ step s.rows e
+    (s t : NearSearch) (i : ℕ) (crossed : Option Join) → i ≡ s.rows.next
+    → crossed ≡ crossed_in s.rows d.reason → t.target ≡ s.target → t.rows ≡ step s.rows e
     → length t.scratch.sums ≡ length s.scratch.sums → NamesBelow (variables p) (condition d.stated).row
     → ((c : Certificate) → constraint_at c i ≡ condition_of e.constraint
     → ((a : ℕ) → IsTrue (contains e.assumptions a) ↔ RestsOn c i a)
-    → AreNearest c s.target i s.near.items → AreNearest c s.target (i + 1) t.near.items)
+    → ((j : Join) → (crossed ≡ Some j) ↔ IsCrossed c i j) → AreNearest c s.target i s.near.items → AreNearest c s.target (i + 1) t.near.items)
     → IsNextEntry (without_solutions p ds) d e → HasPassedAll P p ds s
     → HasPassedAll P p (ds ++ d ∷ []) t
-passed_next P p ds d e s t i index target rows scratch names added next so_far =
+passed_next P p ds d e s t i crossed index joins target rows scratch names added next so_far =
     let c = without_solutions p ds in
     let now = with_next c d in
     let here : count c ≡ i = sym (index ∙ so_far.rows.next) in
@@ -160,6 +162,7 @@ passed_next P p ds d e s t i index target rows scratch names added next so_far =
           (λ h. kept.1 ((next.entry.rests a).0 h), λ r. (next.entry.rests a).1 (kept.0 r)) in
           let nearest = added all (subst (λ k. constraint_at all k ≡ condition_of e.constraint) here (constraint_before now more (count c) l ∙ says))
           (λ a. subst (λ k. IsTrue (contains e.assumptions a) ↔ RestsOn all k a) here (same a))
+          (λ j. subst (λ k. (crossed ≡ Some j) ↔ IsCrossed all k j) here (rw joins (crossed_next c d more s.rows so_far.rows so_far.back back next.live j)))
           (subst (λ k. AreNearest all s.target k s.near.items) here before) in
           subst (λ x. AreNearest all x (count now) t.near.items) (sym target) (subst (λ k. AreNearest all s.target k t.near.items) behind nearest);
     }
@@ -172,6 +175,7 @@ kept_by_solution c step' by back =
     let earlier : NamesEarlier (count c) (Some d.reason) = subst (λ r. NamesEarlier (count c) (Some r)) (sym by) tt in
     record {
       earlier = earlier;
+      live = λ i r. absurd (subst (λ q. RefersTo (Some q) i) by r);
       entry = record {
         says = constraint_next c d;
         rests = λ a. (
@@ -182,3 +186,10 @@ kept_by_solution c step' by back =
         last = sym (last_next c d);
       };
     }
+
+pub not_by_solution : (r : Reason) → r ≢ by.Sol → reason_of r ≢ sol
+not_by_solution by.Asm h e = absurd (cc e)
+not_by_solution (by.Lin es) h e = absurd (cc e)
+not_by_solution (by.Rnd es) h e = absurd (cc e)
+not_by_solution (by.Uns i1 l1 i2 l2) h e = absurd (cc e)
+not_by_solution by.Sol h e = h refl

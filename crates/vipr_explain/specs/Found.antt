@@ -45,6 +45,10 @@ head_read r = do
   d ← derivations_read p.0.0 ss.1
   Ok ((p.0.0, d.0), d.1)
 
+-- all derivations of a text
+abbrev pub all_read : Rest → Read (List Derivation)
+all_read r = head_read r >>= λ h. read_each (derivation_read h.0.0) h.0.1 h.1
+
 -- the head of a text gives its problem, and how many items follow: these, which were read, and
 -- those that this reader has left
 pub record IsReaderBehind (A : Type 0) (item : Problem → Rest → Read A) (head : Read (Problem × ℕ))
@@ -60,6 +64,14 @@ AreSolutionsRead text p ss r = IsReaderBehind (Named Row) solution_read (problem
 
 abbrev pub AreDerivationsRead : Rest → Problem → List Derivation → Reader → Type 0
 AreDerivationsRead text p ds r = IsReaderBehind Derivation derivation_read (head_read text) p ds r
+
+-- so many of them were read, and this is known of them
+pub record AreReadSoFar {A : Type 0} (reads : List A → Reader → Type 0) (knows : List A → Type 0)
+    (done : ℕ) (r : Reader) : Type 0 where
+  pub read : List A
+  pub behind : reads read r
+  pub size : length read ≡ done
+  pub known : knows read
 
 -- ---- a listed solution
 

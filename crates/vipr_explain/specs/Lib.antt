@@ -9,4 +9,5 @@ pub mod Drops
 pub mod Words
 pub mod Refused
 pub mod Near
+pub mod Values
 pub mod Claims

@@ -1,7 +1,7 @@
 -- The constraints that come nearest to a claim: what is known of each, and their order
-use Rattle.std.specs.Prelude.{◌≡◌, ◌↔◌, ◌⊎◌, ◌+◌, ℕ, ℤ, Bool, true, false, not, ◌&&◌, ◌||◌}
-use Rattle.std.specs.Prelude.{IsTrue, List, [], ◌∷◌, length, take, insert, Option, Some, None}
-use Rattle.std.specs.Prelude.{if◌then◌else◌}
+use Rattle.std.specs.Prelude.{◌≡◌, ◌≢◌, ◌↔◌, ◌⊎◌, ◌+◌, ◌++◌, ℕ, ℤ, Bool, true, false, not}
+use Rattle.std.specs.Prelude.{◌&&◌, ◌||◌, IsTrue, List, [], ◌∷◌, length, take, insert, Option}
+use Rattle.std.specs.Prelude.{Some, None, All, Contains, if◌then◌else◌, ⊤}
 use Rattle.std.specs.FinSet.{contains}
 use Rattle.std.specs.List.{position_or_len}
 use Rattle.std.specs.declared.cmp.Ordering.{Ordering}
@@ -11,12 +11,13 @@ use Rattle.vipr_spec.specs.FractionOrder.{cmp_ℚ}
 use Rattle.vipr_spec.specs.Constraint.{Profile, Sense, equal, Condition, IsAbsurd, Dominates}
 use Rattle.vipr_spec.specs.Constraint.{RoundsTo}
 use Rattle.vipr_spec.specs.Certificate.{Problem, variables, Derivation, Certificate, count}
-use Rattle.vipr_spec.specs.Certificate.{constraint_at, RestsOn, RestsOnNothing, NamesEarlier}
-use Rattle.vipr_spec.specs.Steps.{with_more, with_next, RefersBack}
+use Rattle.vipr_spec.specs.Certificate.{constraint_at, reason_at, is_live, Reason, sol, uns}
+use Rattle.vipr_spec.specs.Certificate.{RestsOn, RestsOnNothing, NamesEarlier, RefersTo}
+use Rattle.vipr_spec.specs.Steps.{with_more, with_next, RefersBack, Refuses, StepDetail}
 use Rattle.vipr_spec.specs.Reading.{Rest}
 use Rattle.vipr_read.specs.Items.{Items as Reader}
 use Rattle.vipr_linear.specs.Constraint.{condition_of}
-use Rattle.vipr_table.specs.Table.{DerivedBelow}
+use Rattle.vipr_table.specs.Table.{DerivedBelow, Table, entry_at}
 use Rattle.vipr_table.specs.History.{IsEntryOf, IsTableOf}
 use Rattle.vipr_table.specs.declared.rows.Entry.{Entry}
 use Rattle.vipr_rules.specs.Claim.{IsMetBy, IsTargetIn}
@@ -24,7 +25,8 @@ use Rattle.vipr_rules.specs.declared.claim.Target.{Target}
 use Rattle.vipr_rules.specs.declared.claim.Target.TheVariants.{Absurdity, Bound, WholeBound}
 use Rattle.vipr_rules.specs.declared.claim.Target.TheVariants.{Nothing}
 use Rattle.vipr_page.specs.Algebra.{size}
-use Rattle.vipr_explain.specs.Found.{AreDerivationsRead}
+use Rattle.vipr_explain.specs.Found.{AreDerivationsRead, AreReadSoFar, HasFault, all_read}
+use Rattle.vipr_explain.specs.declared.near.Join.{Join}
 use Rattle.vipr_explain.specs.declared.near.Near.{Near}
 use Rattle.vipr_explain.specs.declared.near.NearSearch.{NearSearch}
 
@@ -93,7 +95,17 @@ abbrev pub in_order : List Near → List Near
 in_order [] = []
 in_order (n ∷ ns) = with_near n (in_order ns)
 
+-- none of these comes before one in front of it
+abbrev pub AreInOrder : List Near → Type 0
+AreInOrder [] = ⊤
+AreInOrder (n ∷ ns) = All (λ m. comes_before m n ≡ false) ns × AreInOrder ns
+
 -- ---- what is known of each
+
+-- constraint k joins two branches, and each rests on the other one's assumption alone of the two
+abbrev pub IsCrossed : Certificate → ℕ → Join → Type 0
+IsCrossed c k j = (reason_at c k ≡ Some (uns j.i1 j.l1 j.i2 j.l2))
+    × RestsOn c j.i1 j.l2 × RestsOn c j.i2 j.l1 × ¬ RestsOn c j.i1 j.l1 × ¬ RestsOn c j.i2 j.l2
 
 -- Constraint n.index is like what is wanted, and is strong enough if it says what is wanted; the
 -- gap is what it misses the bound by. The set has exactly the assumptions that it rests on.
@@ -103,6 +115,7 @@ pub record IsNear (c : Certificate) (t : Target) (n : Near) : Type 0 where
   pub gap : MissesBy t (constraint_at c n.index) n.gap
   pub rests : (a : ℕ) → IsTrue (contains n.assumptions a) ↔ RestsOn c n.index a
   pub free : IsTrue n.is_free ↔ RestsOnNothing c n.index
+  pub crossed : (j : Join) → (n.crossed ≡ Some j) ↔ IsCrossed c n.index j
 
 -- these are all of the first k constraints that are like what is wanted, from the last one on
 pub data AreLike (c : Certificate) (t : Target) : ℕ → List Near → Type 0 where
@@ -116,7 +129,26 @@ pub data AreLike (c : Certificate) (t : Target) : ℕ → List Near → Type 0 w
 abbrev pub AreNearest : Certificate → Target → ℕ → List Near → Type 0
 AreNearest c t k ns = (all : List Near) × AreLike c t k all × (ns ≡ take 3 (in_order all))
 
+-- constraint i is among these, or there are three, and it comes before none of them
+pub record HasPlace (c : Certificate) (t : Target) (ns : List Near) (i : ℕ) : Type 0 where
+  pub near : Near
+  pub index_is : near.index ≡ i
+  pub is : IsNear c t near
+  pub place : Contains ns near ⊎ ((length ns ≡ 3) × All (λ m. comes_before near m ≡ false) ns)
+
 -- ---- the search
+
+-- what a reason joins, if that is crossed, by the entries of its branches
+abbrev pub crossed_by : Join → Option Entry → Option Entry → Option Join
+crossed_by j (Some a) (Some b) =
+    if (not (contains a.assumptions j.l1) && not (contains b.assumptions j.l2))
+    && (contains a.assumptions j.l2 && contains b.assumptions j.l1) then Some j else None
+crossed_by j _ _ = None
+
+abbrev pub crossed_in : Table → Reason → Option Join
+crossed_in t (uns i1 l1 i2 l2) =
+    crossed_by (record { i1 = i1; l1 = l1; i2 = i2; l2 = l2 }) (entry_at t i1) (entry_at t i2)
+crossed_in t _ = None
 
 -- the solutions are left out: what a constraint states and rests on doesn't depend on them
 abbrev pub without_solutions : Problem → List Derivation → Certificate
@@ -125,7 +157,13 @@ without_solutions p ds = record { problem = p; solutions = []; derivations = ds 
 -- this is kept of the derivation d, which comes after the certificate c
 pub record IsNextEntry (c : Certificate) (d : Derivation) (e : Entry) : Type 0 where
   pub earlier : NamesEarlier (count c) (Some d.reason)
+  pub live : (i : ℕ) → RefersTo (Some d.reason) i → IsTrue (is_live c (count c) i)
   pub entry : IsEntryOf (with_next c d) (count c) e
+
+-- the derivation d, which comes after the certificate c, breaks a rule other than that of the
+-- listed solutions
+abbrev pub IsRefusedNext : Profile → Certificate → Derivation → Type 0
+IsRefusedNext P c d = (d.reason ≢ sol) × (n : ℕ) × (x : StepDetail) × Refuses P c d n x
 
 -- The first k constraints of a problem with these derivations were passed; whatever comes behind
 -- them, the nearest of them are kept. The table has all the derivations, and no variable but those
@@ -144,14 +182,24 @@ abbrev pub HasPassedAll : Profile → Problem → List Derivation → NearSearch
 HasPassedAll P p ds s = HasSearched P p ds (count (without_solutions p ds)) s
 
 -- so many derivations of a text were read and passed
-pub record SearchesPartWay (P : Profile) (text : Rest) (p : Problem) (done : ℕ) (r : Reader)
-    (s : NearSearch) : Type 0 where
-  pub read : List Derivation
-  pub behind : AreDerivationsRead text p read r
-  pub size : length read ≡ done
-  pub searched : HasPassedAll P p read s
+abbrev pub SearchesPartWay : Profile → Rest → Problem → ℕ → Reader → NearSearch → Type 0
+SearchesPartWay P text p done r s =
+    AreReadSoFar (AreDerivationsRead text p) (λ ds. HasPassedAll P p ds s) done r
 
 -- so were all of them
 abbrev pub IsNearSearch : Profile → Rest → NearSearch → Type 0
 IsNearSearch P text s =
     (p : Problem) × (n : ℕ) × (r : Reader) × (r.left ≡ 0) × SearchesPartWay P text p n r s
+
+-- so many derivations of a text are read, and the next one breaks a rule
+pub record BreaksRule (P : Profile) (text : Rest) : Type 0 where
+  pub problem : Problem
+  pub read : List Derivation
+  pub derivation : Derivation
+  pub reader : Reader
+  pub behind : AreDerivationsRead text problem (read ++ derivation ∷ []) reader
+  pub refused : IsRefusedNext P (without_solutions problem read) derivation
+
+-- what is nearest can't be found: the derivations can't be read, or one breaks a rule
+abbrev pub LacksNear : Profile → Rest → Type 0
+LacksNear P text = HasFault (all_read text) ⊎ BreaksRule P text

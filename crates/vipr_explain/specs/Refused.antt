@@ -2,7 +2,7 @@
 use Rattle.std.specs.Prelude.{◌≡◌, ◌↔◌, ℕ, ℤ, ⊤, List, [], ◌∷◌, IsTrue, Option, Some}
 use Rattle.std.specs.Prelude.{None, option_map, ◌≤◌, ◌⊎◌}
 use Rattle.std.specs.List.{All}
-use Rattle.vipr_spec.specs.Constraint.{Ints, IsSplit, two}
+use Rattle.vipr_spec.specs.Constraint.{Ints, IsSplit, Profile, two}
 use Rattle.vipr_spec.specs.Reading.{problem_read}
 use Rattle.vipr_linear.specs.Constraint.{condition_of, constraint_of}
 use Rattle.vipr_linear.specs.declared.constraint.Constraint.{Constraint}
@@ -23,9 +23,10 @@ use Rattle.vipr_page.specs.RowFaults.{row_faults}
 use Rattle.vipr_explain.specs.Drops.{IsLastUse}
 use Rattle.vipr_explain.specs.Excerpts.{IsPlaceAt}
 use Rattle.vipr_explain.specs.Found.{AreFoundItems, AreItemsOf, HasFault, LacksListed, items_up_to}
-use Rattle.vipr_explain.specs.Found.{text_rest}
+use Rattle.vipr_explain.specs.Found.{all_read, text_rest}
 use Rattle.vipr_explain.specs.Listed.{kept_derivation, place_found}
 use Rattle.vipr_explain.specs.Marked.{IsMarkOf, marks_in}
+use Rattle.vipr_explain.specs.Near.{LacksNear}
 use Rattle.vipr_explain.specs.declared.drops.LastUse.{LastUse}
 use Rattle.vipr_explain.specs.declared.excerpt.KnownPlace.{KnownPlace}
 use Rattle.vipr_explain.specs.declared.items.Items.{Items}
@@ -106,17 +107,17 @@ LacksStep text k =
     ⊎ ((own : Items) × AreFoundItems (k ∷ []) (text_rest text) own
     × (kept_derivation own.derivations.items k ≡ None))
 
--- the item at this place can't be read; nothing is said of the end
-abbrev pub LacksPlace : List ℕ → Place → Type 0
-LacksPlace text (at.Byte offset) = ⊥
-LacksPlace text (at.Sol number) = LacksListed number (problem_read (text_rest text))
-LacksPlace text (at.Der index) = LacksStep text index
-LacksPlace text at.End = ⊤
+-- the item at this place can't be read; at the end a derivation can't be, or breaks a rule
+abbrev pub LacksPlace : Profile → List ℕ → Place → Type 0
+LacksPlace P text (at.Byte offset) = ⊥
+LacksPlace P text (at.Sol number) = LacksListed number (problem_read (text_rest text))
+LacksPlace P text (at.Der index) = LacksStep text index
+LacksPlace P text at.End = LacksNear P (text_rest text)
 
--- what a verdict is about
-abbrev pub LacksItem : List ℕ → Verdict → Type 0
-LacksItem text (verdict.Verified report) = ⊤
-LacksItem text (verdict.Refused refusal) = LacksPlace text refusal.place
+-- what a verdict is about; of a verified text all is read
+abbrev pub LacksItem : Profile → List ℕ → Verdict → Type 0
+LacksItem P text (verdict.Verified report) = HasFault (all_read (text_rest text))
+LacksItem P text (verdict.Refused refusal) = LacksPlace P text refusal.place
 
 -- the place of a solution
 abbrev pub IsSolutionPlace : List ℕ → ℕ → Option KnownPlace → Type 0

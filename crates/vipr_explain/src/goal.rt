@@ -1,8 +1,10 @@
 //! What proves the claim, and which constraints come nearest to it if none does.
-ghost use Rattle.std.specs.Prelude.{IfOk, map};
+ghost use Rattle.std.specs.Prelude.{IfErr, IfOk, map};
 ghost use Rattle.vipr_rules.specs.Profile.{profile_of};
-ghost use Rattle.vipr_explain.specs.Found.{AreItemsOf};
+ghost use Rattle.vipr_explain.specs.Found.{AreItemsOf, Because, Missed, all_read, text_rest};
+ghost use Rattle.vipr_explain.specs.Near.{LacksNear};
 ghost use Rattle.vipr_explain.specs.Claims.{IsGoalRead, IsUnproved};
+ghost use Rattle.vipr_explain.specs.Values.{AreListedValues};
 
 use crate::items::open_problem;
 use crate::near::{Join, Near, NearSearch, find_near};
@@ -29,8 +31,12 @@ pub(crate) struct ProvedClaim {
 impl ProvedClaim {
     /// Reads what proves the claim of a report.
     pub(crate) fn find(subject: Subject<'_>, report: &Report) -> Reread<ProvedClaim>
-        ensures { IfOk result
+        ensures goal { IfOk result
             (λ k. IsGoalRead subject.entry.text.now report.now.goal k.goal) }
+        ensures values { IfOk result
+            (λ k. AreListedValues (text_rest subject.entry.text.now) k.values) }
+        ensures missing { IfErr result
+            (λ m. Missed m (all_read (text_rest subject.entry.text.now))) }
     {
         let goal = match report.goal {
             Some(goal) => Some(PlacedItems::read(subject, [goal].as_slice())?),
@@ -75,8 +81,10 @@ pub(crate) struct UnprovedClaim {
 impl UnprovedClaim {
     /// Reads the constraints that come nearest.
     pub(crate) fn find(subject: Subject<'_>) -> Reread<UnprovedClaim>
-        ensures { IfOk result
+        ensures found { IfOk result
             (IsUnproved (profile_of subject.entry.profile) subject.entry.text.now) }
+        ensures missing { IfErr result (λ m. Because m
+            (LacksNear (profile_of subject.entry.profile) (text_rest subject.entry.text.now))) }
     {
         let (problem, solutions) = open_problem(subject.alloc, subject.text)?;
         let has_solution = solutions.left() > 0;
@@ -135,8 +143,9 @@ impl UnprovedClaim {
 
 // Reads constraints that come near.
 fn read_near(subject: Subject<'_>, near: &[Near]) -> Reread<PlacedItems>
-    ensures { IfOk result
+    ensures read { IfOk result
         (AreItemsOf subject.entry.text.now (map (λ n. n.index) near.now)) }
+    ensures missing { IfErr result (λ m. Missed m (all_read (text_rest subject.entry.text.now))) }
 {
     let mut wanted = Vec::new(subject.alloc);
     for item in near {

@@ -1,14 +1,13 @@
 //! The items of a text that an explanation names.
-ghost use Rattle.std.specs.Prelude.{◌≡◌, ◌≤◌, ◌<◌, ◌+◌, ◌^◌, ◌∷◌, ◌++◌, ℕ, List, [], map, fold};
-ghost use Rattle.std.specs.Prelude.{max, length, IfErr, IfOk, OnOk};
-ghost use Rattle.vipr_spec.specs.Certificate.{Named as NamedMeant, Problem as ProblemMeant};
-ghost use Rattle.vipr_spec.specs.Constraint.{Row};
+ghost use Rattle.std.specs.Prelude.{◌≡◌, ◌≤◌, ◌<◌, ◌+◌, ◌^◌, ◌∷◌, ◌++◌, ℕ, [], map, fold, max};
+ghost use Rattle.std.specs.Prelude.{IfErr, IfOk, OnOk, ⊤};
+ghost use Rattle.vipr_spec.specs.Certificate.{Problem as ProblemMeant};
 ghost use Rattle.vipr_spec.specs.Reading.{Rest, problem_read};
 ghost use Rattle.vipr_cert.specs.Items.{solution_of, derivation_of};
-ghost use Rattle.vipr_explain.specs.Found.{AreDerivationsRead, AreFoundItems, AreSolutionsRead};
-ghost use Rattle.vipr_explain.specs.Found.{Because, IsListedSolution, LacksListed, Missed};
-ghost use Rattle.vipr_explain.specs.Found.{head_read, items_up_to, numbered_of, solutions_read};
-ghost use Rattle.vipr_explain.specs.Found.{text_rest, wanted_among};
+ghost use Rattle.vipr_explain.specs.Found.{AreDerivationsRead, AreFoundItems, AreReadSoFar};
+ghost use Rattle.vipr_explain.specs.Found.{AreSolutionsRead, Because, IsListedSolution};
+ghost use Rattle.vipr_explain.specs.Found.{LacksListed, Missed, head_read, items_up_to};
+ghost use Rattle.vipr_explain.specs.Found.{numbered_of, solutions_read, text_rest, wanted_among};
 
 use crate::text::Reread;
 use std::alloc::{AllocError, Global};
@@ -120,8 +119,7 @@ fn pass_solutions(alloc: Global, solutions: &mut Solutions<Bytes<'_>>, count: u3
     requires { count ≤ solutions.old.left }
     ensures left { OnOk result (solutions.new.left + count ≡ solutions.old.left) }
     ensures read { (p : ProblemMeant) (text : Rest) → AreSolutionsRead text p [] solutions.old
-        → OnOk result ((ss : List (NamedMeant Row)) × AreSolutionsRead text p ss solutions.new
-        × (length ss ≡ count)) }
+        → OnOk result (AreReadSoFar (AreSolutionsRead text p) (λ _. ⊤) count solutions.new) }
     ensures error { (p : ProblemMeant) (text : Rest) (n : ℕ) → count ≤ n
         → AreSolutionsRead text p [] solutions.old
         → IfErr result (λ m. Missed m (solutions_read (problem_read text) n)) }

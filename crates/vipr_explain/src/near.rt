@@ -1,22 +1,30 @@
 //! Finds the constraints that come nearest to a claim, and the assumptions that they rest on.
 ghost use Rattle.std.specs.Prelude.{◌≡◌, ◌↔◌, ◌+◌, ◌<◌, ◌≤◌, ◌^◌, ◌∷◌, ◌++◌, ℕ, List, []};
-ghost use Rattle.std.specs.Prelude.{IsTrue, IfOk, OnOk, length, position, take, unsigned_abs};
+ghost use Rattle.std.specs.Prelude.{IsTrue, IfErr, IfOk, OnOk, Some, length, take, unsigned_abs};
 ghost use Rattle.std.specs.FinSet.{contains};
+ghost use Rattle.std.specs.List.{position_or_len};
 ghost use Rattle.vipr_spec.specs.Fraction.{most, whole};
 ghost use Rattle.vipr_spec.specs.Constraint.{at, NamesBelow};
 ghost use Rattle.vipr_spec.specs.Certificate.{Certificate, Derivation as DerivationMeant, RestsOn};
 ghost use Rattle.vipr_spec.specs.Certificate.{constraint_at, variables};
 ghost use Rattle.vipr_spec.specs.Steps.{RefersBack};
 ghost use Rattle.vipr_linear.specs.Constraint.{condition_of};
-ghost use Rattle.vipr_cert.specs.Items.{derivation_of};
+ghost use Rattle.vipr_cert.specs.Items.{derivation_of, reason_of};
 ghost use Rattle.vipr_table.specs.History.{IsTableOf};
 ghost use Rattle.vipr_table.specs.Table.{DerivedBelow, step as table_step};
 ghost use Rattle.vipr_rules.specs.Profile.{profile_of};
-ghost use Rattle.vipr_explain.specs.Found.{AreDerivationsRead, text_rest};
-ghost use Rattle.vipr_explain.specs.Near.{AreNearest, HasPassedAll, HasSearched, IsGapBetween};
-ghost use Rattle.vipr_explain.specs.Near.{IsLike, IsLikeBound, IsNearSearch, IsNextEntry, MissesBy};
-ghost use Rattle.vipr_explain.specs.Near.{IsRoundedSide, comes_before, misses_less, with_near};
+ghost use Rattle.vipr_rules.specs.declared.claim.Target.{Target as TargetMeant};
+ghost use Rattle.vipr_rules.specs.declared.error.RuleError.TheVariants.{Memory as NoMemory};
+ghost use Rattle.vipr_scan.specs.declared.error.TextError.TheVariants.{Memory};
+ghost use Rattle.vipr_explain.specs.Found.{AreDerivationsRead, Because, text_rest};
+ghost use Rattle.vipr_explain.specs.Near.{AreInOrder, AreNearest, HasPassedAll, HasPlace};
+ghost use Rattle.vipr_explain.specs.Near.{HasSearched, IsCrossed, IsGapBetween, IsLike};
+ghost use Rattle.vipr_explain.specs.Near.{IsLikeBound, IsNearSearch, IsNextEntry};
+ghost use Rattle.vipr_explain.specs.Near.{IsRefusedNext, IsRoundedSide, LacksNear, MissesBy};
+ghost use Rattle.vipr_explain.specs.Near.{comes_before, crossed_in, misses_less, with_near};
 ghost use Rattle.vipr_explain.specs.Near.{without_solutions};
+ghost use Rattle.vipr_explain.specs.declared.near.Join.{Join as JoinMeant};
+ghost use Rattle.vipr_explain.specs.declared.near.Near.{Near as NearMeant};
 
 use crate::items::open_derivations;
 use crate::text::{Reread, Subject};
@@ -72,8 +80,10 @@ pub(crate) struct NearSearch {
 
 /// The constraints of a text that come nearest to its claim.
 pub(crate) fn find_near(subject: Subject<'_>) -> Reread<NearSearch>
-    ensures { IfOk result (IsNearSearch (profile_of subject.entry.profile)
+    ensures near { IfOk result (IsNearSearch (profile_of subject.entry.profile)
         (text_rest subject.entry.text.now)) }
+    ensures missing { IfErr result (λ m. Because m
+        (LacksNear (profile_of subject.entry.profile) (text_rest subject.entry.text.now))) }
 {
     let (problem, mut derivations) = open_derivations(subject.alloc, subject.text)?;
     let search = search_all(subject, &problem, &mut derivations);
@@ -81,6 +91,15 @@ pub(crate) fn find_near(subject: Subject<'_>) -> Reread<NearSearch>
     drop(problem);
     search
 }
+
+/// The nearest constraints are in order, and one that isn't among them comes before none of them.
+pub(crate) fn nearest_come_first()
+    ensures order { (c : Certificate) (t : TargetMeant) (k : ℕ) (ns : List NearMeant)
+        → AreNearest c t k ns → AreInOrder ns }
+    ensures all { (c : Certificate) (t : TargetMeant) (k : ℕ) (ns : List NearMeant)
+        → AreNearest c t k ns → (i : ℕ) → i < k → IsLike t (constraint_at c i)
+        → HasPlace c t ns i }
+{}
 
 // A search among the constraints of a problem, and all derivations behind it.
 fn search_all(
@@ -91,8 +110,10 @@ fn search_all(
     requires behind { AreDerivationsRead (text_rest subject.text.now) problem.now []
         derivations.old }
     requires room { derivations.old.constraints + derivations.old.left < 2 ^ 32 }
-    ensures { IfOk result (IsNearSearch (profile_of subject.entry.profile)
+    ensures near { IfOk result (IsNearSearch (profile_of subject.entry.profile)
         (text_rest subject.entry.text.now)) }
+    ensures missing { IfErr result (λ m. Because m
+        (LacksNear (profile_of subject.entry.profile) (text_rest subject.entry.text.now))) }
 {
     let mut search = NearSearch::new(subject, problem)?;
     match search.pass_all(subject, problem, derivations) {
@@ -136,8 +157,10 @@ impl NearSearch {
             derivations.old }
         requires room { derivations.old.constraints + derivations.old.left < 2 ^ 32 }
         requires none { HasSearched (profile_of subject.profile) problem.now [] 0 self.old }
-        ensures { OnOk result (IsNearSearch (profile_of subject.entry.profile)
+        ensures near { OnOk result (IsNearSearch (profile_of subject.entry.profile)
             (text_rest subject.entry.text.now) self.new) }
+        ensures missing { IfErr result (λ m. Because m
+            (LacksNear (profile_of subject.entry.profile) (text_rest subject.entry.text.now))) }
     {
         self.pass_problem(subject, problem)?;
         for passed in 0..derivations.left() {
@@ -180,10 +203,14 @@ impl NearSearch {
         requires names { NamesBelow (variables problem.now) (at step.old.constraint.row) }
         requires searched { (ds : List DerivationMeant)
             × HasPassedAll (profile_of subject.profile) problem.now ds self.old }
-        ensures { (ds : List DerivationMeant)
+        ensures passed { (ds : List DerivationMeant)
             → HasPassedAll (profile_of subject.entry.profile) problem.now ds self.old
             → OnOk result (HasPassedAll (profile_of subject.entry.profile) problem.now
             (ds ++ derivation_of step.old ∷ []) self.new) }
+        ensures missing { (ds : List DerivationMeant)
+            → HasPassedAll (profile_of subject.entry.profile) problem.now ds self.old
+            → IfErr result (λ m. Because m (IsRefusedNext (profile_of subject.entry.profile)
+            (without_solutions problem.now ds) (derivation_of step.old))) }
     {
         let index = self.rows.next();
         let crossed = crossed_join(&self.rows, &step.reason);
@@ -221,6 +248,9 @@ fn entry_of(
     ensures scratch { length scratch.new.sums ≡ length scratch.old.sums }
     ensures next { (ds : List DerivationMeant) → let c = without_solutions problem.now ds in
         IsTableOf c rows.now → RefersBack c → IfOk result (IsNextEntry c (derivation_of step.old)) }
+    ensures missing { (ds : List DerivationMeant) → let c = without_solutions problem.now ds in
+        IsTableOf c rows.now → RefersBack c → IfErr result (λ m. Because m
+        (IsRefusedNext (profile_of subject.entry.profile) c (derivation_of step.old))) }
 {
     if let Reason::Sol = step.reason {
         return Ok(take_entry(subject.alloc, step, Assumptions::empty(subject.alloc)));
@@ -236,10 +266,19 @@ fn entry_of(
     );
     match kept {
         Ok(entry) => Ok(entry),
-        Err(RuleError::Memory) => Err(TextError::Memory),
-        Err(error) => {
+        Err(error) => Err(missing_by(error)),
+    }
+}
+
+// Why a derivation isn't kept, which is refused so.
+fn missing_by(error: RuleError) -> TextError
+    ensures { (result ≡ Memory) ↔ (error ≡ NoMemory) }
+{
+    match error {
+        RuleError::Memory => TextError::Memory,
+        error => {
             drop(error);
-            Err(TextError::Read)
+            TextError::Read
         }
     }
 }
@@ -247,7 +286,8 @@ fn entry_of(
 // Places what is kept of a derivation, until its last reference.
 fn place(rows: &mut Table, entry: Entry) -> Reread<()>
     requires { rows.old.next + 1 < 2 ^ 32 }
-    ensures { OnOk result (rows.new ≡ table_step rows.old entry) }
+    ensures placed { OnOk result (rows.new ≡ table_step rows.old entry) }
+    ensures memory { IfErr result (λ m. m ≡ Memory) }
 {
     rows.advance();
     match rows.put(entry) {
@@ -260,7 +300,9 @@ fn place(rows: &mut Table, entry: Entry) -> Reread<()>
 }
 
 // What a reason joins, if each branch rests on the other one's assumption and not on its own.
-fn crossed_join(rows: &Table, reason: &Reason) -> Option<Join> {
+fn crossed_join(rows: &Table, reason: &Reason) -> Option<Join>
+    ensures { result ≡ crossed_in rows.now (reason_of reason.now) }
+{
     let References::Branches { i1, l1, i2, l2 } = reason.references() else {
         return None;
     };
@@ -285,6 +327,7 @@ fn add(
 ) -> Result<(), AllocError>
     ensures { (c : Certificate) → constraint_at c index ≡ condition_of constraint.now
         → ((a : ℕ) → IsTrue (contains assumptions.now a) ↔ RestsOn c index a)
+        → ((j : JoinMeant) → (crossed ≡ Some j) ↔ IsCrossed c index j)
         → AreNearest c target.now index all.old.items
         → OnOk result (AreNearest c target.now (index + 1) all.new.items) }
 {
@@ -306,17 +349,21 @@ fn add(
 fn insert(all: &mut Vec<Near>, near: Near) -> Result<(), AllocError>
     ensures { OnOk result (all.new.items ≡ take 3 (with_near near all.old.items)) }
 {
-    let place = place_of(&near, all.as_slice()).unwrap_or(all.len());
+    let place = place_of(&near, all.as_slice());
     all.insert(place, near)?;
     all.truncate(MOST_SHOWN);
     Ok(())
 }
 
-// The position of the first constraint that another one comes before.
-fn place_of(near: &Near, others: &[Near]) -> Option<usize>
-    ensures { result ≡ position (comes_before near.now) others.now }
+// How many constraints are in front of the first one that another one comes before.
+fn place_of(near: &Near, others: &[Near]) -> usize
+    ensures place { result ≡ position_or_len (comes_before near.now) others.now }
+    ensures within { result ≤ length others.now }
 {
-    others.iter().position(|other| is_nearer(near, other))
+    others
+        .iter()
+        .take_while(|other| !is_nearer(near, other))
+        .count()
 }
 
 // Whether a constraint has the row of what is wanted, and its sense or more; or is absurd, if that

@@ -1,16 +1,21 @@
 //! A listed solution that is refused, and a primal bound that no listed one attains.
-ghost use Rattle.std.specs.Prelude.{IfErr, IfOk};
-ghost use Rattle.vipr_cert.specs.Items.{solution_of};
+ghost use Rattle.std.specs.Prelude.{◌≡◌, ◌↔◌, ◌++◌, ◌∷◌, [], List, length, IsTrue, IfErr, IfOk};
+ghost use Rattle.std.specs.Prelude.{OnOk, filter};
+ghost use Rattle.vipr_cert.specs.Items.{claim_of, solution_of};
+ghost use Rattle.vipr_spec.specs.Constraint.{Row as RowMeant, at, NamesBelow};
+ghost use Rattle.vipr_spec.specs.Certificate.{Named as NamedMeant, variables};
 ghost use Rattle.vipr_spec.specs.Reading.{problem_read};
-ghost use Rattle.vipr_explain.specs.Found.{Because, IsListedSolution, LacksListed, text_rest};
+ghost use Rattle.vipr_explain.specs.Found.{AreSolutionsRead, Because, IsListedSolution};
+ghost use Rattle.vipr_explain.specs.Found.{LacksListed, Missed, head_read, text_rest};
 ghost use Rattle.vipr_explain.specs.Refused.{IsBroken, IsSolutionPlace};
+ghost use Rattle.vipr_explain.specs.Values.{AreListedValues, AreValues, IsExchanged, is_first};
 
 use crate::excerpt::KnownPlace;
 use crate::items::{open_problem, read_solution};
 use crate::marks::{ItemPlace, ItemSort, find_item};
 use crate::shown::write_line;
 use crate::text::{Reread, Subject};
-use std::alloc::{AllocError, Global};
+use std::alloc::AllocError;
 use vipr_bytes::Bytes;
 use vipr_cert::{Claim, Name, Named, Problem};
 use vipr_check::Detail;
@@ -203,17 +208,18 @@ pub(crate) struct ListedValues {
 
 impl ListedValues {
     /// Reads the listed solutions.
-    pub(crate) fn find(subject: Subject<'_>) -> Reread<ListedValues> {
+    pub(crate) fn find(subject: Subject<'_>) -> Reread<ListedValues>
+        ensures found { IfOk result (AreListedValues (text_rest subject.entry.text.now)) }
+        ensures missing { IfErr result
+            (λ m. Missed m (head_read (text_rest subject.entry.text.now))) }
+    {
         let (problem, mut solutions) = open_problem(subject.alloc, subject.text)?;
         let mut known = ListedValues {
             first: Vec::new(subject.alloc),
             best: None,
-            is_exchanged: match problem.claim() {
-                Claim::Range(Some(lower), Some(upper)) => !compares(Sense::L, lower, upper),
-                _ => false,
-            },
+            is_exchanged: is_exchanged(problem.claim()),
         };
-        let added = known.add_all(subject.alloc, &problem, &mut solutions);
+        let added = known.add_all(subject, &problem, &mut solutions);
         drop(solutions);
         drop(problem);
         added.and(Ok(known))
@@ -268,13 +274,21 @@ impl ListedValues {
     // Adds the objective at all solutions that are to come.
     fn add_all(
         &mut self,
-        alloc: Global,
+        subject: Subject<'_>,
         problem: &Problem,
         solutions: &mut Solutions<Bytes<'_>>,
-    ) -> Reread<()> {
+    ) -> Reread<()>
+        requires behind { AreSolutionsRead (text_rest subject.text.now) problem.now []
+            solutions.old }
+        requires none { AreValues problem.now [] self.old }
+        ensures found { OnOk result
+            (AreListedValues (text_rest subject.entry.text.now) self.new) }
+        ensures missing { IfErr result
+            (λ m. Missed m (head_read (text_rest subject.entry.text.now))) }
+    {
         let objective = Solution(problem.objective().clone()?);
         for number in 0..solutions.left() {
-            if let Some(solution) = solutions.next(alloc)? {
+            if let Some(solution) = solutions.next(subject.alloc)? {
                 self.add(problem, &objective, number, solution)?;
             }
         }
@@ -289,7 +303,13 @@ impl ListedValues {
         objective: &Solution,
         number: u32,
         solution: Named<Solution>,
-    ) -> Result<(), AllocError> {
+    ) -> Result<(), AllocError>
+        requires { objective.now.0 ≡ problem.now.objective }
+        ensures { (ss : List (NamedMeant RowMeant)) → length ss ≡ number
+            → NamesBelow (variables problem.now) (at solution.item.0)
+            → AreValues problem.now ss self.old
+            → OnOk result (AreValues problem.now (ss ++ solution_of solution ∷ []) self.new) }
+    {
         let Named { name, item } = solution;
         let value = value_at(&item.0, objective);
         drop(item);
@@ -298,12 +318,33 @@ impl ListedValues {
             return Ok(());
         };
         self.best = better(problem, self.best, value);
-        if number < MOST_SOLUTIONS {
-            self.first.push((number, name, value))?;
-        } else {
-            drop(name);
-        }
-        Ok(())
+        keep_first(&mut self.first, (number, name, value))
+    }
+}
+
+// Keeps a solution's number and name, and the objective there, if it is one of the first.
+fn keep_first(
+    first: &mut Vec<(u32, Name, Frac)>,
+    known: (u32, Name, Frac),
+) -> Result<(), AllocError>
+    ensures { OnOk result
+        (first.new.items ≡ first.old.items ++ filter is_first (known ∷ [])) }
+{
+    if known.0 < MOST_SOLUTIONS {
+        first.push(known)?;
+    } else {
+        drop(known);
+    }
+    Ok(())
+}
+
+// Whether the lower bound of a claim is above the upper one.
+fn is_exchanged(claim: Claim) -> bool
+    ensures { IsTrue result ↔ IsExchanged (claim_of claim) }
+{
+    match claim {
+        Claim::Range(Some(lower), Some(upper)) => !compares(Sense::L, lower, upper),
+        _ => false,
     }
 }
 

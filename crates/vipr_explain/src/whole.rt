@@ -1,5 +1,6 @@
 //! The whole explanation of a verdict: what is found for it, and how that is shown.
 ghost use Rattle.std.specs.Prelude.{IfErr};
+ghost use Rattle.vipr_rules.specs.Profile.{profile_of};
 ghost use Rattle.vipr_explain.specs.Found.{Because};
 ghost use Rattle.vipr_explain.specs.Refused.{LacksItem};
 
@@ -72,7 +73,8 @@ pub fn page_for(
 
 // Finds what explains a verdict.
 fn find<'a>(subject: Subject<'a>, verdict: &'a Verdict, detail: &'a Detail) -> Reread<Findings<'a>>
-    ensures { IfErr result (λ m. Because m (LacksItem subject.entry.text.now verdict.now)) }
+    ensures { IfErr result (λ m. Because m
+        (LacksItem (profile_of subject.entry.profile) subject.entry.text.now verdict.now)) }
 {
     let refusal = match verdict {
         Verdict::Verified(report) => {

@@ -1,6 +1,7 @@
 use Rattle.std.proofs.Common.{◌≡◌, ap, arith, inl, inr, length, sym, ◌∙◌}
 use Rattle.std.proofs.lemmas.List.{length-map}
 use Rattle.vipr_cert.specs.Items.{derivation_of}
+use Rattle.vipr_explain.proofs.Again.{read_on}
 use Rattle.vipr_explain.proofs.Dropping.{last_found, last_more}
 use Rattle.vipr_explain.proofs.drops.last_among.Goals as goal
 
@@ -15,7 +16,8 @@ loop-passed-preserved c =
       read = λ text front.
           let part = so_far.read text front in
           let one = rw c.in-Some.is at (c.in_ok-step.ensures.read p part.behind.knows part.behind.known (omega (arith, passed.counted))) in
-          last_more text p c.args.index c.args.needed_by c.loop-passed.passed c.loop-passed.last _ _ c.loop-passed.derivations c.next_derivation.new.derivations (derivation_of c.in-Some.step) (omega arith) passed one.0 one.1 c.later_of-last.ensures part;
+          read_on c.loop-passed.derivations c.next_derivation.new.derivations (derivation_of c.in-Some.step) passed one.0 one.1
+          (λ ds done last. last_more c.args.index c.args.needed_by (length p.constraints) c.loop-passed.last _ _ (derivation_of c.in-Some.step) c.later_of-last.ensures ds (omega (arith, done)) last) part;
     }
 
 pub returns-in_default-clause-found : goal.returns-in_default-clause-found

@@ -1,10 +1,10 @@
 use Rattle.std.proofs.Common.{◌≡◌, Ok, ap, arith, length, subst, sym, ◌∙◌}
 use Rattle.std.proofs.lemmas.List.{length-map}
-use Rattle.vipr_spec.specs.Reading.{derivation_read, end_read}
+use Rattle.vipr_spec.specs.Reading.{end_read}
 use Rattle.vipr_cert.specs.Items.{derivation_of}
-use Rattle.vipr_read.specs.Items.{HasEnded, Moves, NextItem}
+use Rattle.vipr_read.specs.Items.{HasEnded, Moves}
 use Rattle.vipr_explain.specs.Found.{count_read}
-use Rattle.vipr_explain.proofs.Again.{keeps_all, keeps_more, none_behind}
+use Rattle.vipr_explain.proofs.Again.{keeps_all, keeps_more, next_read, none_behind}
 use Rattle.vipr_explain.proofs.Lacks.{err_is}
 use Rattle.vipr_explain.proofs.items.keep_wanted.Goals as goal
 use Rattle.vipr_explain.proofs.items.keep_wanted.Goals.{in-None, in-Some+in_ok-keep-in-Some}
@@ -23,8 +23,8 @@ loop-passed-preserved c =
             left = omega (arith, moved.counted);
             read = λ text front.
                 let part = c.loop-passed.invariant.read text front in
-                let one = subst (λ o. NextItem derivation_of (derivation_read p) end_read old new (Ok o)) w.in-Some.is (next.read p part.behind.knows) part.behind.known in
-                rw w.kept-is (keeps_more text p c.args.wanted.now c.loop-passed.passed _ old new (derivation_of w.in-Some.derivation) c.loop-passed.kept.items w.keep.new.kept.items (omega arith) moved one.1 one.2 w.in_ok-keep-in-Some.ensures part);
+                next_read HasEnded end_read derivation_of old new w.in-Some.derivation w.in-Some.is next.moves (next.read p part.behind.knows)
+                (λ ds done so_far. rw w.kept-is (keeps_more c.args.wanted.now (length p.constraints) _ (derivation_of w.in-Some.derivation) c.loop-passed.kept.items w.keep.new.kept.items w.in_ok-keep-in-Some.ensures ds (omega (arith, done)) so_far)) part;
           }
       | in-None w ↦
           let ended = subst (λ o. Moves HasEnded old new (Ok o)) w.in-None.is next.moves in

@@ -21,7 +21,7 @@ returns-in_err-solution-clause-error c p text front =
     let part = passed.read p text front in
     let e = c.in_err-solution.field-0.0 in
     err_is c.from_residual-in_err-solution.result _ c.from_residual-in_err-solution.ensures.1 (because e _ (LacksListed c.args.number (problem_read text)) (λ fault. inr fault)
-    (none_behind mid e (λ _. c.args.number + 1) (omega (arith, passed.left)) (omega (arith, part.2)) (c.in_err-solution.ensures.read p part.1.knows part.1.known) part.1))
+    (none_behind mid e (λ _. c.args.number + 1) (omega (arith, passed.left)) (omega (arith, part.size)) (c.in_err-solution.ensures.read p part.behind.knows part.behind.known) part.behind))
 
 pub returns-in-Some-clause-found : goal.returns-in-Some-clause-found
 returns-in-Some-clause-found c p text front =
@@ -29,16 +29,16 @@ returns-in-Some-clause-found c p text front =
     let new = c.next.new.self in
     let part = c.in_ok-pass_solutions.ensures.read p text front in
     let moved = subst (λ o. Moves HasNone mid new (Ok o)) c.in-Some.is c.in_ok-solution.ensures.moves in
-    let next = subst (λ o. NextItem solution_of (solution_read p) (λ _. Ok tt) mid new (Ok o)) c.in-Some.is (c.in_ok-solution.ensures.read p part.1.knows) part.1.known in
+    let next = subst (λ o. NextItem solution_of (solution_read p) (λ _. Ok tt) mid new (Ok o)) c.in-Some.is (c.in_ok-solution.ensures.read p part.behind.knows) part.behind.known in
     let s = solution_of c.in-Some.solution in
-    let size : length (part.0 ++ s ∷ []) ≡ c.args.number + 1 = omega (arith, part.2, length-append part.0 (s ∷ [])) in
-    let behind = one_behind s mid new moved next.1 next.2 part.1 in
+    let size : length (part.read ++ s ∷ []) ≡ c.args.number + 1 = omega (arith, part.size, length-append part.read (s ∷ [])) in
+    let behind = one_behind s mid new moved next.1 next.2 part.behind in
     record {
-      count = length (part.0 ++ s ∷ []) + new.left;
+      count = length (part.read ++ s ∷ []) + new.left;
       behind = behind.start;
       problem = behind.counted;
       within = omega (arith, size);
-      before = part.0;
+      before = part.read;
       rest = rest_of new.rest;
-      solution = subst (λ n. read_each (solution_read p) n behind.start ≡ Ok (part.0 ++ s ∷ [], rest_of new.rest)) size behind.read;
+      solution = subst (λ n. read_each (solution_read p) n behind.start ≡ Ok (part.read ++ s ∷ [], rest_of new.rest)) size behind.read;
     }

@@ -11,16 +11,16 @@ returns-in-Ok-finish-clause-read c =
     let mid = c.pass_solutions.new.solutions in
     let d = c.in-Ok-finish.derivations in
     let part = c.in-Ok.ensures.read p text c.in_ok-problem.ensures.read in
-    let found = c.in-Ok-finish.ensures.read p part.1.knows part.1.known in
-    at_front derivation_read (head_read text) p d (still_knows mid d p c.in-Ok-finish.ensures.remembers part.1.knows) found.1
-    (head_found text p part.0 mid d part.1 (omega (arith, c.in-Ok.ensures.left)) found.0)
+    let found = c.in-Ok-finish.ensures.read p part.behind.knows part.behind.known in
+    at_front derivation_read (head_read text) p d (still_knows mid d p c.in-Ok-finish.ensures.remembers part.behind.knows) found.1
+    (head_found text p part.read mid d part.behind (omega (arith, c.in-Ok.ensures.left)) found.0)
 
 pub returns-in-Err-finish-clause-error : goal.returns-in-Err-finish-clause-error
 returns-in-Err-finish-clause-error c =
     let text = text_rest c.args.text.now in
     let p = c.in_ok-problem.problem in
     let part = c.in-Ok.ensures.read p text c.in_ok-problem.ensures.read in
-    head_missed text p part.0 c.pass_solutions.new.solutions c.in-Err-finish.missing part.1 (omega (arith, c.in-Ok.ensures.left)) (c.in-Err-finish.ensures.read p part.1.knows part.1.known)
+    head_missed text p part.read c.pass_solutions.new.solutions c.in-Err-finish.missing part.behind (omega (arith, c.in-Ok.ensures.left)) (c.in-Err-finish.ensures.read p part.behind.knows part.behind.known)
 
 pub returns-in-Err-clause-error : goal.returns-in-Err-clause-error
 returns-in-Err-clause-error c =

@@ -1,7 +1,9 @@
-use Rattle.std.proofs.Common.{◌<◌, ◌∷◌, ◌++◌, [], arith, ◌∙◌}
-use Rattle.std.proofs.lemmas.List.{length-append}
+use Rattle.std.proofs.Common.{◌≡◌, Ok, arith, subst}
+use Rattle.std.specs.Prelude.{⊤}
 use Rattle.vipr_cert.specs.Items.{solution_of}
-use Rattle.vipr_explain.proofs.Again.{counted_down, next_behind, none_behind}
+use Rattle.vipr_read.specs.Items.{HasNone, Moves}
+use Rattle.vipr_explain.specs.Found.{AreReadSoFar, AreSolutionsRead}
+use Rattle.vipr_explain.proofs.Again.{next_read, none_behind, some_read}
 use Rattle.vipr_explain.proofs.Lacks.{err_is}
 use Rattle.vipr_explain.proofs.items.pass_solutions.Goals as goal
 
@@ -10,21 +12,21 @@ loop-preserved c =
     let old = c.loop.solutions in
     let new = c.next.new.self in
     let next = c.in_ok-next.ensures in
-    let some : 0 < old.left = omega arith in
+    let some = some_read old new c.in_ok-next.field-0 (omega arith) next.moves in
+    let moved = subst (λ o. Moves HasNone old new (Ok o)) some.1 next.moves in
     record {
-      left = omega (arith, counted_down old new c.in_ok-next.field-0 some next.moves);
+      left = omega (arith, moved.counted);
       read = λ p text front.
           let part = c.loop.invariant.read p text front in
-          let more = next_behind solution_of old new c.in_ok-next.field-0 some next.moves (next.read p part.1.knows) part.1 in
-          (part.0 ++ more.0 ∷ [], more.1, omega (arith, part.2, length-append part.0 (more.0 ∷ [])));
+          next_read HasNone (λ _. Ok tt) solution_of old new some.0 some.1 next.moves (next.read p part.behind.knows) (λ _ _ _. tt) part;
     }
 
 pub returns-clause-read : goal.returns-clause-read
 returns-clause-read c p text front =
-    let part = c.loop.invariant.read p text front in
-    (part.0, part.1, part.2 ∙ omega arith)
+    let all : c.loop.counter ≡ c.args.count = omega arith in
+    subst (λ n. AreReadSoFar (AreSolutionsRead text p) (λ _. ⊤) n c.loop.solutions) all (c.loop.invariant.read p text front)
 
 pub returns-in_err-next-clause-error : goal.returns-in_err-next-clause-error
 returns-in_err-next-clause-error c p text n within front =
     let part = c.loop.invariant.read p text front in
-    err_is c.from_residual.result _ c.from_residual.ensures.1 (none_behind c.loop.solutions c.in_err-next.field-0.0 (λ _. n) (omega arith) (omega (arith, part.2)) (c.in_err-next.ensures.read p part.1.knows part.1.known) part.1)
+    err_is c.from_residual.result _ c.from_residual.ensures.1 (none_behind c.loop.solutions c.in_err-next.field-0.0 (λ _. n) (omega arith) (omega (arith, part.size)) (c.in_err-next.ensures.read p part.behind.knows part.behind.known) part.behind)

@@ -10,13 +10,13 @@ use Rattle.vipr_explain.proofs.Nearing.{free_is, nearest_like, nearest_unlike}
 use Rattle.vipr_explain.proofs.near.add.Goals as goal
 
 pub returns-then-not-is_like : goal.returns-then-not-is_like
-returns-then-not-is_like c = λ d says rests near.
+returns-then-not-is_like c = λ d says rests crossed near.
     let t = c.args.target.now in
     nearest_unlike d t c.args.index c.args.all.now.items
     (λ like. let h = c.is_like.ensures.1 (subst (IsLike t) says like) in let f = c.if-not-is_like.true in absurd (cc (h, f))) near
 
 pub returns : goal.returns
-returns c = λ d says rests near.
+returns c = λ d says rests crossed near.
     let t = c.args.target.now in
     let n : Near = record {
       index = c.args.index;
@@ -33,4 +33,5 @@ returns c = λ d says rests near.
       gap = subst (λ x. MissesBy t x c.gap_of.result) (sym says) c.gap_of.ensures;
       rests = λ a. subst (λ s. IsTrue (contains s a) ↔ RestsOn d c.args.index a) (sym c.in_ok-clone.ensures.cases) (rests a);
       free = free_is d c.args.index c.args.assumptions.now c.is_empty.result c.is_empty.ensures rests;
+      crossed = crossed;
     }) near)) c.insert.ensures

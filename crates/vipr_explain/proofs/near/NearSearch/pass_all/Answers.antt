@@ -1,17 +1,20 @@
-use Rattle.std.proofs.Common.{◌++◌, ◌∷◌, Ok, refl, arith, subst, []}
-use Rattle.std.proofs.lemmas.List.{length-append}
+use Rattle.std.proofs.Common.{Ok, inl, inr, refl, arith, subst, []}
 use Rattle.vipr_spec.specs.Constraint.{at, NamesBelow}
 use Rattle.vipr_spec.specs.Reading.{derivation_read, end_read}
 use Rattle.vipr_cert.specs.Items.{derivation_of}
 use Rattle.vipr_read.specs.Items.{HasEnded, Moves, NextItem}
-use Rattle.vipr_explain.proofs.Again.{one_behind}
+use Rattle.vipr_rules.specs.Profile.{profile_of}
+use Rattle.vipr_explain.specs.Found.{text_rest}
+use Rattle.vipr_explain.specs.Near.{IsRefusedNext, LacksNear, without_solutions}
+use Rattle.vipr_explain.proofs.Again.{next_read, none_behind, one_behind}
+use Rattle.vipr_explain.proofs.Lacks.{because, err_is}
 use Rattle.vipr_explain.proofs.near.NearSearch.pass_all.Goals as goal
 use Rattle.vipr_explain.proofs.near.NearSearch.pass_all.Goals.{in-None, in-Some+in_ok-kept-in-Some}
 
 pub loop-passed-init : goal.loop-passed-init
 loop-passed-init c = record {
   left = omega arith;
-  so_far = record { read = []; behind = c.requires.behind; size = refl; searched = c.in_ok-pass_problem.ensures };
+  so_far = record { read = []; behind = c.requires.behind; size = refl; known = c.in_ok-pass_problem.ensures };
 }
 
 pub loop-passed-preserved : goal.loop-passed-preserved
@@ -23,17 +26,11 @@ loop-passed-preserved c =
     let so_far = c.loop-passed.invariant.so_far in
     elim c.match-branch-3.branch [
       | in-Some+in_ok-kept-in-Some w ↦
-          let d = derivation_of w.in-Some.step in
           let moved = subst (λ o. Moves HasEnded old new (Ok o)) w.in-Some.is next.moves in
-          let one = subst (λ o. NextItem derivation_of (derivation_read p) end_read old new (Ok o)) w.in-Some.is (next.read p so_far.behind.knows) so_far.behind.known in
           record {
             left = omega (arith, moved.counted);
-            so_far = record {
-              read = so_far.read ++ d ∷ [];
-              behind = one_behind d old new moved one.1 one.2 so_far.behind;
-              size = omega (arith, so_far.size, length-append so_far.read (d ∷ []));
-              searched = rw w.self-is (w.in_ok-kept-in-Some.ensures so_far.read so_far.searched);
-            };
+            so_far = next_read HasEnded end_read derivation_of old new w.in-Some.step w.in-Some.is next.moves (next.read p so_far.behind.knows)
+                (λ ds done searched. rw w.self-is (w.in_ok-kept-in-Some.ensures.passed ds searched)) so_far;
           }
       | in-None w ↦
           let ended = subst (λ o. Moves HasEnded old new (Ok o)) w.in-None.is next.moves in
@@ -43,7 +40,7 @@ loop-passed-preserved c =
 pub pass-kept-requires-clause-room : goal.pass-kept-requires-clause-room
 pass-kept-requires-clause-room c =
     let so_far = c.loop-passed.invariant.so_far in
-    omega (arith, c.requires.room, so_far.searched.rows.next, so_far.size, so_far.behind.knows.constraints, c.requires.behind.knows.constraints)
+    omega (arith, c.requires.room, so_far.known.rows.next, so_far.size, so_far.behind.knows.constraints, c.requires.behind.knows.constraints)
 
 pub pass-kept-requires-clause-names : goal.pass-kept-requires-clause-names
 pass-kept-requires-clause-names c =
@@ -53,7 +50,30 @@ pass-kept-requires-clause-names c =
 pub pass-kept-requires-clause-searched : goal.pass-kept-requires-clause-searched
 pass-kept-requires-clause-searched c =
     let so_far = c.loop-passed.invariant.so_far in
-    (so_far.read, so_far.searched)
+    (so_far.read, so_far.known)
 
-pub returns : goal.returns
-returns c = (c.args.problem.now, c.loop-passed.passed, c.loop-passed.derivations, omega arith, c.loop-passed.invariant.so_far)
+pub returns-clause-near : goal.returns-clause-near
+returns-clause-near c = (c.args.problem.now, c.loop-passed.passed, c.loop-passed.derivations, omega arith, c.loop-passed.invariant.so_far)
+
+pub returns-in_err-step-clause-missing : goal.returns-in_err-step-clause-missing
+returns-in_err-step-clause-missing c =
+    let so_far = c.loop-passed.invariant.so_far in
+    let m = c.in_err-step.field-0.0 in
+    err_is c.from_residual-in_err-step.result _ c.from_residual-in_err-step.ensures.1 (because m _ _ (λ fault. inl fault)
+    (none_behind c.loop-passed.derivations m (λ h. h.1) (omega arith) (omega (arith, so_far.size)) (c.in_err-step.ensures.read c.args.problem.now so_far.behind.knows so_far.behind.known) so_far.behind))
+
+pub returns-in_err-kept-in-Some-clause-missing : goal.returns-in_err-kept-in-Some-clause-missing
+returns-in_err-kept-in-Some-clause-missing c =
+    let p = c.args.problem.now in
+    let old = c.loop-passed.derivations in
+    let new = c.next.new.self in
+    let next = c.in_ok-step.ensures in
+    let so_far = c.loop-passed.invariant.so_far in
+    let m = c.in_err-kept-in-Some.field-0.0 in
+    let d = derivation_of c.in-Some.step in
+    let moved = subst (λ o. Moves HasEnded old new (Ok o)) c.in-Some.is next.moves in
+    let one = subst (λ o. NextItem derivation_of (derivation_read p) end_read old new (Ok o)) c.in-Some.is (next.read p so_far.behind.knows) so_far.behind.known in
+    let broken : IsRefusedNext (profile_of c.args.subject.profile) (without_solutions p so_far.read) d
+    → LacksNear (profile_of c.args.subject.profile) (text_rest c.args.subject.text.now) = λ refused.
+    inr (record { problem = p; read = so_far.read; derivation = d; reader = new; behind = one_behind d old new moved one.1 one.2 so_far.behind; refused = refused }) in
+    err_is c.from_residual-in_err-kept-in-Some.result _ c.from_residual-in_err-kept-in-Some.ensures.1 (because m _ _ broken (c.in_err-kept-in-Some.ensures.missing so_far.read so_far.known))
