@@ -3,11 +3,15 @@
 
 usage: (make build; python3 tests/all.py --anew) > LOG 2>&1     in a clone without a build
        tests/gate.py LOG [BUILD ..]
+       tests/gate.py --add BUILD ..
 
-If LOG has no `make build`, BUILD is the log of one, with the line `commit: ..` of the commit that was built. It may be the
-log of `make lib` or `make wrong`, too. Each BUILD may also have the yardstick alone, in the line that `make build` prints of it (`[1 of 1] vipr_spec 24 s, 41 s of processor
-time`): that is what `time rt lib --jobs 2` takes in its folder, just before LOG and just after it. All are written, in
-the order of the logs. A table has what the prover said of each crate: the last line of its proof, word by word.
+If LOG has no `make build`, BUILD is the log of one. It may be the log of `make lib`, `make dist` or `make wrong`, too. Its
+line `commit: ..` says which commit that was. Each BUILD may also have the yardstick alone, in the line that `make build`
+prints of it (`[1 of 1] vipr_spec 34 s, 33 s of processor time`): that is what `time rt lib --jobs 1` takes in its folder,
+just before LOG and just after it. All are written, in the order of the logs. A table has what the prover said of each
+crate: the last line of its proof, word by word.
+
+--add leaves what the page says of the test command, and adds what the others took since, with the yardstick of theirs.
 
 It also adds to docs/PROOF.md which wrong versions the run's sample tried and the prover refused. The exit status is 1, and
 nothing is written, if LOG has no whole run of `make test`.
@@ -29,6 +33,9 @@ STUB = 'No run is written here yet.\n'
 # the crate whose build shows how fast a machine is: `make build` builds it first, beside the small `vipr_shared`
 YARDSTICK = 'vipr_spec'
 KINDS = ('proof', 'tests', 'edits')
+# the commands beside `make test`, and what their rows say if they weren't run
+OTHERS = ('make build', 'make lib', 'make dist', 'make wrong')
+NOT_RUN = 'not in this run', ''
 # what `rt ci` prints of a crate that it proves: among other lines how many functions it tried for a contract that no call can
 # meet, and the verdict
 PROVED = re.compile(r'^== (\w+)(: its tests)?\n((?:(?!== ).*\n)*?)rt: \1(?:: its tests are)? proved$', re.M)
@@ -48,16 +55,15 @@ class Run:
         self.said = dict(re.findall(r'^(machine|kit|commit|date): (.*)$', text, re.M))
         self.built = {crate: (number(wall), number(spent)) for crate, wall, spent in re.findall(
             r'^\[\d+ of \d+\] (\w+) (\d+) s, (\d+) s of processor time', text, re.M)}
-        self.build = re.search(r'^built: ([\d.]+) minutes, ([\d.]+) of processor time$', text, re.M)
         self.sums = re.findall(r'^sha256 ([0-9a-f]{64}) (\S+)$', text, re.M)
-        self.others = {name: (number(wall), number(spent)) for name, wall, spent in re.findall(
-            r'^(make (?:lib|wrong)): ([\d.]+) minutes, ([\d.]+) of processor time$', text, re.M)}
+        commit = self.said.get('commit', '')
+        self.others = {name.replace('built', 'make build'): (commit, number(wall), number(spent)) for name, wall, spent in re.findall(
+            r'^(built|make (?:lib|dist|wrong)): ([\d.]+) minutes, ([\d.]+) of processor time$', text, re.M)}
         self.crates = {crate: tuple(map(number, rest)) for crate, *rest in re.findall(
             r'^(\w+): proof ([\d.]+), tests ([\d.]+), edits ([\d.]+) minutes of processor time$', text, re.M)}
         self.steps = [(name, number(wall), number(spent)) for name, wall, spent in re.findall(
             r'^(\S.*): ([\d.]+) minutes, ([\d.]+) of processor time$', text, re.M)
             if re.search(r'rt ci( --anew)?$', name) or '.py' in name]
-        self.built_commit = self.said.get('commit', '')
         self.yardsticks = [self.built[YARDSTICK]] if YARDSTICK in self.built else []
         ends = re.findall(r'^\d+ passed, \d+ failed(?:, \d+ skipped)?$', text, re.M)
         self.result = ends[-1] if ends else ''
@@ -75,8 +81,19 @@ class Run:
         """Takes the yardstick of another log, and the commands that this one hasn't."""
         self.yardsticks += other.yardsticks
         self.others = {**other.others, **self.others}
-        if other.build and not self.build:
-            self.built, self.build, self.built_commit = other.built, other.build, other.built_commit
+        if len(other.built) > len(self.built):
+            self.built = other.built
+
+    def took(self, name, commit):
+        """The row of a command beside `make test`, which was of this commit."""
+        at, *spent = self.others.get(name, (commit, *NOT_RUN))
+        return row(f'`{name}`' + f' at commit `{at}`' * (at != commit), *spent)
+
+    def minutes_built(self, crate):
+        """What `make build` took for a crate, or for all."""
+        if crate == 'all':
+            return sum(it[1] for it in self.built.values()) / 60 if self.built else ''
+        return self.built[crate][1] / 60 if crate in self.built else ''
 
     def is_whole(self):
         return bool(self.said and self.result and any(re.search(r'rt ci( --anew)?$', name) for name, _, _ in self.steps))
@@ -109,6 +126,24 @@ def row(*cells):
     return '| ' + ' | '.join(f'{cell:.1f}' if isinstance(cell, float) else str(cell) for cell in cells) + ' |'
 
 
+def yardsticks(run):
+    return '; then '.join(f'{wall:.0f} seconds, {spent:.0f} of processor time' for wall, spent in run.yardsticks)
+
+
+def added(page, run):
+    """The page that stands, with what the commands beside `make test` took since."""
+    commit = re.search(r'^\| Commit \| `(\w+)` \|$', page, re.M)[1]
+    for name in run.others:
+        page = re.sub(rf'^\| `{name}`.*$', run.took(name, commit), page, flags=re.M)
+    if run.yardsticks:
+        page = re.sub(r'^(\| Yardstick .*?)(?:; of the others, by one: .*)? \|$', rf'\1; of the others, by one: {yardsticks(run)} |', page, flags=re.M)
+    front, mark, rest = page.partition('\n## ')
+    if run.built:
+        front = re.sub(r'^\| (`?(\w+)`?) \| [\d.]* (\|(?: [\d.]* \|){3})$',
+                       lambda it: row(it[1], run.minutes_built(it[2])) + it[3][1:], front, flags=re.M)
+    return front + mark + rest
+
+
 def page(run):
     """The page of a run, as lines."""
     lines = ['| Run | |', '|---|---|', row('Day', run.said.get('date', '')), row('Commit', f'`{run.said.get("commit", "")}`'),
@@ -116,29 +151,24 @@ def page(run):
              row('Result', f'`{run.result}`'), row('Wrong versions refused', run.edits), row('Proved here', run.share)]
     lines += [row(f'SHA-256 of `{name}`', f'`{digits}`') for digits, name in run.sums]
     if run.yardsticks:
-        took = '; then '.join(f'{wall:.0f} seconds, {spent:.0f} of processor time' for wall, spent in run.yardsticks)
-        lines.append(row('Yardstick', f'the build of `{YARDSTICK}`: {took}'))
+        lines.append(row('Yardstick', f'the build of `{YARDSTICK}` by one process: {yardsticks(run)}'))
     elif YARDSTICK in run.crates:
         lines.append(row('Yardstick', f'the proof of `{YARDSTICK}`: {60 * run.crates[YARDSTICK][0]:.0f} seconds of processor time'))
     lines += ['', 'If the yardstick takes half as long on your machine, so does about everything below. A second figure is from '
               'after the run: a machine that others use changes its speed.', '',
               '| Command | Minutes | Processor minutes |', '|---|---|---|']
-    if run.build:
-        at = '' if run.built_commit == run.said.get('commit', '') else f' at commit `{run.built_commit}`'
-        lines.append(row(f'`make build`{at}', *map(number, run.build.groups())))
-    else:
-        lines.append(row('`make build`', 'not in this run', ''))
+    commit = run.said.get('commit', '')
+    lines.append(run.took(OTHERS[0], commit))
     lines.append(row('`make test`', *[sum(step[at] for step in run.steps) for at in (1, 2)]))
     lines += [row(f'its step `{name}`', wall, spent) for name, wall, spent in run.steps]
-    lines += [row(f'`{name}`', *run.others.get(name, ('not in this run', ''))) for name in ('make lib', 'make wrong')]
+    lines += [run.took(name, commit) for name in OTHERS[1:]]
     lines += ['', 'The same by crates, in processor minutes. `make test` proves a crate with its tests once more. It also proves a '
               'crate with wrong versions once more before it tries those, which counts with them here.', '',
               '| Crate | `make build` | `make test`: proof | tests | wrong versions |', '|---|---|---|---|---|']
     for crate in sorted(run.crates | run.built):
-        built = run.built[crate][1] / 60 if crate in run.built else ''
-        lines.append(row(f'`{crate}`', built, *run.crates.get(crate, [''] * len(KINDS))))
+        lines.append(row(f'`{crate}`', run.minutes_built(crate), *run.crates.get(crate, [''] * len(KINDS))))
     sums = [float(sum(it[at] for it in run.crates.values())) for at in range(len(KINDS))]
-    lines.append(row('all', sum(it[1] for it in run.built.values()) / 60 if run.built else '', *sums))
+    lines.append(row('all', run.minutes_built('all'), *sums))
     if run.verdicts:
         lines += said_of_proofs(run.verdicts)
     return '\n'.join(lines) + '\n'
@@ -148,13 +178,14 @@ def main(words):
     if not words:
         print(__doc__.split('\n\n')[1])
         return 2
-    run, *builds = (Run(Path(word).read_text(errors='replace')) for word in words)
+    is_added = words[0] == '--add'
+    run, *builds = (Run(Path(word).read_text(errors='replace')) for word in words[is_added:])
     for build in builds:
         run.take(build)
-    if not run.is_whole():
+    if not is_added and not run.is_whole():
         print(f'{words[0]} has no whole run of make test')
         return 1
-    PAGE.write_text(f'{HEAD}\n{page(run)}')
+    PAGE.write_text(added(PAGE.read_text(), run) if is_added else f'{HEAD}\n{page(run)}')
     print(f'{PAGE.relative_to(TOP)} is written')
     proof = wrong.counted_anew(wrong.PAGE.read_text(), run.tried)
     if proof:

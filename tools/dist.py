@@ -16,9 +16,12 @@ import subprocess
 import sys
 import tarfile
 import tempfile
+import time
 from email.utils import format_datetime
 from datetime import datetime, timezone
 from pathlib import Path
+
+import kit
 
 TOP = Path(__file__).resolve().parent.parent
 INSTALL = '''vipr {version}, a proved checker of VIPR certificates, built for Linux on x86-64.
@@ -91,6 +94,7 @@ def main():
         print(__doc__.split('\n\n')[1])
         return 2
     version, folder = sys.argv[1], Path(sys.argv[2] if len(sys.argv) > 2 else TOP / 'dist')
+    start = time.monotonic()
     folder.mkdir(parents=True, exist_ok=True)
     archive = folder / f'vipr-{version}-linux-x86_64.tar.gz'
     with tempfile.TemporaryDirectory(prefix='vipr-dist-') as name:
@@ -101,6 +105,7 @@ def main():
             print(f'{fault.cmd[0]} failed with status {fault.returncode}')
             return 1
     print(f'{archive} is made')
+    print(kit.took('make dist', start))
     return 0
 
 

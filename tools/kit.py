@@ -10,8 +10,10 @@ import hashlib
 import importlib.machinery
 import importlib.util
 import os
+import resource
 import shutil
 import sys
+import time
 from pathlib import Path
 
 TOP = Path(__file__).resolve().parent.parent
@@ -25,6 +27,13 @@ def missing():
         return ''
     return (f"'{RT}' isn't on the path. vipr is written in Rattle (Rust with contracts); the Rattle kit proves and builds it:\n"
             'README.md, "Install and use", says what it is. RT=/path/to/rt make .. names another command.')
+
+
+def took(command, start):
+    """What a command took since `start` of the monotonic clock, in a line that tests/gate.py reads."""
+    used = [resource.getrusage(it) for it in (resource.RUSAGE_SELF, resource.RUSAGE_CHILDREN)]
+    spent = sum(it.ru_utime + it.ru_stime for it in used)
+    return f'{command}: {(time.monotonic() - start) / 60:.1f} minutes, {spent / 60:.1f} of processor time'
 
 
 def toolchain():

@@ -10,7 +10,6 @@ name other commands. The exit status is 1 if one is missing or fails.
 """
 import os
 import re
-import resource
 import shutil
 import subprocess
 import sys
@@ -88,8 +87,7 @@ def main():
     except Failed as fault:
         print(fault)
         return 1
-    usage = resource.getrusage(resource.RUSAGE_CHILDREN)
-    print(f'make lib: {(time.monotonic() - start) / 60:.1f} minutes, {(usage.ru_utime + usage.ru_stime) / 60:.1f} of processor time')
+    print(kit.took('make lib', start))
     return 0
 
 

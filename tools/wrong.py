@@ -25,7 +25,6 @@ import datetime
 import hashlib
 import os
 import re
-import resource
 import shutil
 import subprocess
 import sys
@@ -301,9 +300,7 @@ def main(words):
     print(REFUSED + ', '.join(f'{name} {blobs[name]}' for name, refused in results if refused))
     if not words:
         record(results)
-        usage = resource.getrusage(resource.RUSAGE_CHILDREN)
-        print(f'make wrong: {(time.monotonic() - start) / 60:.1f} minutes, '
-              f'{(usage.ru_utime + usage.ru_stime) / 60:.1f} of processor time')
+        print(kit.took('make wrong', start))
     for name in lost:
         print(f'not refused: {name}')
     print(f'{len(results) - len(lost)} refused, {len(lost)} not')
