@@ -7,7 +7,7 @@ usage: (make build; python3 tests/all.py --anew) > LOG 2>&1     in a clone witho
 
 If LOG has no `make build`, BUILD is the log of one. It may be the log of `make lib`, `make dist` or `make wrong`, too. Its
 line `commit: ..` says which commit that was. Each BUILD may also have the yardstick alone, in the line that `make build`
-prints of it (`[1 of 1] vipr_spec 34 s, 33 s of processor time`): that is what `time rt lib --jobs 1` takes in its folder,
+prints of it (`[1 of 1] vipr_spec 24 s, 41 s of processor time`): that is what `time rt lib --jobs 2` takes in its folder,
 just before LOG and just after it. All are written, in the order of the logs. A table has what the prover said of each
 crate: the last line of its proof, word by word.
 
@@ -136,7 +136,7 @@ def added(page, run):
     for name in run.others:
         page = re.sub(rf'^\| `{name}`.*$', run.took(name, commit), page, flags=re.M)
     if run.yardsticks:
-        page = re.sub(r'^(\| Yardstick .*?)(?:; of the others, by one: .*)? \|$', rf'\1; of the others, by one: {yardsticks(run)} |', page, flags=re.M)
+        page = re.sub(r'^(\| Yardstick .*?)(?:; for the others: .*)? \|$', rf'\1; for the others: {yardsticks(run)} |', page, flags=re.M)
     front, mark, rest = page.partition('\n## ')
     if run.built:
         front = re.sub(r'^\| (`?(\w+)`?) \| [\d.]* (\|(?: [\d.]* \|){3})$',
@@ -151,11 +151,11 @@ def page(run):
              row('Result', f'`{run.result}`'), row('Wrong versions refused', run.edits), row('Proved here', run.share)]
     lines += [row(f'SHA-256 of `{name}`', f'`{digits}`') for digits, name in run.sums]
     if run.yardsticks:
-        lines.append(row('Yardstick', f'the build of `{YARDSTICK}` by one process: {yardsticks(run)}'))
+        lines.append(row('Yardstick', f'the build of `{YARDSTICK}`: {yardsticks(run)}'))
     elif YARDSTICK in run.crates:
         lines.append(row('Yardstick', f'the proof of `{YARDSTICK}`: {60 * run.crates[YARDSTICK][0]:.0f} seconds of processor time'))
     lines += ['', 'If the yardstick takes half as long on your machine, so does about everything below. A second figure is from '
-              'after the run: a machine that others use changes its speed.', '',
+              'after the run: a machine that others use changes its speed. A command with a commit of its own was run there.', '',
               '| Command | Minutes | Processor minutes |', '|---|---|---|']
     commit = run.said.get('commit', '')
     lines.append(run.took(OTHERS[0], commit))

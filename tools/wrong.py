@@ -234,7 +234,7 @@ def since(whole, tried):
     new = {blob(path) for path in TOP.glob('crates/*/wrong/*.edit')} - then
     known = sorted(new & set(tried))
     said = f'samples tried {len(known)} of these, and all were refused' if known else 'no sample of these is recorded yet'
-    lines = [MARKS[0], whole, f'Since then {len(new)} were added or changed; {said}.']
+    lines = [MARKS[0], whole, f'Since then {len(new)} were added or changed; {said}.' if new else 'Since then none was added or changed.']
     return '\n'.join([*lines, *[f'{TRIED} {" ".join(known)} -->'] * bool(known), MARKS[1]])
 
 
