@@ -12,6 +12,7 @@ just before LOG and just after it. All are written, in the order of the logs. A 
 crate: the last line of its proof, word by word.
 
 --add leaves what the page says of the test command, and adds what the others took since, with the yardstick of theirs.
+Without it the page keeps what it says of commands that the logs don't have, with their commits.
 
 It also adds to docs/PROOF.md which wrong versions the run's sample tried and the prover refused. The exit status is 1, and
 nothing is written, if LOG has no whole run of `make test`.
@@ -144,6 +145,14 @@ def added(page, run):
     return front + mark + rest
 
 
+def others_of(page):
+    """What the page that stands says of the commands beside `make test`, as a run has it."""
+    commit = re.search(r'^\| Commit \| `(\w+)` \|$', page, re.M)
+    for name, at, wall, spent in re.findall(r'^\| `(make \w+)`(?: at commit `(\w+)`)? \| ([\d.]+) \| ([\d.]+) \|$', page, re.M):
+        if name in OTHERS:
+            yield name, (at or commit[1], number(wall), number(spent))
+
+
 def page(run):
     """The page of a run, as lines."""
     lines = ['| Run | |', '|---|---|', row('Day', run.said.get('date', '')), row('Commit', f'`{run.said.get("commit", "")}`'),
@@ -185,7 +194,10 @@ def main(words):
     if not is_added and not run.is_whole():
         print(f'{words[0]} has no whole run of make test')
         return 1
-    PAGE.write_text(added(PAGE.read_text(), run) if is_added else f'{HEAD}\n{page(run)}')
+    stands = PAGE.read_text()
+    if not is_added:
+        run.others = {**dict(others_of(stands)), **run.others}
+    PAGE.write_text(added(stands, run) if is_added else f'{HEAD}\n{page(run)}')
     print(f'{PAGE.relative_to(TOP)} is written')
     proof = wrong.counted_anew(wrong.PAGE.read_text(), run.tried)
     if proof:
