@@ -6,7 +6,7 @@ usage: (make build; python3 tests/all.py --anew) > LOG 2>&1     in a clone witho
        tests/gate.py --add BUILD ..
 
 If LOG has no `make build`, BUILD is the log of one. It may be the log of `make lib`, `make dist` or `make wrong`, too. Its
-line `commit: ..` says which commit that was. Each BUILD may also have the yardstick alone, in the line that `make build`
+line `commit: ..` says which commit that was, and a line `beside: ..` what ran at the same time. Each BUILD may also have the yardstick alone, in the line that `make build`
 prints of it (`[1 of 1] vipr_spec 24 s, 41 s of processor time`): that is what `time rt lib --jobs 2` takes in its folder,
 just before LOG and just after it. All are written, in the order of the logs. A table has what the prover said of each
 crate: the last line of its proof, word by word.
@@ -53,12 +53,12 @@ class Run:
     """What a log says."""
 
     def __init__(self, text):
-        self.said = dict(re.findall(r'^(machine|kit|commit|date): (.*)$', text, re.M))
+        self.said = dict(re.findall(r'^(machine|kit|commit|date|beside): (.*)$', text, re.M))
         self.built = {crate: (number(wall), number(spent)) for crate, wall, spent in re.findall(
             r'^\[\d+ of \d+\] (\w+) (\d+) s, (\d+) s of processor time', text, re.M)}
         self.sums = re.findall(r'^sha256 ([0-9a-f]{64}) (\S+)$', text, re.M)
-        commit = self.said.get('commit', '')
-        self.others = {name.replace('built', 'make build'): (commit, number(wall), number(spent)) for name, wall, spent in re.findall(
+        at = self.said.get('commit', ''), self.said.get('beside', '')
+        self.others = {name.replace('built', 'make build'): (*at, number(wall), number(spent)) for name, wall, spent in re.findall(
             r'^(built|make (?:lib|dist|wrong)): ([\d.]+) minutes, ([\d.]+) of processor time$', text, re.M)}
         self.crates = {crate: tuple(map(number, rest)) for crate, *rest in re.findall(
             r'^(\w+): proof ([\d.]+), tests ([\d.]+), edits ([\d.]+) minutes of processor time$', text, re.M)}
@@ -87,8 +87,8 @@ class Run:
 
     def took(self, name, commit):
         """The row of a command beside `make test`, which was of this commit."""
-        at, *spent = self.others.get(name, (commit, *NOT_RUN))
-        return row(f'`{name}`' + f' at commit `{at}`' * (at != commit), *spent)
+        at, beside, *spent = self.others.get(name, (commit, '', *NOT_RUN))
+        return row(f'`{name}`' + f' at commit `{at}`' * (at != commit) + f', beside {beside}' * bool(beside), *spent)
 
     def minutes_built(self, crate):
         """What `make build` took for a crate, or for all."""
@@ -137,7 +137,7 @@ def added(page, run):
     for name in run.others:
         page = re.sub(rf'^\| `{name}`.*$', run.took(name, commit), page, flags=re.M)
     if run.yardsticks:
-        page = re.sub(r'^(\| Yardstick .*?)(?:; for the others: .*)? \|$', rf'\1; for the others: {yardsticks(run)} |', page, flags=re.M)
+        page = re.sub(r'^(\| Yardstick .*?)(?:; for the others, .*)? \|$', rf'\1; for the others, beside `vipr_shared`: {yardsticks(run)} |', page, flags=re.M)
     front, mark, rest = page.partition('\n## ')
     if run.built:
         front = re.sub(r'^\| (`?(\w+)`?) \| [\d.]* (\|(?: [\d.]* \|){3})$',
@@ -148,9 +148,9 @@ def added(page, run):
 def others_of(page):
     """What the page that stands says of the commands beside `make test`, as a run has it."""
     commit = re.search(r'^\| Commit \| `(\w+)` \|$', page, re.M)
-    for name, at, wall, spent in re.findall(r'^\| `(make \w+)`(?: at commit `(\w+)`)? \| ([\d.]+) \| ([\d.]+) \|$', page, re.M):
+    for name, at, beside, wall, spent in re.findall(r'^\| `(make \w+)`(?: at commit `(\w+)`)?(?:, beside ([^|]*))? \| ([\d.]+) \| ([\d.]+) \|$', page, re.M):
         if name in OTHERS:
-            yield name, (at or commit[1], number(wall), number(spent))
+            yield name, (at or commit[1], beside, number(wall), number(spent))
 
 
 def page(run):

@@ -183,14 +183,14 @@ class Refused:
 
 
 def tried(rt, crate, paths, kept, goes_on):
-    """Of each edit of a crate its name and whether it is refused; none is, if the crate isn't proved without an edit. A run
-    that goes on leaves out those that were refused before."""
+    """Of each edit of a crate its name, whether it is refused, and whether that is known from an earlier run; none is refused if
+    the crate isn't proved without an edit. A run that goes on leaves out those that were refused before."""
     one, refused = ['--jobs', '1'], Refused(crate)
     before = [path for path in paths if goes_on and refused.has(path)]
     if before:
         print(f'{crate.name}: {len(before)} of {len(paths)} were refused before', flush=True)
     paths = [path for path in paths if path not in before]
-    out = [(f'{crate.name}/{path.stem}', True) for path in before]
+    out = [(f'{crate.name}/{path.stem}', True, True) for path in before]
     if not paths:
         return out
     # (a copy of the crates lacks it)
@@ -200,11 +200,11 @@ def tried(rt, crate, paths, kept, goes_on):
     kept.mkdir(exist_ok=True)
     if not crate.is_built() and rt.checked(crate, {}, one, str(kept)).returncode:
         print(f'{crate.name} is not proved', flush=True)
-        return out + [(f'{crate.name}/{path.stem}', False) for path in paths]
+        return out + [(f'{crate.name}/{path.stem}', False, False) for path in paths]
     for path in paths:
         found, text = is_refused_now(rt, crate, path, one, str(kept))
         print(text, flush=True)
-        out.append((f'{crate.name}/{path.stem}', found))
+        out.append((f'{crate.name}/{path.stem}', found, False))
         if found:
             refused.add(path)
     shutil.rmtree(kept, ignore_errors=True)
@@ -251,9 +251,11 @@ def record(results):
     commit = git('rev-parse', '--short=7', 'HEAD')
     tree = f'at commit {commit}' if commit else f'of the text with the sum {text_sum()[:12]}'
     tree += ' with changes' if git('status', '--porcelain', '--', 'crates') else ''
-    lost = [name for name, refused in results if not refused]
+    lost = [name for name, refused, _ in results if not refused]
     said = f'all {len(results)} were refused' if not lost else (
         f'{len(results) - len(lost)} of {len(results)} were refused, and not: {", ".join(lost)}')
+    earlier = sum(known for *_, known in results)
+    said += f', {earlier} of them by earlier runs over the same sources' if earlier else ''
     line = f'`make wrong` was last run whole on {datetime.date.today()}, {tree}: {said}.'
     PAGE.write_text(replaced(PAGE.read_text(), MARKS, since(line, []) or f'{MARKS[0]}\n{line}\n{MARKS[1]}'))
 
@@ -296,8 +298,8 @@ def main(words):
             runs = [pool.submit(tried, rt, crates[name], there, Path(room, f'kept-{name}'), not words)
                     for name, there in dearest]
             results = [it for run in runs for it in run.result()]
-    lost = [name for name, refused in results if not refused]
-    print(REFUSED + ', '.join(f'{name} {blobs[name]}' for name, refused in results if refused))
+    lost = [name for name, refused, _ in results if not refused]
+    print(REFUSED + ', '.join(f'{name} {blobs[name]}' for name, refused, _ in results if refused))
     if not words:
         record(results)
         print(kit.took('make wrong', start))
