@@ -3,13 +3,14 @@
 
 usage: tools/build.py
 
-A crate begins once those below it are built; two of which neither is below the other are built side by side, if there are
-four cores and 8 GB of memory free. What was proved before isn't proved again. The program is crates/vipr/out/vipr
-afterwards, with its SHA-256 in vipr.sha256 beside it. RT names the command of the toolchain, `rt` without it. The exit status is 1 if a crate isn't proved or
-can't be built; its output is printed.
+A crate begins once those below it are built. Crates of which none is below another are built side by side, one for each
+core and each 4 GB of memory that is free. What was proved before isn't proved again. The program is crates/vipr/out/vipr
+afterwards, with its SHA-256 in vipr.sha256 beside it. RT names the command of the toolchain, `rt` without it. The exit
+status is 1 if a crate isn't proved or can't be built; its output is printed.
 """
 import os
 import re
+import shutil
 import subprocess
 import sys
 import threading
@@ -25,10 +26,16 @@ RT = os.environ.get('RT', 'rt')
 PROGRAM = 'vipr'
 # a crate that takes no longer than this is built without a word
 QUIET_SECONDS = 3
-# what has to be free, in kB, for a second crate
-FREE = 8_000_000
+# what has to be free, in kB, for one more process
+FREE = 4_000_000
+# these end the longest chain, and little is left to build beside them: they get all processors that are free
+LAST = {'vipr_check', 'vipr_explain', 'vipr_command'}
 # how this script calls itself for one command of the toolchain, under its own lock
 UNLOCKED = '--unlocked'
+# a library's first build by one process: it keeps no work, and the library has its statements without their proofs
+FIRST = '--statements'
+# what the toolchain says if libraries of several builds meet
+UNUSABLE = 'unusable-built-library'
 
 
 def needed():
@@ -63,10 +70,10 @@ def heights(below):
     return height
 
 
-def has_room():
-    """Whether a second crate can be built beside one."""
+def room(used):
+    """How many more processes there is room for beside those that run."""
     free = re.search(r'^MemAvailable:\s+(\d+)', Path('/proc/meminfo').read_text(), re.M)
-    return len(os.sched_getaffinity(0)) >= 4 and free is not None and int(free[1]) > FREE
+    return min(len(os.sched_getaffinity(0)) - used, int(free[1]) // FREE if free else 0)
 
 
 def locked():
@@ -82,7 +89,21 @@ def unlocked(words):
     """One command of the toolchain, without a lock of its own."""
     rt = kit.toolchain()
     rt.rtlib.lock = lambda crates: []
+    if words[0] == FIRST:
+        flags = rt.rtlib.Crate.words
+        rt.rtlib.Crate.words = lambda *crate, **how: [*flags(*crate, **how), FIRST]
+        rt.rtlib.libraries_keep = lambda: False
+        words = words[1:]
     return rt.main(words)
+
+
+def first_builds():
+    """The libraries of which no earlier build or check left anything; none if the kit can't build them by statements."""
+    rt = kit.toolchain()
+    if FIRST not in rt.rtlib.help_of('build'):
+        return set()
+    return {it.name for it in rt.rtlib.crates_below(str(TOP))
+            if not it.is_program and not Path(it.rlib).exists() and not rt.work_for(it)}
 
 
 def say(line):
@@ -95,12 +116,24 @@ class Build:
     def __init__(self):
         self.below = needed()
         self.locks = locked()
-        self.to_come, self.started, self.spoke, self.seconds = len(self.below), 0, False, 0.0
+        self.seconds, self.spoke = 0.0, False
+        self.begin()
+
+    def begin(self):
+        """Sets what a build counts, and what it takes for a first one."""
+        self.first = first_builds() if self.locks else set()
+        self.to_come, self.started, self.unusable = len(self.below), 0, False
+
+    def jobs(self, crate, free):
+        """By how many processes to prove a crate, of those that are free."""
+        return max(1, free if crate in LAST else 1 if crate in self.first or crate == PROGRAM else min(2, free))
 
     def build(self, crate, number, jobs):
-        """Builds a crate and gives whether that went well."""
-        verb = ['run', *jobs, '--', '--help'] if crate == PROGRAM else ['lib', *jobs]
-        words = [RT, *verb] if self.locks is None else [sys.executable, __file__, UNLOCKED, *verb]
+        """Builds a crate by so many processes, as many as the toolchain chooses for 0, and gives whether that went well."""
+        flags = ['--jobs', str(jobs)] if jobs else []
+        verb = ['run', *flags, '--', '--help'] if crate == PROGRAM else ['lib', *flags]
+        form = [FIRST] if crate in self.first and jobs == 1 else []
+        words = [sys.executable, __file__, UNLOCKED, *form, *verb] if self.locks else [RT, *verb]
         start, label = time.monotonic(), f'[{number} of {len(self.below)}] {crate}'
         clock = threading.Timer(QUIET_SECONDS, lambda: say(f'{label} ..'))
         clock.start()
@@ -117,27 +150,30 @@ class Build:
             self.spoke = True
             say(f'{label} {took:.0f} s, {spent:.0f} s of processor time, {self.to_come} to come')
         if child.returncode:
+            self.unusable = self.unusable or UNUSABLE in out
             say(f'{out}{crate} is not built')
         return child.returncode == 0
 
     def all(self):
         """Builds all crates, those first that have the most text above them, and gives whether that went well."""
         height, waiting, done, running, well = heights(self.below), set(self.below), set(), {}, True
-        with ThreadPoolExecutor(2) as pool:
+        with ThreadPoolExecutor(len(self.below)) as pool:
             while True:
                 ready = sorted((it for it in waiting if self.below[it] <= done), key=height.get, reverse=True)
-                beside = self.locks is not None and has_room()
-                while well and ready and len(running) < (2 if beside else 1):
+                free = room(sum(jobs for _, jobs in running.values())) if self.locks else 0
+                while well and ready and (free > 0 or not running):
                     crate = ready.pop(0)
                     waiting.remove(crate)
                     self.started += 1
-                    jobs = ['--jobs', '2'] if beside and (running or ready) else []
-                    running[pool.submit(self.build, crate, self.started, jobs)] = crate
+                    # (each of the others that are ready gets a process, too)
+                    jobs = self.jobs(crate, free - len(ready)) if self.locks else 0
+                    running[pool.submit(self.build, crate, self.started, jobs)] = crate, jobs
+                    free -= jobs
                 if not running:
                     return well
                 for it in wait(running, return_when=FIRST_COMPLETED)[0]:
                     well = it.result() and well
-                    done.add(running.pop(it))
+                    done.add(running.pop(it)[0])
 
 
 def main():
@@ -150,6 +186,12 @@ def main():
             '4 GB of memory or more; docs/GATE.md says how long it took.')
     try:
         well = build.all()
+        if build.unusable:
+            say('libraries of several builds meet here, so all are built once more')
+            for folder in TOP.glob('crates/*/out/rlib'):
+                shutil.rmtree(folder)
+            build.begin()
+            well = build.all()
     except KeyboardInterrupt:
         say('stopped: what is proved stays so, and make build goes on from there')
         return 130
