@@ -4,7 +4,7 @@
 usage: tools/build.py
 
 A crate begins once those below it are built. Crates of which none is below another are built side by side, one for each
-core and each 4 GB of memory that is free. What was proved before isn't proved again. The program is crates/vipr/out/vipr
+core and each 3 GB of memory that is free. What was proved before isn't proved again. The program is crates/vipr/out/vipr
 afterwards, with its SHA-256 in vipr.sha256 beside it. RT names the command of the toolchain, `rt` without it. The exit
 status is 1 if a crate isn't proved or can't be built; its output is printed.
 """
@@ -27,7 +27,7 @@ PROGRAM = 'vipr'
 # a crate that takes no longer than this is built without a word
 QUIET_SECONDS = 3
 # what has to be free, in kB, for one more process
-FREE = 4_000_000
+FREE = 3_000_000
 # these end the longest chain, and little is left to build beside them: they get all processors that are free
 LAST = {'vipr_check', 'vipr_explain', 'vipr_command'}
 # how this script calls itself for one command of the toolchain, under its own lock
