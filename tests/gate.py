@@ -6,13 +6,13 @@ usage: (make build; python3 tests/all.py --anew) > LOG 2>&1     in a clone witho
        tests/gate.py --add BUILD ..
 
 If LOG has no `make build`, BUILD is the log of one. It may be the log of `make lib`, `make dist` or `make wrong`, too. Its
-line `commit: ..` says which commit that was, and a line `beside: ..` what ran at the same time. Each BUILD may also have the yardstick alone, in the line that `make build`
-prints of it (`[1 of 1] vipr_spec 24 s, 41 s of processor time`): that is what `time rt lib --jobs 2` takes in its folder,
-just before LOG and just after it. All are written, in the order of the logs. A table has what the prover said of each
-crate: the last line of its proof, word by word.
+line `commit: ..` says which commit that was, and a line `beside: ..` what ran at the same time. Each log may also have the
+yardstick, in lines of this form: `[1 of 1] vipr_spec 24 s, 41 s of processor time`. That is what `time rt lib --jobs 2` takes
+in the crate's folder, alone, on a machine that has kept nothing of it, just before and just after. All are written, in the
+order of the logs. A table has what the prover said of each crate: the last line of its proof, word by word.
 
---add leaves what the page says of the test command, and adds what the others took since, with the yardstick of theirs.
-Without it the page keeps what it says of commands that the logs don't have, with their commits.
+--add leaves what the page says of the test command, and adds what the others took since. Without it the page keeps what it
+says of commands that the logs don't have. Both are with their commits and the yardsticks there.
 
 It also adds to docs/PROOF.md which wrong versions the run's sample tried and the prover refused. The exit status is 1, and
 nothing is written, if LOG has no whole run of `make test`.
@@ -31,8 +31,10 @@ HEAD = """# What the gate takes
 `tests/gate.py` writes this page from the output of two commands, each in a clone without a build. `make build` is the first build. `python3 tests/all.py --anew` is the test command, which proves everything anew. Other pages link here; README alone rounds what the first build takes.
 """
 STUB = 'No run is written here yet.\n'
-# the crate whose build shows how fast a machine is: `make build` builds it first, beside the small `vipr_shared`
+# the crate whose build by two processes, alone, shows how fast a machine is
 YARDSTICK = 'vipr_spec'
+# a yardstick of the page that was taken for another command
+ELSEWHERE = re.compile(r'; (at commit `(\w+)`[^;|]*\w)')
 KINDS = ('proof', 'tests', 'edits')
 # the commands beside `make test`, and what their rows say if they weren't run
 OTHERS = ('make build', 'make lib', 'make dist', 'make wrong')
@@ -55,7 +57,7 @@ class Run:
     def __init__(self, text):
         self.said = dict(re.findall(r'^(machine|kit|commit|date|beside): (.*)$', text, re.M))
         self.built = {crate: (number(wall), number(spent)) for crate, wall, spent in re.findall(
-            r'^\[\d+ of \d+\] (\w+) (\d+) s, (\d+) s of processor time', text, re.M)}
+            r'^\[\d+ of (?!1\])\d+\] (\w+) (\d+) s, (\d+) s of processor time', text, re.M)}
         self.sums = re.findall(r'^sha256 ([0-9a-f]{64}) (\S+)$', text, re.M)
         at = self.said.get('commit', ''), self.said.get('beside', '')
         self.others = {name.replace('built', 'make build'): (*at, number(wall), number(spent)) for name, wall, spent in re.findall(
@@ -65,7 +67,8 @@ class Run:
         self.steps = [(name, number(wall), number(spent)) for name, wall, spent in re.findall(
             r'^(\S.*): ([\d.]+) minutes, ([\d.]+) of processor time$', text, re.M)
             if re.search(r'rt ci( --anew)?$', name) or '.py' in name]
-        self.yardsticks = [self.built[YARDSTICK]] if YARDSTICK in self.built else []
+        self.yardsticks = [f'{wall} seconds, {spent} of processor time' for wall, spent in re.findall(
+            rf'^\[1 of 1\] {YARDSTICK} (\d+) s, (\d+) s of processor time', text, re.M)]
         ends = re.findall(r'^\d+ passed, \d+ failed(?:, \d+ skipped)?$', text, re.M)
         self.result = ends[-1] if ends else ''
         shares = re.findall(r'^(?:rt: )?ok; handles allowed: .*; (.*)$', text, re.M)
@@ -127,8 +130,10 @@ def row(*cells):
     return '| ' + ' | '.join(f'{cell:.1f}' if isinstance(cell, float) else str(cell) for cell in cells) + ' |'
 
 
-def yardsticks(run):
-    return '; then '.join(f'{wall:.0f} seconds, {spent:.0f} of processor time' for wall, spent in run.yardsticks)
+def elsewhere(page, run):
+    """The yardsticks of the page that were taken elsewhere, for rows which it still has, each with its commit."""
+    named = {at for at, *_ in run.others.values()} - {run.said.get('commit')}
+    return [said for said, commit in ELSEWHERE.findall(page) if commit in named]
 
 
 def added(page, run):
@@ -136,8 +141,10 @@ def added(page, run):
     commit = re.search(r'^\| Commit \| `(\w+)` \|$', page, re.M)[1]
     for name in run.others:
         page = re.sub(rf'^\| `{name}`.*$', run.took(name, commit), page, flags=re.M)
-    if run.yardsticks:
-        page = re.sub(r'^(\| Yardstick .*?)(?:; for the others, .*)? \|$', rf'\1; for the others, beside `vipr_shared`: {yardsticks(run)} |', page, flags=re.M)
+    run.others = {**dict(others_of(page)), **run.others}
+    at = [f'at commit `{run.said.get("commit", "")}`: {", then ".join(run.yardsticks)}'] if run.yardsticks else []
+    said = ''.join(f'; {it}' for it in elsewhere(page, run) + at)
+    page = re.sub(r'^(\| Yardstick .*?)(?:; at commit .*)? \|$', rf'\1{said} |', page, flags=re.M)
     front, mark, rest = page.partition('\n## ')
     if run.built:
         front = re.sub(r'^\| (`?(\w+)`?) \| [\d.]* (\|(?: [\d.]* \|){3})$',
@@ -159,10 +166,8 @@ def page(run):
              row('Kit', f'`{run.said.get("kit", "")}`'), row('Machine', run.said.get('machine', '')),
              row('Result', f'`{run.result}`'), row('Wrong versions refused', run.edits), row('Proved here', run.share)]
     lines += [row(f'SHA-256 of `{name}`', f'`{digits}`') for digits, name in run.sums]
-    if run.yardsticks:
-        lines.append(row('Yardstick', f'the build of `{YARDSTICK}`: {yardsticks(run)}'))
-    elif YARDSTICK in run.crates:
-        lines.append(row('Yardstick', f'the proof of `{YARDSTICK}`: {60 * run.crates[YARDSTICK][0]:.0f} seconds of processor time'))
+    said = '; then '.join(run.yardsticks) or 'not in this run'
+    lines.append(row('Yardstick', '; '.join([f'the build of `{YARDSTICK}` by two processes, alone: {said}', *run.elsewhere])))
     lines += ['', 'If the yardstick takes half as long on your machine, so does about everything below. A second figure is from '
               'after the run: a machine that others use changes its speed. A command with a commit of its own was run there.', '',
               '| Command | Minutes | Processor minutes |', '|---|---|---|']
@@ -197,6 +202,7 @@ def main(words):
     stands = PAGE.read_text()
     if not is_added:
         run.others = {**dict(others_of(stands)), **run.others}
+        run.elsewhere = elsewhere(stands, run)
     PAGE.write_text(added(stands, run) if is_added else f'{HEAD}\n{page(run)}')
     print(f'{PAGE.relative_to(TOP)} is written')
     proof = wrong.counted_anew(wrong.PAGE.read_text(), run.tried)

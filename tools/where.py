@@ -4,12 +4,12 @@
 usage: tools/where.py CRATE [N]
 
 Each part is a file below crates/CRATE/out/incremental, and took the time since the one before it. So the times are right
-after a proof from nothing by one job (`rt check --jobs 1` in the crate's folder, without `out`) on a quiet machine. After
-one by two jobs they are about half too small, and after a check that proved little they say nothing. Prints the seconds
-by kind of part, and then those of the N functions or lemma files that took longest (20 without N), each with its dearest
-part. `Lts` is the account of a function's steps, `Proof` what the prover found by itself, `Answers` what is written by
-hand, and the others are what the toolchain derives from the code. The first part of a kind also has what it is the first
-to load.
+after a proof from nothing by one job (`rt check --jobs 1` in the crate's folder, without `out/incremental`) on a quiet
+machine. After one by two jobs they are about half too small, and after a check that proved little they say nothing. Prints
+the seconds by kind of part, and then those of the N functions or lemma files that took longest (20 without N), each with
+its dearest part. `Lts` is the account of a function's steps, `Proof` what the prover found by itself, `Answers` what is
+written by hand, and the others are what the toolchain derives from the code. The first part of a kind also has what it is
+the first to load.
 """
 import re
 import sys
