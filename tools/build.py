@@ -32,7 +32,7 @@ FREE = 3_000_000
 LAST = {'vipr_check', 'vipr_explain', 'vipr_command'}
 # how this script calls itself for one command of the toolchain, under its own lock
 UNLOCKED = '--unlocked'
-# a library's first build by one process: it keeps no work, and the library has its statements without their proofs
+# a library's first build: it keeps no work, and the library has its statements without their proofs
 FIRST = '--statements'
 # what the toolchain says if libraries of several builds meet
 UNUSABLE = 'unusable-built-library'
@@ -132,7 +132,7 @@ class Build:
         """Builds a crate by so many processes, as many as the toolchain chooses for 0, and gives whether that went well."""
         flags = ['--jobs', str(jobs)] if jobs else []
         verb = ['run', *flags, '--', '--help'] if crate == PROGRAM else ['lib', *flags]
-        form = [FIRST] if crate in self.first and jobs == 1 else []
+        form = [FIRST] if crate in self.first else []
         words = [sys.executable, __file__, UNLOCKED, *form, *verb] if self.locks else [RT, *verb]
         start, label = time.monotonic(), f'[{number} of {len(self.below)}] {crate}'
         clock = threading.Timer(QUIET_SECONDS, lambda: say(f'{label} ..'))
