@@ -19,9 +19,10 @@ use Rattle.vipr_spec.specs.Checking.{report_from}
 use Rattle.vipr_spec.proofs.Prefix.{count_next, known_next}
 use Rattle.vipr_spec.proofs.Held.{peak_next}
 use Rattle.vipr_spec.proofs.Steps.{good_without, good_steps_next, refers_back}
-use Rattle.vipr_spec.proofs.Remains.{end_verified, end_unproved}
 use Rattle.vipr_spec.proofs.Reported.{goal_met, goal_missed}
 use Rattle.vipr_spec.proofs.Goals.{dual_given, goal_stays, goal_found, goal_missing}
+use Rattle.vipr_spec.proofs.Told as known
+use Rattle.vipr_spec.proofs.Told.{answers}
 
 -- ---- the constraints of the problem
 
@@ -94,9 +95,9 @@ pub checked_verified : (P : Profile) (c : Certificate) (goal : Option ℕ) (most
     → Answers P (derivations_from c 0 r) (verified (report_from c goal most_held))
 checked_verified P c goal most_held r h e s =
     let m = goal_met P c goal h.goal_is s in
-    (end_verified P c r (verified (report_from c goal most_held)) e m.0).1 (report_from c goal most_held, record { claim = refl; solutions = refl; derived = refl; peak = h.peak_is; goal = m.1 }, refl)
+    (known.end_verified P (answers P (verified (report_from c goal most_held))) c r e m.0).1 (report_from c goal most_held, record { claim = refl; solutions = refl; derived = refl; peak = h.peak_is; goal = m.1 }, refl)
 
 pub checked_unproved : (P : Profile) (c : Certificate) (most_held : ℕ) (r : Rest)
     → IsChecked P c None most_held → end_read r ≡ Ok tt → NeedsGoal c.problem c.problem.claim
     → Answers P (derivations_from c 0 r) (answer_of_test meets_dual)
-checked_unproved P c most_held r h e s = (end_unproved P c r (answer_of_test meets_dual) e (goal_missed P c h.goal_is s)).1 refl
+checked_unproved P c most_held r h e s = (known.end_unproved P (answers P (answer_of_test meets_dual)) c r e (goal_missed P c h.goal_is s)).1 refl

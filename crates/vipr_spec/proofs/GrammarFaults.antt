@@ -69,16 +69,6 @@ module _ {A B : Type 0} {read : Rest → Read A} {S : A → List (List ℕ) → 
   pub remains_then : FaultsRemain (λ r. read r >>= f)
   remains_then = record { refusal = refusal_then; failure = failure_then }
 
-pub remains_same : {A : Type 0} (read like : Rest → Result A Fault) → ((r : Rest) → like r ≡ read r)
-    → FaultsRemain read → FaultsRemain like
-remains_same read like same k = record {
-  refusal = λ r c o e. ⊎_elim
-      (λ (h : IsRefusedAt read r c o). inl (record { before = h.before; token = h.token; after = h.after; joined = h.joined; here = h.here; remains = λ q more i. same q ∙ h.remains q more i; first = λ q i l. same q ∙ h.first q i l }))
-      inr
-      (k.refusal r c o (sym (same r) ∙ e));
-  failure = λ r e. k.failure r (sym (same r) ∙ e);
-}
-
 -- a last step that only names what was read
 pub remains_named : {A B : Type 0} {read : Rest → Result A Fault} (g : A → B) → FaultsRemain read
     → FaultsRemain (λ r. read r >>= λ x. Ok (g x))

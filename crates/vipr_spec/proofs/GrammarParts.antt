@@ -5,8 +5,8 @@ use Rattle.std.proofs.lemmas.Bool.Decides.{nat_tests}
 use Rattle.std.proofs.lemmas.List.Elements.{All-nil, All-cons, All-head}
 use Rattle.vipr_spec.specs.Tokens.{Token}
 use Rattle.vipr_spec.specs.Reading.{Rest, refused, Read, most_bytes, first_token, token_read}
-use Rattle.vipr_spec.specs.Reading.{checked_token, token_of, read_each, name_of, word_of, count_of}
-use Rattle.vipr_spec.specs.Grammar.{one, ◌then◌, each, SpellsCount, word}
+use Rattle.vipr_spec.specs.Reading.{checked_token, token_of, read_each, name_of, word_of}
+use Rattle.vipr_spec.specs.Grammar.{one, ◌then◌, each, word}
 use Rattle.vipr_spec.specs.GrammarLaws.{ReadsKind, ReadsFront, Reads}
 use Rattle.vipr_spec.proofs.GrammarTokens.{kinds_of_token}
 use Rattle.vipr_spec.proofs.GrammarSteps.{bind_ok, ok_then, same_ok, bytes_of, IsShort, read_is}
@@ -75,9 +75,6 @@ reads_name = reads_like (reads_one name_of (λ t x. t ≡ x) kinds_of_token.name
 
 pub reads_fixed : (w : List ℕ) (c : ℕ) → Reads (token_of (word_of w c)) (λ u. word w)
 reads_fixed w c = reads_like (reads_one (word_of w c) (λ t x. t ≡ w) (kinds_of_token.fixed w c)) (λ x ts h. h.1 ∙ ap (λ b. b ∷ []) h.2) (λ x ts h. (w, h, refl))
-
-pub reads_count : Reads (token_of count_of) (one SpellsCount)
-reads_count = reads_one count_of SpellsCount kinds_of_token.count
 
 -- ---- so many in a row
 

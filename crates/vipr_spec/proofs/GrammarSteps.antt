@@ -39,11 +39,6 @@ pub bind_ok : {A B : Type 0} {r : Result A Fault} {f : A → Result B Fault} {y 
 bind_ok {r = Ok x} e = (x, refl, e)
 bind_ok {r = Err d} e = absurd (cc)
 
--- what was read first is a variable in what follows, which it is not as the value of a `let`
-pub read_first : {A B C : Type 0} {r : Result A Fault} {f : A → Result B Fault} {y : B}
-    → (r >>= f) ≡ Ok y → ((x : A) → r ≡ Ok x → f x ≡ Ok y → C) → C
-read_first e then_so = let b = bind_ok e in then_so b.0 b.1 b.2
-
 pub ok_then : {A B : Type 0} {r : Result A Fault}
     (f : A → Result B Fault) {x : A} {y : Result B Fault} → r ≡ Ok x → f x ≡ y → (r >>= f) ≡ y
 ok_then f e h = ap (λ z. z >>= f) e ∙ h

@@ -17,8 +17,8 @@ use Rattle.vipr_spec.proofs.PairRows.{set_below}
 use Rattle.vipr_spec.proofs.GrammarSteps.{bind_ok, ok_then, same_ok, success, bytes_of, IsShort}
 use Rattle.vipr_spec.proofs.GrammarSteps.{read_as, read_then, parted}
 use Rattle.vipr_spec.proofs.GrammarParts.{repeated_sound, repeated_complete}
-use Rattle.vipr_spec.proofs.GrammarSections.{reads_problem, reads_solution}
-use Rattle.vipr_spec.proofs.GrammarDerivations.{reads_derivation, reads_derivations}
+use Rattle.vipr_spec.proofs.Items.{problem_is, solution_is}
+use Rattle.vipr_spec.proofs.Items.{derivation_is, reads_derivations}
 
 -- ---- the end
 
@@ -92,7 +92,7 @@ integers_below p t j h =
 
 pub few_constraints_read : (r s : Rest) (x : Problem × ℕ) → problem_read r ≡ Ok (x, s)
     → length x.0.constraints ≤ most_count
-few_constraints_read r s x e = few_constraints x.0 (parted ((reads_problem r s x).0 e)).before
+few_constraints_read r s x e = few_constraints x.0 (parted ((problem_is.reads r s x).0 e)).before
 
 module _ (r : Rest) (c : Certificate) where
   closed_sound : (p : Problem) (ss : List (Named Row)) (ds : List Derivation × Rest) → ReadsFront (sections (record { problem = p; solutions = ss; derivations = ds.0 })) r ds.1 → closed p ss ds ≡ Ok c → Whole r c
@@ -106,12 +106,12 @@ module _ (r : Rest) (c : Certificate) where
       let ss = bind_ok {r = read_each (solution_read problem) p.0.0.1 p.0.1} {f = headed problem} p.2 in
       let d = bind_ok {r = derivations_read problem ss.0.1} {f = derived problem ss.0.0} ss.2 in
       let ds = bind_ok {r = read_each (derivation_read problem) d.0.0 d.0.1} {f = closed problem ss.0.0} d.2 in
-      let start = parted ((reads_problem r p.0.1 p.0.0).0 p.1) in
+      let start = parted ((problem_is.reads r p.0.1 p.0.0).0 p.1) in
       let head = parted start.after in
       let few = few_constraints problem start.before in
-      let listed = repeated_sound (solution_read problem) (solution (variables problem)) (reads_solution problem) p.0.0.1 p.0.1 ss.0.1 ss.0.0 ss.1 in
+      let listed = repeated_sound (solution_read problem) (solution (variables problem)) ((solution_is problem).reads) p.0.0.1 p.0.1 ss.0.1 ss.0.0 ss.1 in
       let room = (reads_derivations problem few ss.0.1 d.0.1 d.0.0).0 d.1 in
-      let derived_rows = repeated_sound (derivation_read problem) (derivation problem) (reads_derivation problem) d.0.0 d.0.1 ds.0.1 ds.0.0 ds.1 in
+      let derived_rows = repeated_sound (derivation_read problem) (derivation problem) ((derivation_is problem).reads) d.0.0 d.0.1 ds.0.1 ds.0.0 ds.1 in
       let solutions_read = read_then head.before (read_then (subst (λ k. ReadsFront (one SpellsCount k) head.at p.0.1) (sym listed.0) head.after) listed.1) in
       let room_for = subst (λ k. ReadsFront (derivation_count problem k) ss.0.1 d.0.1) (sym derived_rows.0) room in
       let header = parted (read_as (word (codes "DER") then one SpellsCount (length ds.0.0)) room_for room_for.shape.1) in
@@ -129,10 +129,10 @@ module _ (r : Rest) (c : Certificate) where
       let der = parted (read_as (word (codes "DER") then one SpellsCount m then each (derivation c.problem) c.derivations) b.after b.after.shape.1) in
       let room = parted der.after in
       let header = read_then der.before room.before in
-      ok_then solved ((reads_problem r count.at (c.problem, length c.solutions)).1 (read_then a.before (read_then sol.before count.before)))
-      (ok_then (headed c.problem) (repeated_complete (solution_read c.problem) (solution (variables c.problem)) (reads_solution c.problem) c.solutions count.at b.at count.after)
+      ok_then solved ((problem_is.reads r count.at (c.problem, length c.solutions)).1 (read_then a.before (read_then sol.before count.before)))
+      (ok_then (headed c.problem) (repeated_complete (solution_read c.problem) (solution (variables c.problem)) ((solution_is c.problem).reads) c.solutions count.at b.at count.after)
       (ok_then (derived c.problem c.solutions) ((reads_derivations c.problem few b.at room.at m).1 (read_as (derivation_count c.problem m) header (b.after.shape.0, header.shape)))
-      (ok_then (closed c.problem c.solutions) (repeated_complete (derivation_read c.problem) (derivation c.problem) (reads_derivation c.problem) c.derivations room.at w.end room.after)
+      (ok_then (closed c.problem c.solutions) (repeated_complete (derivation_read c.problem) (derivation c.problem) ((derivation_is c.problem).reads) c.derivations room.at w.end room.after)
       (ok_then _ (end_complete w.end w.ends) refl))))
 
 pub integers_read_below : (r : Rest) (c : Certificate) → certificate_read r ≡ Ok c → (j : ℕ)

@@ -22,7 +22,7 @@ pub use Rattle.vipr_spec.proofs.Fractions.{zero_numer, zero_or_not}
 -- What is a proof under profile one is one under profile two
 pub use Rattle.vipr_spec.proofs.Goals.{proof_two}
 -- The faults of each item
-pub use Rattle.vipr_spec.proofs.GrammarItemFaults.{item_faults}
+pub use Rattle.vipr_spec.proofs.Items.{item_faults}
 -- The whole certificate, and that no tokens spell two
 pub use Rattle.vipr_spec.proofs.GrammarWhole.{one_certificate, reads_certificates, reads_texts}
 -- Laws of the product of integers, which the library lacks

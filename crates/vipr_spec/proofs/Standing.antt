@@ -26,15 +26,12 @@ use Rattle.vipr_spec.specs.RefusalLaws.{IsRefusedBy}
 use Rattle.vipr_spec.specs.Progress.{derivations_from, solutions_from}
 use Rattle.vipr_spec.proofs.FirstFailing.{failing_parts, failing_unmap}
 use Rattle.vipr_spec.proofs.Steps.{tests_next}
-use Rattle.vipr_spec.proofs.GrammarSections.{reads_problem, reads_solution}
-use Rattle.vipr_spec.proofs.GrammarDerivations.{reads_derivations, reads_derivation}
+use Rattle.vipr_spec.proofs.Items.{problem_is, solution_is}
+use Rattle.vipr_spec.proofs.Items.{reads_derivations, derivation_is}
 use Rattle.vipr_spec.proofs.GrammarWhole.{few_constraints_read}
-use Rattle.vipr_spec.proofs.GrammarItemFaults.{item_faults}
+use Rattle.vipr_spec.proofs.Items.{item_faults}
 use Rattle.vipr_spec.proofs.Told as known
-use Rattle.vipr_spec.proofs.Remains.{problem_fault, problem_ok, solution_fault, solution_passes}
-use Rattle.vipr_spec.proofs.Remains.{solution_fails, solutions_unmet, derivations_fault}
-use Rattle.vipr_spec.proofs.Remains.{derivations_begin, derivation_fault, derivation_passes}
-use Rattle.vipr_spec.proofs.Remains.{derivation_fails, end_fault}
+use Rattle.vipr_spec.proofs.Told.{answers}
 
 -- ---- an item is read from its own tokens
 
@@ -190,7 +187,7 @@ module _ (P : Profile) where
   derivations_remain zero c r x b h = by (end_read r) refl
     where
       by : (y : Result (Unit {0}) Fault) → end_read r ≡ y → IsRefusedBy P (derivations_from c 0) (EndsInDerivations c 0) r x
-      by (Err f) e = fault_remains end_read (derivations_from c 0) (EndsInDerivations c 0) (λ q o h. h) item_faults.end (λ q f a e. end_fault P c q f a e) r f x b e h
+      by (Err f) e = fault_remains end_read (derivations_from c 0) (EndsInDerivations c 0) (λ q o h. h) item_faults.end (λ q f a e. known.end_fault P (answers P a) c q f e) r f x b e h
       by (Ok done) e = absurd (last g.0 g.1 g.2)
         where
           g : Answers P (record { certificate = c; tests = meets_dual ∷ [] }) (refuses x)
@@ -203,19 +200,19 @@ module _ (P : Profile) where
   derivations_remain (suc n) c r x b h = by (λ d s g. derivations_remain n (with_next c d) s x b g) (derivation_read c.problem r) refl
     where
       by : ((d : Derivation) (s : Rest) → Answers P (derivations_from (with_next c d) n s) (refuses x) → IsRefusedBy P (derivations_from (with_next c d) n) (EndsInDerivations (with_next c d) n) s x) → (y : Read Derivation) → derivation_read c.problem r ≡ y → IsRefusedBy P (derivations_from c (suc n)) (EndsInDerivations c (suc n)) r x
-      by on (Err f) e = fault_remains (derivation_read c.problem) (derivations_from c (suc n)) (EndsInDerivations c (suc n)) (λ q o h. h) (item_faults.derivation c.problem) (λ q f a e. derivation_fault P c n q f a e) r f x b e h
+      by on (Err f) e = fault_remains (derivation_read c.problem) (derivations_from c (suc n)) (EndsInDerivations c (suc n)) (λ q o h. h) (item_faults.derivation c.problem) (λ q f a e. known.derivation_fault P (answers P a) c n q f e) r f x b e h
       by on (Ok (d, s)) e = tested k.0 k.1
         where
           item : IsRead (derivation_read c.problem) r s d
-          item = is_read (reads_derivation c.problem) r s d e
+          item = is_read ((derivation_is c.problem).reads) r s d e
 
           k : (f : Option StepTest) × FirstFailing (PassesStep P c (condition d.stated)) (step_tests d.reason) f
           k = step_found c n r d s (refuses x) e h
 
           tested : (f : Option StepTest) → FirstFailing (PassesStep P c (condition d.stated)) (step_tests d.reason) f → IsRefusedBy P (derivations_from c (suc n)) (EndsInDerivations c (suc n)) r x
-          tested None g = after_item (derivations_from c (suc n)) (derivations_from (with_next c d) n) (EndsInDerivations c (suc n)) (EndsInDerivations (with_next c d) n) x (derivation_later c d n) item (λ q t e. (derivation_passes P c n q d t (refuses x) e g).1)
-              (on d s ((derivation_passes P c n r d s (refuses x) e g).0 h))
-          tested (Some u) g = item_remains (derivations_from c (suc n)) (EndsInDerivations c (suc n)) (step_cause u) (at_derivation (count c)) x (λ q t z e. (0, omega arith, omega arith, (d ∷ [], t, item_more (derivation_read c.problem) 0 q t d [] t e (no_items (derivation_read c.problem) t), z))) item (λ q t e. derivation_fails P c n q d t u (refuses x) e g) ((derivation_fails P c n r d s u (refuses x) e g).0 h)
+          tested None g = after_item (derivations_from c (suc n)) (derivations_from (with_next c d) n) (EndsInDerivations c (suc n)) (EndsInDerivations (with_next c d) n) x (derivation_later c d n) item (λ q t e. (known.derivation_passes P (answers P (refuses x)) c n q d t e g).1)
+              (on d s ((known.derivation_passes P (answers P (refuses x)) c n r d s e g).0 h))
+          tested (Some u) g = item_remains (derivations_from c (suc n)) (EndsInDerivations c (suc n)) (step_cause u) (at_derivation (count c)) x (λ q t z e. (0, omega arith, omega arith, (d ∷ [], t, item_more (derivation_read c.problem) 0 q t d [] t e (no_items (derivation_read c.problem) t), z))) item (λ q t e. known.derivation_fails P (answers P (refuses x)) c n q d t u e g) ((known.derivation_fails P (answers P (refuses x)) c n r d s u e g).0 h)
 
   -- ---- the solutions
 
@@ -248,30 +245,30 @@ module _ (P : Profile) where
       g = subst (λ f. Answers P f (refuses x)) (known.no_more_solutions p ss r (derivations_read p r) refl) h
 
       met_by : MeetsPrimal p ss p.claim → (y : Read ℕ) → derivations_read p r ≡ y → IsRefusedBy P (solutions_from p ss 0) (EndsInSolutions p (length ss) 0) r x
-      met_by met (Err f) e = fault_remains (derivations_read p) (solutions_from p ss 0) (EndsInSolutions p (length ss) 0) (λ q o h. h) (item_faults.derivations p) (λ q f a e. derivations_fault P p ss q f a met e) r f x b e h
+      met_by met (Err f) e = fault_remains (derivations_read p) (solutions_from p ss 0) (EndsInSolutions p (length ss) 0) (λ q o h. h) (item_faults.derivations p) (λ q f a e. known.derivations_fault P (answers P a) p ss q f met e) r f x b e h
       met_by met (Ok (m, s)) e =
           let start : Certificate = record { problem = p; solutions = ss; derivations = [] } in
-          after_item (solutions_from p ss 0) (derivations_from start m) (EndsInSolutions p (length ss) 0) (EndsInDerivations start m) x (derivations_later p ss (length ss) m) (is_read (reads_derivations p few) r s m e) (λ q t e. (derivations_begin P p ss q m t (refuses x) met e).1)
-          (derivations_remain m start s x b ((derivations_begin P p ss r m s (refuses x) met e).0 h))
+          after_item (solutions_from p ss 0) (derivations_from start m) (EndsInSolutions p (length ss) 0) (EndsInDerivations start m) x (derivations_later p ss (length ss) m) (is_read (reads_derivations p few) r s m e) (λ q t e. (known.derivations_begin P (answers P (refuses x)) p ss q m t met e).1)
+          (derivations_remain m start s x b ((known.derivations_begin P (answers P (refuses x)) p ss r m s met e).0 h))
 
       first : (f : Option Test) → FirstFailing (Passes P after) (meets_primal ∷ (derivations_found p (derivations_read p r)).1) f → IsRefusedBy P (solutions_from p ss 0) (EndsInSolutions p (length ss) 0) r x
       first f (inl q) = met_by q.0 (derivations_read p r) refl
       first f (inr q) =
-          let is = (solutions_unmet P p ss r (refuses x) q.0).0 h in record {
+          let is = (known.solutions_unmet P (answers P (refuses x)) p ss r q.0).0 h in record {
             front = [];
             after = r.tokens;
             joined = refl;
             ends = λ q j. subst (λ (x : Refusal). EndsInSolutions p (length ss) 0 q x.place) (sym (same_refusal x _ is)) ([], q, no_items (solution_read p) q, j);
-            refused = λ s more j. (solutions_unmet P p ss s (refuses x) q.0).1 is;
+            refused = λ s more j. (known.solutions_unmet P (answers P (refuses x)) p ss s q.0).1 is;
           }
   solutions_remain (suc n) p few ss r x b h = by (λ s t g. solutions_remain n p few (ss ++ s ∷ []) t x b g) (solution_read p r) refl
     where
       by : ((s : Named Row) (t : Rest) → Answers P (solutions_from p (ss ++ s ∷ []) n t) (refuses x) → IsRefusedBy P (solutions_from p (ss ++ s ∷ []) n) (EndsInSolutions p (length (ss ++ s ∷ [])) n) t x) → (y : Read (Named Row)) → solution_read p r ≡ y → IsRefusedBy P (solutions_from p ss (suc n)) (EndsInSolutions p (length ss) (suc n)) r x
-      by on (Err f) e = fault_remains (solution_read p) (solutions_from p ss (suc n)) (EndsInSolutions p (length ss) (suc n)) (λ q o h. h) (item_faults.solution p) (λ q f a e. solution_fault P p ss n q f a e) r f x b e h
+      by on (Err f) e = fault_remains (solution_read p) (solutions_from p ss (suc n)) (EndsInSolutions p (length ss) (suc n)) (λ q o h. h) (item_faults.solution p) (λ q f a e. known.solution_fault P (answers P a) p ss n q f e) r f x b e h
       by on (Ok (s, t)) e = tested k.0 k.1
         where
           item : IsRead (solution_read p) r t s
-          item = is_read (reads_solution p) r t s e
+          item = is_read ((solution_is p).reads) r t s e
 
           k : (f : Option SolutionTest) × FirstFailing (PassesSolution p s.item) (solution_tests p) f
           k = solution_found p ss n r s t (refuses x) e h
@@ -281,9 +278,9 @@ module _ (P : Profile) where
 
           tested : (f : Option SolutionTest) → FirstFailing (PassesSolution p s.item) (solution_tests p) f → IsRefusedBy P (solutions_from p ss (suc n)) (EndsInSolutions p (length ss) (suc n)) r x
           tested None g = after_item (solutions_from p ss (suc n)) (solutions_from p (ss ++ s ∷ []) n) (EndsInSolutions p (length ss) (suc n)) (EndsInSolutions p (length (ss ++ s ∷ [])) n) x
-              (λ q t front place j e h. solution_later p s (length ss) n q t front place j e (subst (λ i. EndsInSolutions p i n t place) one_more h)) item (λ q t e. (solution_passes P p ss n q s t (refuses x) e g).1)
-              (on s t ((solution_passes P p ss n r s t (refuses x) e g).0 h))
-          tested (Some u) g = item_remains (solutions_from p ss (suc n)) (EndsInSolutions p (length ss) (suc n)) (solution_cause u) (at_solution (length ss)) x (λ q t z e. (0, omega arith, omega arith, (s ∷ [], t, item_more (solution_read p) 0 q t s [] t e (no_items (solution_read p) t), z))) item (λ q t e. solution_fails P p ss n q s t u (refuses x) e g) ((solution_fails P p ss n r s t u (refuses x) e g).0 h)
+              (λ q t front place j e h. solution_later p s (length ss) n q t front place j e (subst (λ i. EndsInSolutions p i n t place) one_more h)) item (λ q t e. (known.solution_passes P (answers P (refuses x)) p ss n q s t e g).1)
+              (on s t ((known.solution_passes P (answers P (refuses x)) p ss n r s t e g).0 h))
+          tested (Some u) g = item_remains (solutions_from p ss (suc n)) (EndsInSolutions p (length ss) (suc n)) (solution_cause u) (at_solution (length ss)) x (λ q t z e. (0, omega arith, omega arith, (s ∷ [], t, item_more (solution_read p) 0 q t s [] t e (no_items (solution_read p) t), z))) item (λ q t e. known.solution_fails P (answers P (refuses x)) p ss n q s t u e g) ((known.solution_fails P (answers P (refuses x)) p ss n r s t u e g).0 h)
 
   -- ---- the whole text
 
@@ -291,6 +288,6 @@ module _ (P : Profile) where
   refusal_remains r x b h = by (problem_read r) refl
     where
       by : (y : Read (Problem × ℕ)) → problem_read r ≡ y → IsRefusedBy P found_in EndsAt r x
-      by (Err f) e = fault_remains problem_read found_in EndsAt (λ q o h. h) item_faults.problem (λ q f a e. problem_fault P q f a e) r f x b e h
-      by (Ok ((p, n), s)) e = after_item found_in (solutions_from p [] n) EndsAt (EndsInSolutions p 0 n) x (problem_later p n) (is_read reads_problem r s (p, n) e) (λ q t e. (problem_ok P q p n t (refuses x) e).1)
-          (solutions_remain n p (few_constraints_read r s (p, n) e) [] s x b ((problem_ok P r p n s (refuses x) e).0 h))
+      by (Err f) e = fault_remains problem_read found_in EndsAt (λ q o h. h) item_faults.problem (λ q f a e. known.problem_fault P (answers P a) q f e) r f x b e h
+      by (Ok ((p, n), s)) e = after_item found_in (solutions_from p [] n) EndsAt (EndsInSolutions p 0 n) x (problem_later p n) (is_read problem_is.reads r s (p, n) e) (λ q t e. (known.problem_ok P (answers P (refuses x)) q p n t e).1)
+          (solutions_remain n p (few_constraints_read r s (p, n) e) [] s x b ((known.problem_ok P (answers P (refuses x)) r p n s e).0 h))

@@ -9,7 +9,7 @@ use Rattle.vipr_spec.specs.GrammarLaws.{ReadsFront, whole_text}
 use Rattle.vipr_spec.specs.Stated.{States, StatesOnly}
 use Rattle.vipr_spec.proofs.GrammarSteps.{ok_then, same_ok, read_then, parted}
 use Rattle.vipr_spec.proofs.GrammarParts.{repeated_complete}
-use Rattle.vipr_spec.proofs.GrammarSections.{reads_problem, reads_solution}
+use Rattle.vipr_spec.proofs.Items.{problem_is, solution_is}
 use Rattle.vipr_spec.proofs.GrammarWhole.{sections}
 
 abbrev listed : (Problem × ℕ) × Rest → Read (Problem × List (Named Row))
@@ -20,8 +20,8 @@ front_read : (r s : Rest) (p : Problem) (ss : List (Named Row))
     → (problem_read r >>= listed) ≡ Ok ((p, ss), s)
 front_read r s p ss t =
     let a = parted t in let sol = parted a.after in let count = parted sol.after in
-    ok_then listed ((reads_problem r count.at (p, length ss)).1 (read_then a.before (read_then sol.before count.before)))
-    (ok_then _ (repeated_complete (solution_read p) (solution (variables p)) (reads_solution p) ss count.at s count.after) refl)
+    ok_then listed ((problem_is.reads r count.at (p, length ss)).1 (read_then a.before (read_then sol.before count.before)))
+    (ok_then _ (repeated_complete (solution_read p) (solution (variables p)) ((solution_is p).reads) ss count.at s count.after) refl)
 
 stated_read : (bytes : List ℕ) (p : Problem) (ss : List (Named Row)) (st : States bytes p ss)
     → ReadsFront (problem p then solutions (variables p) ss) (whole_text bytes)

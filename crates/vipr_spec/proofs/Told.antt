@@ -14,7 +14,8 @@ use Rattle.vipr_spec.specs.Tests.{SolutionTest, PassesSolution, solution_tests, 
 use Rattle.vipr_spec.specs.Tests.{spelled, meets_primal, of_step, meets_dual, Passes}
 use Rattle.vipr_spec.specs.Tests.{numbered_tests, tests_of_solution, tests_of_derivation}
 use Rattle.vipr_spec.specs.Verdict.{before_items, items_read, Found, last_tests, derivations_found}
-use Rattle.vipr_spec.specs.Verdict.{ending_found, problem_found, found_in}
+use Rattle.vipr_spec.specs.Verdict.{ending_found, problem_found, found_in, Answer}
+use Rattle.vipr_spec.specs.Verdict.{IsAnswerOfTest}
 use Rattle.vipr_spec.specs.Progress.{derivations_from, solutions_from}
 use Rattle.vipr_spec.proofs.FirstFailing.{failing_unique, failing_first, failing_second}
 use Rattle.vipr_spec.proofs.FirstFailing.{failing_after, failing_map}
@@ -24,6 +25,10 @@ use Rattle.vipr_spec.proofs.Steps.{tests_next}
 -- the first test that fails, if any, tells this of the certificate
 abbrev pub Told : Profile → (Certificate → Option Test → Type 0) → Found → Type 0
 Told P Q f = (failing : Option Test) × FirstFailing (Passes P f.certificate) f.tests failing × Q f.certificate failing
+
+-- it is the answer
+abbrev pub answers : Profile → Answer → Certificate → Option Test → Type 0
+answers P a c failing = IsAnswerOfTest P c failing a
 
 -- ---- what was found, item by item
 

@@ -1,4 +1,4 @@
-use Rattle.vipr_spec.proofs.GrammarItemFaults.{item_faults}
+use Rattle.vipr_spec.proofs.Items.{item_faults}
 use Rattle.vipr_spec.proofs.grammar.faults_remain.Goals as goal
 
 pub returns : goal.returns

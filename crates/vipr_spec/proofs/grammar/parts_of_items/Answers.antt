@@ -1,9 +1,20 @@
-use Rattle.vipr_spec.proofs.GrammarVectors.{reads_vector, reads_row, reads_constraint}
-use Rattle.vipr_spec.proofs.GrammarSections.{reads_version, reads_names, reads_integers}
-use Rattle.vipr_spec.proofs.GrammarSections.{reads_objective, reads_constraints, reads_claim}
-use Rattle.vipr_spec.proofs.GrammarDerivations.{reads_entry, reads_reason}
+use Rattle.vipr_spec.proofs.Items.{vector_is, row_is, constraint_is}
+use Rattle.vipr_spec.proofs.Items.{version_is, names_is, integers_is}
+use Rattle.vipr_spec.proofs.Items.{objective_is, constraints_is, claim_is}
+use Rattle.vipr_spec.proofs.Items.{entry_is, reason_is}
 use Rattle.vipr_spec.proofs.grammar.parts_of_items.Goals as goal
 
 pub returns : goal.returns
-returns c =
-    assumption (reads_vector, reads_row, reads_constraint, reads_version, reads_names, reads_integers, reads_objective, reads_constraints, reads_claim, reads_entry, reads_reason)
+returns c = record {
+  vector = λ n. (vector_is n).reads;
+  coefficients = λ n o. (row_is n o).reads;
+  constraint = λ n o. (constraint_is n o).reads;
+  version = version_is.reads;
+  names = names_is.reads;
+  integers = λ n. (integers_is n).reads;
+  objective = λ n. (objective_is n).reads;
+  constraints = λ n o. (constraints_is n o).reads;
+  claim = claim_is.reads;
+  entry = entry_is.reads;
+  reason = reason_is.reads;
+}
