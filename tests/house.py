@@ -227,6 +227,23 @@ def dead_calls():
                 yield '%s: nothing calls %s' % (shown(path), name)
 
 
+# pages that scripts write: they name each law
+WRITTEN = {'CONTRACTS.md', 'STATEMENT.md'}
+
+
+def laws_are_named():
+    """Each law of `vipr_spec` is named by a page of docs/ that is written by hand, and its file with it."""
+    docs = os.path.join(ROOT, 'docs')
+    named = [set(re.findall(r'`([\w:.]+)`', text) + re.findall(r'^(\w+) +\(', text, re.M))
+             for text in (read(os.path.join(docs, name)) for name in sorted(os.listdir(docs))
+                          if name.endswith('.md') and name not in WRITTEN)]
+    for crate, part, path in files(('src',), ('.rt',)):
+        file = os.path.basename(path)[:-3]
+        for _, name, law in CALL.findall(read(path)) if crate == 'vipr_spec' else []:
+            if law and not any('%s::%s' % (file, name) in words or {name, file + '.rt'} <= words for words in named):
+                yield '%s: no page names %s' % (shown(path), name)
+
+
 # spec files that prove what their own definitions need: divisibility, lowest terms, and that a value fits a word
 PROVING_SPECS = {'Lowest.antt', 'GcdLaws.antt', 'Words.antt'}
 
@@ -426,7 +443,7 @@ def formatted():
             yield line.removeprefix(ROOT + os.sep)
 
 
-CHECKS = [foreign_proofs, private_lemmas, names_twice, types_twice, growing_types, plain_words, comments_stand_alone, unused_imports, dead_lemmas, dead_calls, proofs_in_specs, long_lines, long_files, crates_are_there, graph_is_current,
+CHECKS = [foreign_proofs, private_lemmas, names_twice, types_twice, growing_types, plain_words, comments_stand_alone, unused_imports, dead_lemmas, dead_calls, laws_are_named, proofs_in_specs, long_lines, long_files, crates_are_there, graph_is_current,
           statement_is_current, examples_are_there, causes_agree, edits_stand, samples_go_round, versions_agree, named_files_are_there,
           formatted]
 

@@ -2,7 +2,6 @@
 use Rattle.std.proofs.Common.{◌≡◌, ℕ, zero, suc, ◌+◌, ◌-◌, ◌<◌, List, [], ◌∷◌, ◌++◌, map, length}
 use Rattle.std.proofs.Common.{slice_index_or, unwrap_or, Some, None, All, arith, sym, ◌∙◌, ap}
 use Rattle.std.proofs.Common.{subst, subst₂}
-use Rattle.std.specs.Prelude.{◌↔◌}
 use Rattle.std.proofs.lemmas.List.{get_or-append-add, get_or-map}
 use Rattle.std.proofs.lemmas.List.Elements.{All-nil, All-cons, All-head, All-tail, All-append}
 use Rattle.std.proofs.lemmas.List.Elements.{All-map}
@@ -120,6 +119,3 @@ module _ (P : Profile) (c : Certificate) where
       (All-cons (Passes P c) meets_primal (numbered_tests tests_of_derivation m c.derivations ++ meets_dual ∷ []) p.primal
       (All-append (Passes P c) (numbered_tests tests_of_derivation m c.derivations) (meets_dual ∷ []) (of_steps p.steps)
       (All-cons (Passes P c) meets_dual [] p.dual (All-nil (Passes P c)))))
-
-  pub no_proof_test_fails : ((j : ℕ) → IsInteger c.problem.integers j → j < variables c.problem) → FirstFailing (Passes P c) (proof_tests c) None ↔ IsProof P c
-  no_proof_test_fails below = (λ f. proof_of_tests below (none_all (Passes P c) (proof_tests c) f), λ p. all_none (Passes P c) (proof_tests c) (tests_of_proof p))

@@ -1,20 +1,19 @@
 -- A step that is refused has one cause and one detail
-use Rattle.std.proofs.Common.{◌≡◌, ℕ, ℤ, List, Some, sym, ◌∙◌, ap, ap₂, subst, unwrap_or}
+use Rattle.std.proofs.Common.{◌≡◌, ℕ, ℤ, List, sym, ◌∙◌, ap, ap₂, subst}
 use Rattle.std.proofs.lemmas.List.Elements.{All-contains}
 use Rattle.vipr_spec.specs.Fraction.{ℚ, whole}
-use Rattle.vipr_spec.specs.Constraint.{Profile, Sense, at_most, equal, at_least, Row, at, Condition}
-use Rattle.vipr_spec.specs.Constraint.{condition, RoundsTo, sum_of}
-use Rattle.vipr_spec.specs.Certificate.{Named, Derivation, Certificate, entries, IsAsGoodAt}
+use Rattle.vipr_spec.specs.Constraint.{Sense, at_most, equal, at_least, Row, at, Condition}
+use Rattle.vipr_spec.specs.Constraint.{RoundsTo, sum_of}
+use Rattle.vipr_spec.specs.Certificate.{Named, Certificate, entries, IsAsGoodAt}
 use Rattle.vipr_spec.specs.Certificate.{reaches, objective_constraint, IsBest, cutoff}
 use Rattle.vipr_spec.specs.Steps.{StepTest, earlier, live, assumed, suitable, fitting, roundable}
 use Rattle.vipr_spec.specs.Steps.{split, listed, by_sum, by_rounding, by_constraint, by_cutoff}
-use Rattle.vipr_spec.specs.Steps.{PassesStep, step_tests, step_cause, StepDetail, sum, compared}
-use Rattle.vipr_spec.specs.Steps.{IsSum, Shows, Refuses}
+use Rattle.vipr_spec.specs.Steps.{StepDetail, sum, compared}
+use Rattle.vipr_spec.specs.Steps.{IsSum, Shows}
 use Rattle.vipr_spec.proofs.Integers.{≤ℤ_antisymm}
 use Rattle.vipr_spec.proofs.Fractions.{le_of_eq_ℚ, le_of_whole}
 use Rattle.vipr_spec.proofs.MoreEntries.{one_sense}
 use Rattle.vipr_spec.proofs.Best.{as_good_antisymm}
-use Rattle.vipr_spec.proofs.FirstFailing.{failing_unique}
 
 rounds_once : (s : Sense) (b : ℚ) (j k : ℤ) → RoundsTo s b j → RoundsTo s b k → j ≡ k
 rounds_once at_least b j k h l = ≤ℤ_antisymm j k (h.1 k l.0) (l.1 j h.0)
@@ -45,9 +44,3 @@ module _ (c : Certificate) (d : Condition) where
   shows_once (by_rounding es) x y h k = h.4 ∙ ap (λ z. compared z d) (rounded_once h.0 k.0 h.1 k.1 (sum_once es h.0 k.0 h.2 k.2) h.3 k.3) ∙ sym k.4
   shows_once (by_constraint i) x y h k = h ∙ sym k
   shows_once by_cutoff x y h k = h.2 ∙ ap (λ z. compared z d) (cutoff_once h.0 k.0 h.1 k.1) ∙ sym k.2
-
-pub refused_once : (P : Profile) (c : Certificate) (d : Derivation) (m n : ℕ) (x y : StepDetail)
-    → Refuses P c d m x → Refuses P c d n y → (m ≡ n) × (x ≡ y)
-refused_once P c d m n x y h k =
-    let e : h.0 ≡ k.0 = ap (λ o. unwrap_or o h.0) (failing_unique (PassesStep P c (condition d.stated)) (step_tests d.reason) (Some h.0) (Some k.0) h.1 k.1) in
-    (h.2 ∙ ap step_cause e ∙ sym k.2, shows_once c (condition d.stated) k.0 x y (subst (λ t. Shows c (condition d.stated) t x) e h.3) k.3)

@@ -1,5 +1,5 @@
 -- x ≥ 1 and x ≤ 0 have no point: a proof by the difference of the two
-use Rattle.std.proofs.Common.{◌≡◌, ℕ, zero, suc, ◌-◌, ◌^◌, ◌<◌, ◌⊎◌, [], ◌∷◌, Some, None, ℤ, pos}
+use Rattle.std.proofs.Common.{◌≡◌, ℕ, zero, suc, ◌<◌, ◌⊎◌, [], ◌∷◌, Some, None, ℤ, pos}
 use Rattle.std.proofs.Common.{negsuc, All, Contains, Bool, true, false, cond, arith, refl, sym, ◌∙◌}
 use Rattle.std.proofs.Common.{ap, subst, inl, inr, ⊎_elim, slice_index_or, IsTrue, lit<, lit≤}
 use Rattle.std.proofs.Common.{unwrap_or}
@@ -10,28 +10,15 @@ use Rattle.std.proofs.lemmas.List.Elements.{All-nil, All-cons}
 use Rattle.std.proofs.lemmas.Int.{ints}
 use Rattle.vipr_spec.specs.Gcd.{gcd}
 use Rattle.vipr_spec.specs.Fraction.{ℚ, over, whole, zero_ℚ, ◌+ℚ◌, ◌*ℚ◌, neg_ℚ, ◌≤ℚ◌, ProductFits}
-use Rattle.vipr_spec.specs.Fraction.{SumFits}
 use Rattle.vipr_spec.specs.Constraint.{Profile, at_most, at_least, at, Entry, pull, Combines}
 use Rattle.vipr_spec.specs.Constraint.{TermsFit, SumOfFits}
 use Rattle.vipr_spec.specs.Certificate.{constraint_at, reason_at, entries, lin, IsProof, IsGoodStep}
 use Rattle.vipr_spec.specs.Certificate.{HasGoodSteps, is_live, RestsOn, itself, RestsOnNothing}
 use Rattle.vipr_spec.specs.Examples.{row, both, example, assumed}
 use Rattle.vipr_spec.proofs.Fractions.{whole-add, whole-mul, whole-le, le_of_whole, is_one, is_neg}
-use Rattle.vipr_spec.proofs.Fractions.{is_whole, over_same, mul-zero_ℚ, add-mul_ℚ, zero-mul_ℚ}
+use Rattle.vipr_spec.proofs.Fractions.{is_whole, mul-zero_ℚ, add-mul_ℚ, zero-mul_ℚ}
 use Rattle.vipr_spec.proofs.Fractions.{add-zero_ℚ}
 use Rattle.vipr_spec.proofs.Rests.{rests_out, rests_given}
-
--- closed fractions compute, but for the proof inside
-half : over (pos 2) 4 ≡ over (pos 1) 2
-half = (over_same (pos 2) (pos 1) 4 2 (lit< tt) (lit< tt)).1 refl
-
-large : (over (pos (2 ^ 126)) (2 ^ 100) *ℚ over (negsuc (2 ^ 90 - 1)) (2 ^ 120)).denom ≡ 2 ^ 4
-unfolding over gcd ◌*ℚ◌
-large = refl
-
-fits : SumFits (over (pos 1) 6) (over (pos 1) 3)
-unfolding over gcd ◌+ℚ◌
-fits = (lit≤ tt, lit≤ tt, lit≤ tt, lit≤ tt)
 
 one_or_zero : (q : ℚ) (b : Bool) → (unwrap_or (cond b (Some q) None) zero_ℚ ≡ q)
     ⊎ (unwrap_or (cond b (Some q) None) zero_ℚ ≡ zero_ℚ)

@@ -4,17 +4,17 @@ use Rattle.std.proofs.Common.{IsSome, IsSomeAnd, arith, refl, sym, subst, inl, i
 use Rattle.std.specs.Prelude.{◌↔◌}
 use Rattle.std.proofs.lemmas.Bool.{cases_lt}
 use Rattle.vipr_spec.specs.Fraction.{ℚ}
-use Rattle.vipr_spec.specs.Constraint.{Profile, one, two, Condition, condition}
+use Rattle.vipr_spec.specs.Constraint.{Profile, one, two, Condition}
 use Rattle.vipr_spec.specs.Certificate.{Problem, Claim, infeasible, range, Reason, asm, lin, rnd}
 use Rattle.vipr_spec.specs.Certificate.{uns, sol, dual_bound, Derivation, Certificate, Known}
-use Rattle.vipr_spec.specs.Certificate.{constraint_at, count, NamesEarlier, FollowsBy, IsGoodStep}
+use Rattle.vipr_spec.specs.Certificate.{constraint_at, count, FollowsBy, IsGoodStep}
 use Rattle.vipr_spec.specs.Certificate.{MeetsBound, MeetsDual, NeedsGoal, ProvesDual, IsProof}
 use Rattle.vipr_spec.specs.Certificate.{IsGoal, GoalIs}
-use Rattle.vipr_spec.specs.Steps.{with_more, with_next, RefersBack, RestsBy}
+use Rattle.vipr_spec.specs.Steps.{with_more, with_next, RefersBack}
 use Rattle.vipr_spec.proofs.Linear.{split_two}
-use Rattle.vipr_spec.proofs.Prefix.{known_before, known_next, reason_given, count_more, count_next}
+use Rattle.vipr_spec.proofs.Prefix.{known_before, reason_given, count_more, count_next}
 use Rattle.vipr_spec.proofs.Rests.{rests_given}
-use Rattle.vipr_spec.proofs.Steps.{rests_more, rests_next}
+use Rattle.vipr_spec.proofs.Steps.{rests_more}
 
 -- ---- one derivation after the other
 module _ (P : Profile) (c : Certificate) where
@@ -30,15 +30,6 @@ module _ (P : Profile) (c : Certificate) where
       let n = count_more c ds in (
         λ p. (h, λ a r. p.1 a ((rests_more c ds back k a h).1 r), subst (λ (x : Known). Meets x.stated) e p.2),
         λ p. (omega arith, λ a r. p.1 a ((rests_more c ds back k a h).0 r), subst (λ (x : Known). Meets x.stated) (sym e) p.2),
-      )
-
-  pub dual_next : (d : Derivation) → RefersBack c → NamesEarlier (count c) (Some d.reason)
-      → ProvesDual P (with_next c d) (count c) ↔ (((a : ℕ) → ¬ RestsBy c (count c) (Some d.reason) a) × MeetsDual P c.problem c.problem.claim (condition d.stated))
-  dual_next d back n =
-      let e = known_next c d [] in
-      let m = count_next c d in (
-        λ p. (λ a r. p.1 a ((rests_next c d a back n).1 r), subst (λ (x : Known). Meets x.stated) e p.2),
-        λ p. (omega arith, λ a r. p.0 a ((rests_next c d a back n).0 r), subst (λ (x : Known). Meets x.stated) (sym e) p.1),
       )
 
   -- an index that proves the dual side is an earlier one, or the next

@@ -70,8 +70,8 @@ pub use Rattle.vipr_spec.proofs.Soundness.{bound_true}
 -- A certificate step by step
 pub use Rattle.vipr_spec.proofs.Steps.{refers_back, rests_more, rests_next, sound_given, sound_next}
 -- What the tightened certificate of a proof is
-pub use Rattle.vipr_spec.proofs.Tight.{back_of_proof, tight_back, tight_goal, tight_needed}
-pub use Rattle.vipr_spec.proofs.Tight.{tight_proof, tight_twice, unneeded_goal}
+pub use Rattle.vipr_spec.proofs.Tight.{back_of_proof, tight_goal, tight_needed, tight_proof}
+pub use Rattle.vipr_spec.proofs.Tight.{tight_twice, unneeded_goal}
 pub use Rattle.vipr_spec.proofs.TightPeak.{count_cons, count_from, tight_counts, tight_peak}
 -- Laws of the tokens of a text
 pub use Rattle.vipr_spec.proofs.TokenLaws.{run_from, token_cut, token_long, token_whole}
@@ -81,10 +81,8 @@ pub use Rattle.vipr_spec.proofs.TokenSplit.{first_white, split_is}
 pub use Rattle.vipr_spec.proofs.WholeText.{ended, found_read, proof_answered, repeated_is}
 pub use Rattle.vipr_spec.proofs.WholeText.{verified_read, verified_text}
 -- What is kept of a list, its new indices, and the two passes of the tightener
-pub use Rattle.vipr_spec.proofs.Kept.{index_le, index_same, length_kept_derivations}
+pub use Rattle.vipr_spec.proofs.Kept.{index_same, length_kept_derivations}
 pub use Rattle.vipr_spec.proofs.Placed.{reason_placed}
 pub use Rattle.vipr_spec.proofs.TightenLimits.{can_write}
 pub use Rattle.vipr_spec.proofs.TightenPasses.{marked_down, marked_past, next_kept}
 pub use Rattle.vipr_spec.proofs.TightenPasses.{next_left_out, renumbered_alike}
--- A text states one problem
-pub use Rattle.vipr_spec.proofs.Stated.{spelled_only}

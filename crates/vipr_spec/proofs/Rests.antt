@@ -1,6 +1,5 @@
 -- The assumption sets, by the reason
 use Rattle.std.proofs.Common.{◌≡◌, ℕ, Option, Some, None, refl, sym, subst, inl, inr}
-use Rattle.std.specs.Prelude.{◌↔◌}
 use Rattle.vipr_spec.specs.Certificate.{Reason, asm, lin, rnd, uns, sol, Certificate, reason_at}
 use Rattle.vipr_spec.specs.Certificate.{Brings, RestsOn, itself, brought}
 use Rattle.vipr_spec.specs.Steps.{RestsBy}
@@ -27,9 +26,6 @@ rests_in c i a (Some (rnd es)) e h = brought (subst (λ o. Brings o h.0.0 a) (sy
 rests_in c i a (Some (uns i1 l1 i2 l2)) e (inl h) = brought (subst (λ o. Brings o i1 a) (sym e) (inl (refl, h.1))) h.0
 rests_in c i a (Some (uns i1 l1 i2 l2)) e (inr h) = brought (subst (λ o. Brings o i2 a) (sym e) (inr (refl, h.1))) h.0
 rests_in c i a (Some sol) e h = absurd h
-
-pub rests_iff : (c : Certificate) (i a : ℕ) → RestsOn c i a ↔ RestsBy c i (reason_at c i) a
-rests_iff c i a = (rests_out c i a, rests_in c i a (reason_at c i) refl)
 
 -- where the reason is known
 pub rests_by : (c : Certificate) (i a : ℕ) (q : Option Reason) → reason_at c i ≡ q → RestsOn c i a

@@ -2,7 +2,6 @@
 use Rattle.std.specs.Prelude.{◌≡◌, ◌↔◌, ℕ, ◌+◌, ◌-◌, ◌≤◌, Bool, false, nat_eq, if◌then◌else◌, List}
 use Rattle.std.specs.Prelude.{[], ◌++◌, length, map, All, Some, Result, Ok, codes}
 use Rattle.std.specs.List.{list_any}
-use Rattle.vipr_spec.specs.Constraint.{Row}
 use Rattle.vipr_spec.specs.Certificate.{Problem, variables, Certificate}
 use Rattle.vipr_spec.specs.Digits.{natural_of}
 use Rattle.vipr_spec.specs.Number.{SpellsNumber}
@@ -11,15 +10,13 @@ use Rattle.vipr_spec.specs.Reading.{Rest, Read, most_bytes, most_count, name_of,
 use Rattle.vipr_spec.specs.Reading.{derivation_count_of, variable_of, new_variable_of, reference_of}
 use Rattle.vipr_spec.specs.Reading.{last_of, number_of, bound_of, spelled_sense, spelled_direction}
 use Rattle.vipr_spec.specs.Reading.{has_range_of, rule_of, Rule, by_asm, by_lin, by_rnd, by_uns}
-use Rattle.vipr_spec.specs.Reading.{by_sol, vector_read, row_read, constraint_read, version_read}
-use Rattle.vipr_spec.specs.Reading.{names_read, integers_read, objective_read, constraints_read}
-use Rattle.vipr_spec.specs.Reading.{claim_read, problem_read, solution_read, derivations_read}
-use Rattle.vipr_spec.specs.Reading.{entry_read, reason_read, derivation_read, end_read}
+use Rattle.vipr_spec.specs.Reading.{by_sol}
+use Rattle.vipr_spec.specs.Reading.{problem_read, solution_read, derivations_read}
+use Rattle.vipr_spec.specs.Reading.{derivation_read, end_read}
 use Rattle.vipr_spec.specs.Reading.{certificate_read}
 use Rattle.vipr_spec.specs.Grammar.{SpellsNatural, SpellsCount, SpellsVariable, SpellsSense}
 use Rattle.vipr_spec.specs.Grammar.{SpellsDirection, SpellsBound, SpellsLast, word, one, ◌then◌}
-use Rattle.vipr_spec.specs.Grammar.{vector, coefficients, constraint, version, names, integers}
-use Rattle.vipr_spec.specs.Grammar.{objective, constraints, claim, problem, solution, entry, reason}
+use Rattle.vipr_spec.specs.Grammar.{problem, solution}
 use Rattle.vipr_spec.specs.Grammar.{derivation, SpelledBy, Spells}
 
 -- ---- tokens
@@ -93,23 +90,6 @@ derivation_count p d ts = (length p.constraints + d ≤ most_count)
 -- no token is left, and no failure follows
 abbrev pub EndsHere : Rest → Type 0
 EndsHere r = (r.tokens ≡ []) × (r.fails ≡ false)
-
--- the parts of an item
-pub record PartsOfItems : Type 0 where
-  pub vector : (n : ℕ) → Reads (vector_read n) (vector n)
-  pub coefficients : (n : ℕ) (objective : Row)
-      → Reads (row_read n objective) (coefficients n objective)
-  pub constraint : (n : ℕ) (objective : Row)
-      → Reads (constraint_read n objective) (λ c. constraint n objective c.name c.item)
-  pub version : Reads version_read (λ u. version)
-  pub names : Reads names_read names
-  pub integers : (n : ℕ) → Reads (integers_read n) (integers n)
-  pub objective : (n : ℕ) → Reads (objective_read n) (λ x. objective n x.0 x.1)
-  pub constraints : (n : ℕ) (objective : Row)
-      → Reads (constraints_read n objective) (λ x. constraints n objective x.0 x.1)
-  pub claim : Reads claim_read claim
-  pub entry : Reads entry_read entry
-  pub reason : Reads reason_read (λ x. word (codes "{") then reason x then word (codes "}"))
 
 -- The items of a certificate, in their order. Counts keep the constraints of a
 -- problem that was read within `most_count`.

@@ -4,10 +4,9 @@ ghost use Rattle.std.specs.Prelude.{ℕ, List};
 ghost use Rattle.vipr_spec.specs.Certificate.{Certificate};
 ghost use Rattle.vipr_spec.specs.Grammar.{Spells};
 ghost use Rattle.vipr_spec.specs.Stated.{StatesOnly};
-ghost use Rattle.vipr_spec.specs.FaultLaws.{ItemFaults};
 ghost use Rattle.vipr_spec.specs.ExampleText.{example_text, example_certificate};
 ghost use Rattle.vipr_spec.specs.GrammarLaws.{ReadsNaturals, KindsOfToken, KindsOfNumber};
-ghost use Rattle.vipr_spec.specs.GrammarLaws.{PartsOfItems, ItemReadings, ReadsCertificates};
+ghost use Rattle.vipr_spec.specs.GrammarLaws.{ItemReadings, ReadsCertificates};
 ghost use Rattle.vipr_spec.specs.GrammarLaws.{ReadsTexts, OneCertificate};
 
 /// Digits write the number that they spell, and nothing else writes one.
@@ -20,11 +19,6 @@ pub fn naturals()
 pub fn kinds_of_token()
     ensures words { KindsOfToken }
     ensures numbers { KindsOfNumber }
-{}
-
-/// A part of an item is read exactly if the next tokens spell it, whatever follows them.
-pub fn parts_of_items()
-    ensures { PartsOfItems }
 {}
 
 /// An item is read exactly if the next tokens spell it, whatever follows them.
@@ -47,12 +41,6 @@ pub fn one_certificate()
 /// A text and what it spells.
 pub fn example()
     ensures { Spells example_text example_certificate }
-{}
-
-/// What is refused at a token is refused whatever follows it, and reading fails for want of more
-/// only if a failure follows.
-pub fn faults_remain()
-    ensures { ItemFaults }
 {}
 
 /// A text that spells a certificate states its problem and its listed solutions, and no others.

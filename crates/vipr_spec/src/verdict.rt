@@ -1,31 +1,17 @@
-//! The first test that fails, and which texts are verified.
+//! The answer for a text, and which texts are verified.
 
-ghost use Rattle.std.specs.Prelude.{◌≡◌, ◌≢◌, ◌↔◌, ℕ, ◌⊎◌, List, ◌++◌, Option, Some, None, Ok, All};
+ghost use Rattle.std.specs.Prelude.{◌≡◌, ◌≢◌, ◌↔◌, ℕ, List, Ok};
 ghost use Rattle.vipr_spec.specs.Constraint.{Profile};
 ghost use Rattle.vipr_spec.specs.Certificate.{Certificate, IsProof};
 ghost use Rattle.vipr_spec.specs.Reading.{Rest, certificate_read};
 ghost use Rattle.vipr_spec.specs.Grammar.{Spells};
 ghost use Rattle.vipr_spec.specs.GrammarLaws.{whole_text};
 ghost use Rattle.vipr_spec.specs.Soundness.{IsShown};
-ghost use Rattle.vipr_spec.specs.Steps.{FirstFailing};
-ghost use Rattle.vipr_spec.specs.Tests.{Test, Passes};
+ghost use Rattle.vipr_spec.specs.Tests.{Detail};
 ghost use Rattle.vipr_spec.specs.Verdict.{found_in, Report, Reports, Refusal, Answer, refuses};
-ghost use Rattle.vipr_spec.specs.Verdict.{verified, IsAnswer};
+ghost use Rattle.vipr_spec.specs.Verdict.{verified, IsAnswer, IsExplained};
 ghost use Rattle.vipr_spec.specs.RefusalLaws.{EndsAt, IsRefusedBy};
 ghost use Rattle.vipr_spec.specs.Causes as cause;
-
-/// All tests pass if and only if none fails first, and at most one fails first. In two lists, one
-/// after the other, it is that of the first list, or that of the second if all of the first pass.
-pub fn first_failing()
-    ensures none { (P : Profile) (c : Certificate) (ts : List Test)
-        → FirstFailing (Passes P c) ts None ↔ All (Passes P c) ts }
-    ensures unique { (P : Profile) (c : Certificate) (ts : List Test) (f g : Option Test)
-        → FirstFailing (Passes P c) ts f → FirstFailing (Passes P c) ts g → f ≡ g }
-    ensures joined { (P : Profile) (c : Certificate) (a b : List Test) (f : Option Test)
-        → FirstFailing (Passes P c) (a ++ b) f
-        ↔ ((FirstFailing (Passes P c) a None × FirstFailing (Passes P c) b f)
-        ⊎ ((t : Test) × (f ≡ Some t) × FirstFailing (Passes P c) a (Some t))) }
-{}
 
 /// What is refused before the end of the text is refused by the tokens up to the place, whatever
 /// follows them. They end with the token at the place, with the solution or derivation there, or,
@@ -39,6 +25,14 @@ pub fn refusals_remain()
 /// Each text has an answer: it can't be that it has none.
 pub fn texts_are_answered()
     ensures { (P : Profile) (r : Rest) → ¬ ¬ ((a : Answer) × IsAnswer P r a) }
+{}
+
+/// A text has one answer at most, and one detail with it.
+pub fn one_answer()
+    ensures answer { (P : Profile) (r : Rest) (a b : Answer) → IsAnswer P r a → IsAnswer P r b
+        → a ≡ b }
+    ensures detail { (P : Profile) (r : Rest) (a b : Answer) (x y : Detail) → IsExplained P r a x
+        → IsExplained P r b y → (a ≡ b) × (x ≡ y) }
 {}
 
 /// A text is verified exactly if it spells a certificate that is a proof, and what is reported
