@@ -78,8 +78,8 @@ uninstall:
 	@rm -rf "$(DOC)"
 	@echo "vipr is taken out of $(BIN)"
 
-$(MADE)/libvipr.a: $(SOURCES) include/vipr.map tools/library.py
-	@RT="$(RT)" $(PYTHON) tools/library.py $(VERSION) $(MADE)
+$(MADE)/libvipr.a: $(SOURCES) include/vipr.map tools/make_library.py
+	@RT="$(RT)" $(PYTHON) tools/make_library.py $(VERSION) $(MADE)
 
 lib: $(MADE)/libvipr.a
 	@echo "libvipr.a and $(SHARED) are in $(MADE)"

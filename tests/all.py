@@ -42,7 +42,7 @@ SCRIPTS = [
     ['tests/calls.py'],
     ['tests/library.py'],
     ['tests/python.py'],
-    ['tests/dist.py'],
+    ['tests/archive.py'],
     ['tests/pages.py'],
     ['tests/language.py'],
     ['tests/proof.py', '--check'],

@@ -24,6 +24,7 @@ pub(crate) fn write_hint(page: &mut Page, cause: u8, fault: &TextFault<'_>) {
     };
     let look = Look::of(fault.word);
     let found = keyword_of(fault.word).unwrap_or("");
+    // A keyword that was read as a name is first: the fault is in front of it, whatever the cause.
     match (cause, progress.wanted, look) {
         _ if !name.is_empty() => write!(
             page,
@@ -64,7 +65,8 @@ pub(crate) fn write_hint(page: &mut Page, cause: u8, fault: &TextFault<'_>) {
     }
 }
 
-// The hint without a value, by the cause.
+// The hint without a value, by the cause: a row for what is wanted or for a section is in front of
+// that for the cause alone.
 fn hint(cause: u8, fault: &TextFault<'_>, look: Look) -> &'static str {
     let progress = fault.found.progress;
     match (cause, progress.wanted, progress.section, fault.word) {
@@ -151,7 +153,9 @@ fn start_hint(word: &[u8]) -> &'static str {
     }
 }
 
-// The token is no part of an item as it is wanted.
+// The token is no part of an item as it is wanted. First a keyword, since something is missing in
+// front of it, whatever is wanted; then bytes that are in no token; then what is wanted, and what
+// the token looks like.
 fn part_hint(cause: u8, fault: &TextFault<'_>, look: Look) -> &'static str {
     let section = fault.found.progress.section;
     let word = fault.word;

@@ -27,6 +27,7 @@ impl Model for Cause {
 }
 
 impl Cause {
+    /// The cause of this number.
     #[inline(always)]
     pub fn new(number: u8) -> Cause
         ensures { result ≡ number }
@@ -36,6 +37,7 @@ impl Cause {
         }
     }
 
+    /// Its number.
     pub fn number(self) -> u8
         ensures { result ≡ self }
     {

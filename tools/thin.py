@@ -1,7 +1,7 @@
 #!/usr/bin/env python3
 """Takes away answers that nobody needs: those of goals that the prover closes by itself.
 
-usage: tools/answers.py [--minutes N] [--least N] [--seconds N] CRATE ..
+usage: tools/thin.py [--minutes N] [--least N] [--seconds N] CRATE ..
 
 Code, definitions and the kit change, and what once needed an answer may not any more. One function of a crate after the
 other, the longest file of answers first, is proved without its answers, with half of the prover's counts, as the kit asks

@@ -1,7 +1,7 @@
 #!/usr/bin/env python3
 """Makes the library for C: one archive that needs no second, and a shared library.
 
-usage: tools/library.py VERSION [FOLDER]     FOLDER is crates/vipr_c/out without it
+usage: tools/make_library.py VERSION [FOLDER]     FOLDER is crates/vipr_c/out without it
 
 `rt lib` proves and builds crates/vipr_c. What it builds, and the toolchain's few lines of C between Rattle's allocator
 and malloc, are put together into one object whose only global names are those that begin with `vipr_`. Of it FOLDER has
@@ -78,7 +78,7 @@ def main():
         return 1
     missing = [word for word in TOOLS.values() if not shutil.which(word)]
     if missing or len(sys.argv) < 2:
-        print(f'not on the path: {", ".join(missing)}' if missing else 'usage: tools/library.py VERSION [FOLDER]')
+        print(f'not on the path: {", ".join(missing)}' if missing else 'usage: tools/make_library.py VERSION [FOLDER]')
         return 1
     folder = Path(sys.argv[2]) if len(sys.argv) > 2 else TOP / 'crates/vipr_c/out'
     start = time.monotonic()

@@ -1,7 +1,7 @@
 #!/usr/bin/env python3
 """Makes the archive of `make dist`, and uses it as someone does who has no kit.
 
-usage: tests/dist.py [ROOT]     ROOT is a folder with a Debian system, as debootstrap makes it, for root alone
+usage: tests/archive.py [ROOT]     ROOT is a folder with a Debian system, as debootstrap makes it, for root alone
 
 The archive is unpacked in an empty folder, or in ROOT and used there by chroot. Nothing but the system's own folders is on
 the path. Its sums are right; `vipr check` verifies an example, the man page is laid out if `man` is there, the callers in C
@@ -9,7 +9,7 @@ the path. Its sums are right; `vipr check` verifies an example, the man page is 
 and debhelper are there, it makes packages, and lintian, if it is there, finds no error in them. The archive made a second
 time has the same bytes. What isn't tried is named. It needs what `make lib` builds.
 
-Prints each fault, and last `dist: N checks, F failed`; the exit status is 1 if one failed.
+Prints each fault, and last `archive: N checks, F failed`; the exit status is 1 if one failed.
 """
 import re
 import shutil
@@ -24,7 +24,7 @@ VERSION = re.search(r'VIPR_VERSION "(.*)"', (TOP / 'include/vipr.h').read_text()
 PATH = '/usr/sbin:/usr/bin:/sbin:/bin'
 EXAMPLE = 'share/doc/vipr/examples/infeasible.vipr'
 VERDICT = 'verified infeas\nsolutions 0 derived 1 peak 1\n'
-CHECKS = Checks('dist')
+CHECKS = Checks('archive')
 check = CHECKS.check
 left_out = []
 
@@ -107,7 +107,7 @@ def main():
     root = Path(sys.argv[1]).resolve() if len(sys.argv) > 1 else None
     if not (TOP / 'crates/vipr_c/out/libvipr.a').is_file():
         if shutil.which('cc'):
-            print('dist: not made, for want of the library: make lib')
+            print('archive: not made, for want of the library: make lib')
         else:
             CHECKS.skip('C compiler', 'there is no library, and no archive was made')
         return 0
@@ -124,7 +124,7 @@ def main():
     if 'cc' in left_out:
         CHECKS.skip('C compiler', 'the library of the archive was not linked')
     if left_out:
-        print(f'dist: left out, for want of {", ".join(left_out)}')
+        print(f'archive: left out, for want of {", ".join(left_out)}')
     return CHECKS.end()
 
 
