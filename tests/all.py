@@ -31,6 +31,7 @@ SCRIPTS = [
     ['tests/house.py'],
     ['tools/wrong.py', '--sample', '10'],
     ['tests/answers.py'],
+    ['tests/conformance.py'],
     ['tests/long.py'],
     ['tests/large.py'],
     ['tests/hostile.py'],

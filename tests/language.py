@@ -23,7 +23,8 @@ from pathlib import Path
 TOP = Path(__file__).resolve().parent.parent
 PAGES = ['README.md', 'CONTRIBUTING.md', 'CHANGELOG.md', 'docs/TUTORIAL.md', 'docs/USE.md', 'docs/FORMAT.md', 'docs/SECURITY.md',
          'docs/LIBRARY.md', 'docs/PYTHON.md', 'docs/ARCHITECTURE.md', 'docs/DECISIONS.md', 'docs/GLOSSARY.md', 'docs/WHY.md',
-         'docs/BENCHMARKS.md', 'docs/GATE.md', 'docs/PROOF.md', 'docs/CONTRACTS.md', 'docs/STATEMENT.md', 'examples/README.md', 'tools/README.md']
+         'docs/BENCHMARKS.md', 'docs/GATE.md', 'docs/PROOF.md', 'docs/CONTRACTS.md', 'docs/STATEMENT.md', 'examples/README.md', 'tools/README.md',
+         'conformance/README.md']
 MAN, HELP = 'man/vipr.1', 'crates/vipr_command/src/args.rt'
 # pages that lead a reader: they say what they say in the words of integer programming
 LEADING = ['README.md', 'docs/TUTORIAL.md', 'docs/USE.md', 'docs/LIBRARY.md', 'docs/PYTHON.md', 'docs/WHY.md', 'examples/README.md']
@@ -161,7 +162,7 @@ def main():
     figures = '--figures' in words
     pages = [word for word in words if word != '--figures'] or PAGES
     checks = failed = 0
-    found = {str(path.relative_to(TOP)) for place in ('.', 'docs', 'examples', 'tools')
+    found = {str(path.relative_to(TOP)) for place in ('.', 'docs', 'examples', 'tools', 'conformance')
              for path in (TOP / place).glob('*.md')}
     for page in sorted(found - {*PAGES}):
         failed += 1
