@@ -9,6 +9,7 @@
 # make house             checks the repository's text: laws, names, lengths, the tables and pages made from the files
 # make wrong             tries more wrong versions of the code, which the prover has to refuse (hours), CRATES=NAME those of one crate
 # make bench             times the program over certificates that a script makes, beside wc -w and cat
+# make rocq              proves the theorem in a second prover, Rocq, and builds its checker, rocq/vipr-rocq
 # make help              prints these lines
 # make statement         writes docs/STATEMENT.md, docs/CONTRACTS.md, the crate graph, the man page and the completions anew
 RT ?= rt
@@ -37,7 +38,7 @@ INCLUDE = $(DESTDIR)$(PREFIX)/include
 INSTALLED_LIB = $(INCLUDE)/vipr.h $(LIB)/pkgconfig/vipr.pc \
 	$(foreach name,libvipr.a $(SHARED) $(SONAME) libvipr.so,$(LIB)/$(name))
 
-.PHONY: help check test build install uninstall lib install-lib uninstall-lib dist house statement wrong bench
+.PHONY: help check test build install uninstall lib install-lib uninstall-lib dist house statement wrong bench rocq
 
 # what the program is made from: check, install and bench build it if it isn't there or one of these is newer
 SOURCES = crates.txt $(shell find crates -name out -prune -o \( -name '*.rt' -o -name '*.antt' \) -print)
@@ -116,3 +117,6 @@ wrong: build
 
 bench: $(PROGRAM)
 	@$(PYTHON) bench/measure.py
+
+rocq:
+	@$(MAKE) --no-print-directory -C rocq

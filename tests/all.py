@@ -8,8 +8,8 @@ run of it passed on this machine, and nothing with --anew; other kits prove ever
 on to them. Then each script of SCRIPTS, which counts as one. Prints what each took, and what of the processor time went
 into each crate's proof, tests and edits, found by looking at the processes once a second, and the SHA-256 of the program
 and of the libraries. The last line is `N passed, M failed`, and behind it `, K skipped` if a script says K times that it
-left something out, since strace, valgrind, GNU time, git or a C compiler isn't installed here. The exit status is 1 if
-one failed. `tests/gate.py` makes a page of this output.
+left something out, since strace, valgrind, GNU time, git, coqc or a C compiler isn't installed here. The exit status
+is 1 if one failed. `tests/gate.py` makes a page of this output.
 """
 import datetime
 import os
@@ -40,6 +40,7 @@ SCRIPTS = [
     ['tests/growths.py'],
     ['tests/costs.py'],
     ['tests/fuzz.py'],
+    ['tests/second.py'],
     ['tests/calls.py'],
     ['tests/library.py'],
     ['tests/python.py'],
