@@ -17,7 +17,7 @@ ghost use Rattle.vipr_spec.specs.Gcd.{gcd};
 ghost use Rattle.vipr_frac.specs.Parts.{IsReduced, FitsParts, FitsSum, both_parts, IsSmall};
 ghost use Rattle.vipr_frac.specs.Parts.{product_numer, product_denom};
 
-use crate::gcd::{gcd_of, quotient, word_gcd};
+use crate::gcd::{gcd_of, quotient, word_gcd, word_quotient, word_rest};
 use crate::pairs::words;
 use crate::words::{SignedWide, Wide};
 use std::cmp::Ordering;
@@ -218,6 +218,19 @@ fn divided(p: i128, g: u128) -> i128
     if p < 0 { -size } else { size }
 }
 
+// The quotient of the size, since a division with signs takes longer.
+#[inline(always)]
+fn divided_word(p: i64, g: u64) -> i64
+    requires { 0 < g }
+    ensures { result ≡ int_div p (pos g) }
+{
+    if g == 1 {
+        return p;
+    }
+    let size = (p.unsigned_abs() / g) as i64;
+    if p < 0 { -size } else { size }
+}
+
 #[inline(always)]
 pub(crate) fn of_parts(p: i128, q: u128) -> Frac
     requires { IsReduced p q }
@@ -247,8 +260,11 @@ pub(crate) fn reduced_words(p: i64, q: u64) -> Frac
     if q == 1 {
         return of_whole(i128::from(p));
     }
-    let g = word_gcd(p.unsigned_abs() % q, q);
-    of_parts(i128::from(p / g as i64), u128::from(q / g))
+    let g = word_gcd(word_rest(p.unsigned_abs(), q), q);
+    of_parts(
+        i128::from(divided_word(p, g)),
+        u128::from(word_quotient(q, g)),
+    )
 }
 
 #[inline(always)]

@@ -34,6 +34,24 @@ pub(crate) fn word_gcd(a: u64, b: u64) -> u64
     odd_gcd(b >> twos, a) << twos.min(a.trailing_zeros())
 }
 
+/// The remainder of two words, which is mostly the first.
+#[inline(always)]
+pub(crate) fn word_rest(a: u64, b: u64) -> u64
+    requires { 0 < b }
+    ensures { result ≡ a % b }
+{
+    if a < b { a } else { a % b }
+}
+
+/// The whole quotient of two words. Nothing is divided by 1.
+#[inline(always)]
+pub(crate) fn word_quotient(n: u64, g: u64) -> u64
+    requires { 0 < g }
+    ensures { result ≡ n / g }
+{
+    if g == 1 { n } else { n / g }
+}
+
 fn remainder(a: u128, b: u128) -> u128
     requires { 0 < b }
     ensures { result ≡ a % b }

@@ -1,9 +1,8 @@
 use Rattle.std.proofs.Common.{◌≡◌, ℕ, ◌/◌, ◌≤◌, pos, sym, ap, ◌∙◌, arith, to_z, of_z, lit≤}
-use Rattle.std.proofs.Common.{FitsSigned}
 use Rattle.std.specs.Prelude.{int_div, unsigned_abs}
 use Rattle.std.specs.Int.{w64, w128}
 use Rattle.std.proofs.Math.Nat.{le_trans}
-use Rattle.std.proofs.lemmas.Int.{ints, to_z-of_z, quot_fits, fits_signed_from_abs}
+use Rattle.std.proofs.lemmas.Int.{to_z-of_z}
 use Rattle.vipr_spec.specs.Gcd.{gcd}
 use Rattle.vipr_spec.specs.Fraction.{over, most}
 use Rattle.vipr_frac.proofs.Steps.{gcd-rest}
@@ -13,25 +12,20 @@ use Rattle.vipr_frac.proofs.frac.reduced_words.Goals as goal
 use Rattle.vipr_frac.proofs.frac.reduced_words.Goals.{After-from-3}
 
 g_is : (c : After-from-3) → c.word_gcd-g.result ≡ gcd (unsigned_abs c.args.p) c.args.q
-g_is c = c.word_gcd-g.ensures.value ∙ gcd-rest _ c.args.q ∙ ap (λ n. gcd n c.args.q) (c.unsigned_abs.ensures.value ∙ ap unsigned_abs (to_z-of_z w64 c.args.p c.ranges.p))
-
-g_fits : (c : After-from-3) → FitsSigned w64 (pos c.word_gcd-g.result)
-g_fits c = fits_signed_from_abs w64 (pos c.word_gcd-g.result) (let h = c.requires.denom in let k = c.word_gcd-g.ensures.at_most in omega arith)
-
-quotient-fits : (c : After-from-3) → FitsSigned w64 (int_div c.args.p (pos c.word_gcd-g.result))
-quotient-fits c = quot_fits w64 c.args.p (pos c.word_gcd-g.result) c.ranges.p (let h = c.word_gcd-g.ensures.some in omega (arith, ints))
+g_is c = c.word_gcd-g.ensures.value ∙ ap (λ n. gcd n c.args.q) c.word_rest.ensures ∙ gcd-rest _ c.args.q ∙ ap (λ n. gcd n c.args.q) (c.unsigned_abs.ensures.value ∙ ap unsigned_abs (to_z-of_z w64 c.args.p c.ranges.p))
 
 quotient-is : (c : After-from-3) → c.from-2.result ≡ (over c.args.p c.args.q).numer
 quotient-is c =
     c.from-2.ensures
-    ∙ rw (to_z-of_z w64 c.args.p c.ranges.p, to_z-of_z w64 (pos c.word_gcd-g.result) (g_fits c)) (to_z-of_z w64 _ (quotient-fits c))
+    ∙ to_z-of_z w64 c.divided_word.result (record { sfits = c.divided_word.type_inv })
+    ∙ c.divided_word.ensures ∙ ap (λ z. int_div z (pos c.word_gcd-g.result)) (to_z-of_z w64 c.args.p c.ranges.p)
     ∙ ap (λ (n : ℕ). int_div c.args.p (pos n)) (g_is c) ∙ sym (over-parts c.args.p c.args.q c.requires.some).0
 
 p_is : (c : After-from-3) → to_z w128 (of_z w128 c.from-2.result) ≡ (over c.args.p c.args.q).numer
 p_is c = to_z-of_z w128 c.from-2.result (record { sfits = c.from-2.type_inv }) ∙ quotient-is c
 
 q_is : (c : After-from-3) → c.from-3.result ≡ (over c.args.p c.args.q).denom
-q_is c = c.from-3.ensures ∙ ap (λ n. c.args.q / n) (g_is c) ∙ sym (over-parts c.args.p c.args.q c.requires.some).1
+q_is c = c.from-3.ensures ∙ c.word_quotient.ensures ∙ ap (λ n. c.args.q / n) (g_is c) ∙ sym (over-parts c.args.p c.args.q c.requires.some).1
 
 pub of_parts-requires : goal.of_parts-requires
 of_parts-requires c =
