@@ -18,7 +18,7 @@ use Rattle.vipr_spec.proofs.Laws.{add-zero_ℚ, mul-zero_ℚ, zero-mul_ℚ, zero
 use Rattle.vipr_spec.proofs.Laws.{joined_equal, zero_numer, zero_from_numer}
 use Rattle.vipr_spec.specs.MoreEntries.{sense_of_both, TermFits}
 use Rattle.vipr_linear.specs.Accumulator.{Accumulator, sum_at, with_entry, with_term, with_terms}
-use Rattle.vipr_linear.specs.Accumulator.{TermsFitIn}
+use Rattle.vipr_linear.specs.Accumulator.{TermsFitIn, joined_with}
 use Rattle.vipr_linear.specs.Row.{RisesFrom}
 use Rattle.vipr_linear.proofs.Rows.{row_again, rises_sorted}
 
@@ -183,13 +183,16 @@ module _ (row : Row) where
       ∙ sym (get_or-map-range_with_len (λ j. get_or sums j zero_ℚ +ℚ m *ℚ at row j) 0 (length sums) k k d within (omega arith)))
 
 -- ---- an entry with multiplier 0 changes nothing
+pub suits_zero : (a : Accumulator) (e : Entry) → e.0 ≡ zero_ℚ → joined_with a e ≡ Some a.sense
+suits_zero a e z = ap (sense_of_both a.sense) (turned_zero e.0 e.1.sense z) ∙ joined_equal a.sense
+
 pub nothing_changes : (a : Accumulator) (e : Entry) → a.spent ≡ false → e.0 ≡ zero_ℚ
     → a ≡ with_entry a e
 nothing_changes a e fresh z =
     λ i. record {
       sums = sums i;
       bound = sym (adds a.bound e.1.bound) i;
-      sense = sym (ap (λ o. unwrap_or o equal) (ap (sense_of_both a.sense) (turned_zero e.0 e.1.sense z) ∙ joined_equal a.sense)) i;
+      sense = sym (ap (λ o. unwrap_or o equal) (suits_zero a e z)) i;
       spent = fresh i;
     }
   where

@@ -26,7 +26,6 @@ use crate::rounding::{is_whole_row, rounded_rhs};
 use crate::row::{Row, Solution};
 use crate::values::value_in;
 use std::alloc::{AllocError, Global};
-use std::cmp::Ordering;
 use std::marker::Model;
 use vipr_frac::{Frac, Overflow, Partial};
 
@@ -134,13 +133,13 @@ impl Combination {
         if self.is_spent {
             return Err(CombError::Spent);
         }
+        if multiplier.is_zero() {
+            return Ok(());
+        }
         let Some(sense) = joined(self.sense, turned(multiplier, constraint.sense)) else {
             self.is_spent = true;
             return Err(CombError::MixedSigns);
         };
-        if multiplier.is_zero() {
-            return Ok(());
-        }
         match add_constraint(&mut self.places, &mut self.rhs, constraint, multiplier) {
             Ok(()) => {
                 self.sense = sense;
@@ -215,10 +214,14 @@ impl Combination {
 fn turned(multiplier: Frac, sense: Sense) -> Sense
     ensures { sense_of result ≡ combined.sense_of_multiple multiplier (sense_of sense) }
 {
-    match (sense, multiplier.numer().cmp(&0)) {
-        (Sense::E, _) | (_, Ordering::Equal) => Sense::E,
-        (Sense::G, Ordering::Greater) | (Sense::L, Ordering::Less) => Sense::G,
-        (Sense::L, Ordering::Greater) | (Sense::G, Ordering::Less) => Sense::L,
+    let numer = multiplier.numer();
+    if numer > 0 {
+        return sense;
+    }
+    match sense {
+        Sense::L if numer < 0 => Sense::G,
+        Sense::G if numer < 0 => Sense::L,
+        _ => Sense::E,
     }
 }
 
@@ -227,6 +230,9 @@ fn joined(a: Sense, b: Sense) -> Option<Sense>
     ensures { MatchOption result (combined.sense_of_both (sense_of a) (sense_of b) ≡ None)
         (λ s. combined.sense_of_both (sense_of a) (sense_of b) ≡ Some (sense_of s)) }
 {
+    if a == b {
+        return Some(a);
+    }
     match (a, b) {
         (Sense::E, _) => Some(b),
         (_, Sense::E) => Some(a),
