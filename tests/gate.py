@@ -74,7 +74,7 @@ class Run:
         shares = re.findall(r'^(?:rt: )?ok; handles allowed: .*; (.*)$', text, re.M)
         self.share = shares[-1] if shares else 'not said'
         edits = re.findall(r'must-fail edits: (\d+) refused', text)
-        sample = re.findall(r'^(\d+) refused, (\d+) not$', text, re.M)
+        sample = re.findall(r'^(\d+) refused, (\d+) not, (\d+) not judged$', text, re.M)
         self.edits = f'{edits[-1] if edits else 0} of `must-fail/`'
         self.edits += f', {sample[-1][0]} of {sum(map(int, sample[-1]))} tried of `wrong/`' if sample else ''
         refused = re.findall(rf'^{wrong.REFUSED}(.*)$', text, re.M)

@@ -5,8 +5,8 @@ usage: tools/build.py
 
 A crate begins once those below it are built. Crates of which none is below another are built side by side, one for each
 core and each 3 GB of memory that is free. What was proved before isn't proved again. The program is crates/vipr/out/vipr
-afterwards, with its SHA-256 in vipr.sha256 beside it. RT names the command of the toolchain, `rt` without it. The exit
-status is 1 if a crate isn't proved or can't be built; its output is printed.
+afterwards, with its SHA-256 in vipr.sha256 beside it. RT names the command of the toolchain, `rt` without it. If a crate
+isn't proved or can't be built, its output is printed, the exit status is 1, and there is no vipr.sha256.
 """
 import os
 import re
@@ -195,8 +195,10 @@ def main():
     except KeyboardInterrupt:
         say('stopped: what is proved stays so, and make build goes on from there')
         return 130
-    if well:
-        kit.write_sum()
+    is_marked = kit.mark(well)
+    if well and not is_marked:
+        say(f'{PROGRAM} is not built: {RT} left no program')
+    well = is_marked
     if well and build.spoke:
         say(f'built: {(time.monotonic() - start) / 60:.1f} minutes, {build.seconds / 60:.1f} of processor time')
     return 0 if well else 1

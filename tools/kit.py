@@ -50,10 +50,16 @@ def sum_of(file):
     return hashlib.sha256(file.read_bytes()).hexdigest()
 
 
-def write_sum():
-    """Writes the SHA-256 of the program that was proved and built beside it: `make check` and `make install` use no other."""
+def mark(proved):
+    """Writes the SHA-256 of the program beside it if all of it was proved and built, else takes an earlier one away, and says
+    which: `make check` and `make install` use no other program."""
     program = TOP / 'crates/vipr/out/vipr'
-    program.with_name('vipr.sha256').write_text(f'{sum_of(program)}  vipr\n')
+    written = program.with_name('vipr.sha256')
+    written.unlink(missing_ok=True)
+    if not proved or not program.is_file():
+        return False
+    written.write_text(f'{sum_of(program)}  vipr\n')
+    return True
 
 
 def texts(crate):

@@ -8,6 +8,8 @@ usage: tools/wrong.py [CRATE | CRATE/EDIT ..]
 than everything else together. Each is checked on a copy, over what the crate's last check proved: first the function that
 it changes, then all of its file, then the whole crate, and that once more from nothing; each only if what came before is
 still proved with the edit. Edits of one file follow one another. Crates are tried side by side, as many as memory allows.
+An edit is refused only if the prover leaves a goal or a type open at a place. It isn't judged if a proof file only lacks a
+name that the edit took away, if a limit of the toolchain ended the check, or if the check was killed.
 
 Without words all are tried, and the day, the commit and the result are written into docs/PROOF.md. Behind them stands
 what came since: how many edits were added or changed, by git, and how many of those samples refused. `tests/proof.py`
@@ -18,8 +20,8 @@ was: an edit that was refused over the same text isn't tried once more.
 edits try each of them N times. Without all commits the text of the crates chooses. It takes over what `rt ci` proved, if
 nothing changed since: then no more is proved than the functions that are changed and, once, those that they call.
 
-Prints what each came to, which were refused, each with its git blob, and last `N refused, M not`; the exit status is 1
-if one isn't refused, or if a crate isn't proved without an edit.
+Prints what each came to, which were refused, each with its git blob, and last `N refused, M not, K not judged`. The exit
+status is 1 if one isn't refused, if a crate isn't proved without an edit, or if more than 2 in 100 aren't judged.
 """
 import datetime
 import hashlib
@@ -31,6 +33,7 @@ import sys
 import tempfile
 import time
 from concurrent.futures import ThreadPoolExecutor
+from enum import Enum
 from pathlib import Path
 
 import kit
@@ -54,6 +57,15 @@ FUNCTION = re.compile(r'(    )?(?:pub(?:\([^)]*\))? )?(?:unsafe )?(?:extern "C" 
 IMPL = re.compile(r'impl (?:(?:\w+::)*(\w+) for )?&?(?:mut )?(?:\w+::)*(\w+)')
 # what one check may take of the memory, in kB
 ROOM = 4_000_000
+# of how many edits one need not be judged
+UNJUDGED_IN = 50
+
+
+class Verdict(Enum):
+    """What a wrong version came to."""
+    REFUSED = 'refused'
+    MISSED = 'not refused'
+    UNJUDGED = 'not judged'
 
 
 def git(*words):
@@ -90,11 +102,6 @@ def commit_number():
     if git('rev-parse', '--is-shallow-repository') == 'false':
         return int(git('rev-list', '--count', 'HEAD')), f'the commit {git("rev-parse", "--short=7", "HEAD")}'
     return int(text_sum(), 16), 'the text of the crates'
-
-
-def is_refused(rt, found):
-    """Whether the toolchain's answer of an edit says that it was refused: some kits answer yes or no, others one of four."""
-    return found if isinstance(found, bool) else found in (rt.REFUSED, rt.AT_LIMIT)
 
 
 def modules(texts):
@@ -150,24 +157,41 @@ def said_of(rt, crate, texts, paths, flags, kept):
     return next((it[:160] for it in places(lines)), '')
 
 
-def is_refused_now(rt, crate, path, flags, kept):
-    """Whether an edit is refused, and what to say."""
+def said_of_all(rt, crate, path, texts, flags, kept):
+    """What a check of the whole crate with an edit comes to, and what it says."""
+    ran = rt.checked(crate, texts, flags, kept)
+    lines = ran.stdout.rstrip('\n').split('\n')
+    label = f'{crate.name}/{path.name}'
+    if ran.returncode == 0:
+        return Verdict.MISSED, f'{label}: NOT REFUSED: the crate is still proved with this edit'
+    unread = next((it for it in lines if rt.unread(it, texts)), '')
+    if unread:
+        return Verdict.MISSED, f'{label}: BAD EDIT: the prover cannot read the edited text: {unread[:160]}'
+    found = next(places(lines), '')
+    if found and ran.returncode == 1 and lines[-1].startswith('logic=not-proved'):
+        return Verdict.REFUSED, f'{label}: refused, as it must be: {found[:160]}'
+    said = next((it for it in lines if ': error' in it), lines[-1])
+    return Verdict.UNJUDGED, f'{label}: NOT JUDGED: the check ended with status {ran.returncode}: {said[:160]}'
+
+
+def judged(rt, crate, path, flags, kept):
+    """What an edit comes to, and what to say."""
     texts, why = rt.read_edit(str(path), crate.folder)
-    for paths in [] if why else (functions(crate, texts), modules(texts)):
+    if why:
+        return Verdict.MISSED, f'{crate.name}/{path.name}: NOT TRIED: {why}'
+    for paths in (functions(crate, texts), modules(texts)):
         said = said_of(rt, crate, texts, paths, flags, kept)
         if said:
-            return True, f'{crate.name}/{path.name}: refused, as it must be: {said}'
-    found, text = rt.must_fail(crate, str(path), flags, kept)
-    if not is_refused(rt, found):
-        found, text = rt.must_fail(crate, str(path), flags)
-    return is_refused(rt, found), text
+            return Verdict.REFUSED, f'{crate.name}/{path.name}: refused, as it must be: {said}'
+    verdict, text = said_of_all(rt, crate, path, texts, flags, kept)
+    return (verdict, text) if verdict is Verdict.REFUSED else said_of_all(rt, crate, path, texts, flags, None)
 
 
 class Refused:
     """Which edits of a crate were refused over its text as it stands, by earlier runs."""
 
     def __init__(self, crate):
-        self.file, self.stamp = Path(crate.folder, 'out', 'refused'), crate.stamp()
+        self.file, self.stamp = Path(crate.folder, 'out', 'refused-at-a-place'), crate.stamp()
         self.sums = set(self.file.read_text().split()) if self.file.exists() else set()
 
     def sum_of(self, path):
@@ -183,14 +207,14 @@ class Refused:
 
 
 def tried(rt, crate, paths, kept, goes_on):
-    """Of each edit of a crate its name, whether it is refused, and whether that is known from an earlier run; none is refused if
-    the crate isn't proved without an edit. A run that goes on leaves out those that were refused before."""
+    """Of each edit of a crate its name, its verdict, and whether that is known from an earlier run; all are missed if the crate
+    isn't proved without an edit. A run that goes on leaves out those that were refused before."""
     one, refused = ['--jobs', '1'], Refused(crate)
     before = [path for path in paths if goes_on and refused.has(path)]
     if before:
         print(f'{crate.name}: {len(before)} of {len(paths)} were refused before', flush=True)
     paths = [path for path in paths if path not in before]
-    out = [(f'{crate.name}/{path.stem}', True, True) for path in before]
+    out = [(f'{crate.name}/{path.stem}', Verdict.REFUSED, True) for path in before]
     if not paths:
         return out
     # (a copy of the crates lacks it)
@@ -200,12 +224,12 @@ def tried(rt, crate, paths, kept, goes_on):
     kept.mkdir(exist_ok=True)
     if not crate.is_built() and rt.checked(crate, {}, one, str(kept)).returncode:
         print(f'{crate.name} is not proved', flush=True)
-        return out + [(f'{crate.name}/{path.stem}', False, False) for path in paths]
+        return out + [(f'{crate.name}/{path.stem}', Verdict.MISSED, False) for path in paths]
     for path in paths:
-        found, text = is_refused_now(rt, crate, path, one, str(kept))
+        verdict, text = judged(rt, crate, path, one, str(kept))
         print(text, flush=True)
-        out.append((f'{crate.name}/{path.stem}', found, False))
-        if found:
+        out.append((f'{crate.name}/{path.stem}', verdict, False))
+        if verdict is Verdict.REFUSED:
             refused.add(path)
     shutil.rmtree(kept, ignore_errors=True)
     return out
@@ -246,14 +270,19 @@ def counted_anew(page, more=()):
     return made and replaced(page, MARKS, made)
 
 
+def named(results, verdict):
+    """The names of the edits with this verdict."""
+    return [name for name, found, _ in results if found is verdict]
+
+
 def record(results):
     """Writes what a whole run came to into docs/PROOF.md."""
     commit = git('rev-parse', '--short=7', 'HEAD')
     tree = f'at commit {commit}' if commit else f'of the text with the sum {text_sum()[:12]}'
     tree += ' with changes' if git('status', '--porcelain', '--', 'crates') else ''
-    lost = [name for name, refused, _ in results if not refused]
-    said = f'all {len(results)} were refused' if not lost else (
-        f'{len(results) - len(lost)} of {len(results)} were refused, and not: {", ".join(lost)}')
+    refused, missed, unjudged = (named(results, it) for it in Verdict)
+    said = f'{len(refused)} of {len(results)} were refused' if missed or unjudged else f'all {len(results)} were refused'
+    said += f', and not: {", ".join(missed)}' * bool(missed) + f', not judged: {", ".join(unjudged)}' * bool(unjudged)
     earlier = sum(known for *_, known in results)
     said += f', {earlier} of them by earlier runs over the same sources' if earlier else ''
     line = f'`make wrong` was last run whole on {datetime.date.today()}, {tree}: {said}.'
@@ -298,15 +327,16 @@ def main(words):
             runs = [pool.submit(tried, rt, crates[name], there, Path(room, f'kept-{name}'), not words)
                     for name, there in dearest]
             results = [it for run in runs for it in run.result()]
-    lost = [name for name, refused, _ in results if not refused]
-    print(REFUSED + ', '.join(f'{name} {blobs[name]}' for name, refused, _ in results if refused))
+    refused, missed, unjudged = (named(results, it) for it in Verdict)
+    print(REFUSED + ', '.join(f'{name} {blobs[name]}' for name in refused))
     if not words:
         record(results)
         print(kit.took('make wrong', start))
-    for name in lost:
-        print(f'not refused: {name}')
-    print(f'{len(results) - len(lost)} refused, {len(lost)} not')
-    return 1 if lost or not results else 0
+    for verdict, names in ((Verdict.MISSED, missed), (Verdict.UNJUDGED, unjudged)):
+        for name in names:
+            print(f'{verdict.value}: {name}')
+    print(f'{len(refused)} refused, {len(missed)} not, {len(unjudged)} not judged')
+    return 1 if missed or UNJUDGED_IN * len(unjudged) > max(len(results), UNJUDGED_IN) or not results else 0
 
 
 if __name__ == '__main__':

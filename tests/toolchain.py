@@ -1,0 +1,143 @@
+#!/usr/bin/env python3
+"""A toolchain that proves nothing, under the name `rt`: what tests/tools.py runs the scripts that build and test with.
+
+It does as the file PLAN says, a word and what to do a line:
+  proves CRATE HOW    `rt lib` or `rt run` of a crate: well, refused, killed, half (a line that is cut off), or nothing (no
+                      program is left)
+  gate HOW            `rt ci`: well, failed, killed, half, mute (a failure that it doesn't count), or nothing
+  edit NAME HOW       a check with an edit: goal, name, limit, killed, proved, or unread
+What isn't named goes well, and an edit is refused at a goal. Each command is written into the file LOG. As a module it has
+what tools/wrong.py asks the kit's own `rt` for.
+"""
+import hashlib
+import os
+import re
+import signal
+import subprocess
+import sys
+from pathlib import Path
+
+VERBS = 'usage: rt ci [--anew] | lib | run | doc | version | help'
+
+
+def plan():
+    """What to do at each word of the plan."""
+    rows = [line.split() for line in Path(os.environ['PLAN']).read_text().split('\n') if line]
+    return {' '.join(row[:-1]): row[-1] for row in rows}
+
+
+def log(line):
+    with open(os.environ['LOG'], 'a', encoding='utf-8') as file:
+        print(line, file=file)
+
+
+def die():
+    sys.stdout.flush()
+    os.kill(os.getpid(), signal.SIGKILL)
+
+
+def leave_program(crate):
+    """What `rt` leaves of a program: here a script that verifies anything."""
+    program = Path('crates' if Path('crates').is_dir() else '..', crate, 'out', crate)
+    program.parent.mkdir(parents=True, exist_ok=True)
+    program.write_text('#!/bin/sh\necho verified infeas\n')
+    program.chmod(0o755)
+
+
+def prove(verb):
+    crate = Path.cwd().name
+    how = plan().get(f'proves {crate}', 'well')
+    if how == 'killed':
+        die()
+    if how == 'refused':
+        print(f'src/lib.rt:3:5: error: a goal of {crate} stays open\nlogic=not-proved')
+        return 1
+    if how == 'half':
+        print('logic=pro', end='')
+        return 3
+    if verb == 'run' and how != 'nothing':
+        leave_program(crate)
+    print('logic=proved')
+    return 0
+
+
+def gate():
+    how = plan().get('gate', 'well')
+    ends = {'well': ('7 passed, 0 failed', 0), 'failed': ('6 passed, 1 failed', 1), 'half': ('7 pass', 0),
+            'mute': ('7 passed, 0 failed', 1), 'nothing': ('7 passed, 0 failed', 0)}
+    if how == 'killed':
+        die()
+    if how != 'nothing':
+        leave_program('vipr')
+    print(ends[how][0])
+    return ends[how][1]
+
+
+def main(words):
+    log(f'{" ".join(words)} in {Path.cwd().name}')
+    if words[:1] in (['lib'], ['run']):
+        return prove(words[0])
+    if words[:1] == ['ci']:
+        return gate()
+    print({'doc': __file__, 'version': 'rattle-kit-of-the-tests'}.get(words[0] if words else '', VERBS))
+    return 0
+
+
+# ---- as a module
+
+def read_edit(edit, folder):
+    """The changed files of an edit, and nothing; or nothing, and why."""
+    file, old, new = (re.search(rf'^{word}: (.*)$', Path(edit).read_text(), re.M)[1] for word in ('file', 'old', 'new'))
+    text = Path(folder, file).read_text()
+    return ({file: text.replace(old, new)}, '') if text.count(old) == 1 else ({}, 'its text is not there once')
+
+
+def unread(line, texts):
+    return 'cannot be read' in line
+
+
+def checked(crate, texts, flags, kept):
+    """What the check of a crate with changed files answers: the plan knows an edit by what it changes."""
+    named = re.search(r'// (\w+), changed', ''.join(texts.values()))
+    how = plan().get(f'edit {named[1] if named else ""}', 'goal') if texts else 'proved'
+    only = '--only' in flags
+    said = {
+        'goal': (1, 'src/lib.rt:1:1: error: a goal stays open\n' + ('only=1 proved=0' if only else 'logic=not-proved')),
+        'name': (1, 'proofs/one/Answers.antt:2:1: error: module `one.Goals` has no `gone`\n'
+                    + ('only=1 proved=0' if only else 'logic=not-proved')),
+        'limit': (3, 'src/lib.rt:1:1: error: the search ends at its limit of steps\nlogic=unknown'),
+        'killed': (-signal.SIGKILL, 'only=1 pro' if only else 'logic=not-pro'),
+        'unread': (1, 'src/lib.rt:1:1: error: this cannot be read\n' + ('only=1 proved=0' if only else 'logic=not-proved')),
+        'proved': (0, 'only=1 proved=1' if only else 'logic=proved'),
+    }
+    return subprocess.CompletedProcess([], said[how][0], said[how][1])
+
+
+class Crate:
+    """A crate, as the kit's module has it."""
+
+    def __init__(self, folder):
+        self.folder, self.name, self.is_program = str(folder), folder.name, folder.name == 'vipr'
+        self.rlib = str(folder / 'out/rlib')
+
+    def below(self):
+        return []
+
+    def is_built(self):
+        return True
+
+    def stamp(self):
+        return hashlib.sha256(b''.join(it.read_bytes() for it in sorted(Path(self.folder, 'src').iterdir()))).hexdigest()
+
+    def count(self, what):
+        return 1
+
+
+class rtlib:
+    """What the kit's module of this name has."""
+    guarded = staticmethod(lambda: None)
+    crates_below = staticmethod(lambda top: [Crate(it) for it in sorted(Path(top, 'crates').iterdir())])
+
+
+if __name__ == '__main__':
+    sys.exit(main(sys.argv[1:]))
