@@ -17,26 +17,34 @@ PYTHON ?= python3
 FILE ?= examples/infeasible.vipr
 PROGRAM = crates/vipr/out/vipr
 
+# names of the user's reach the shell by the environment, as they are: neither make nor the shell runs what is in one
 PREFIX ?= /usr/local
-BIN = $(DESTDIR)$(PREFIX)/bin
-SHARE = $(DESTDIR)$(PREFIX)/share
-INSTALLED = $(BIN)/vipr $(SHARE)/man/man1/vipr.1 $(SHARE)/bash-completion/completions/vipr \
-	$(SHARE)/zsh/site-functions/_vipr $(SHARE)/fish/vendor_completions.d/vipr.fish
+override export RT := $(value RT)
+override export FILE := $(value FILE)
+override export CRATES := $(value CRATES)
+override export PREFIX := $(value PREFIX)
+override export DESTDIR := $(value DESTDIR)
+ifeq ($(origin LIBDIR),undefined)
+LIBDIR := $(PREFIX)/lib
+endif
+override export LIBDIR := $(value LIBDIR)
+override export BIN := $(DESTDIR)$(PREFIX)/bin
+override export SHARE := $(DESTDIR)$(PREFIX)/share
+override export DOC := $(SHARE)/doc/vipr
+override export INCLUDE := $(DESTDIR)$(PREFIX)/include
+override export LIB := $(DESTDIR)$(LIBDIR)
 # what is installed to be read: the pages, and what they link to
 PAGES = README.md CONTRIBUTING.md CHANGELOG.md LICENSE include/vipr.h $(wildcard docs/*.md docs/*.svg) \
 	$(wildcard examples/*.* examples/*/*.* examples/rust/src/*.rs examples/rust/src/bin/*.rs)
-DOC = $(SHARE)/doc/vipr
 
 # the library for C: its version is the program's
 VERSION = $(shell sed -n 's/.*\.version("\(.*\)").*/\1/p' crates/vipr_command/src/args.rt)
 MADE = crates/vipr_c/out
 SHARED = libvipr.so.$(VERSION)
 SONAME = libvipr.so.$(firstword $(subst ., ,$(VERSION)))
-LIBDIR ?= $(PREFIX)/lib
-LIB = $(DESTDIR)$(LIBDIR)
-INCLUDE = $(DESTDIR)$(PREFIX)/include
-INSTALLED_LIB = $(INCLUDE)/vipr.h $(LIB)/pkgconfig/vipr.pc \
-	$(foreach name,libvipr.a $(SHARED) $(SONAME) libvipr.so,$(LIB)/$(name))
+# vipr.pc can't name every folder, and pkg-config can't read every name
+IS_PLAIN = case "$$PREFIX$$LIBDIR" in *[!A-Za-z0-9/._+,@%=:~-]*) \
+	echo "PREFIX and LIBDIR of the library can't have spaces, quotes or other special characters"; exit 1;; esac
 
 .PHONY: help check test build install uninstall lib install-lib uninstall-lib dist house statement wrong bench rocq
 
@@ -48,60 +56,64 @@ IS_BUILT = cd $(dir $(PROGRAM)) && sha256sum --status -c vipr.sha256 2> /dev/nul
 	{ echo "$(PROGRAM) isn't the program that was proved and built here: say make build"; exit 1; }
 
 build:
-	@RT="$(RT)" $(PYTHON) tools/build.py && touch $(PROGRAM)
+	@$(PYTHON) tools/build.py && touch $(PROGRAM)
 
 $(PROGRAM): $(SOURCES)
-	@RT="$(RT)" $(PYTHON) tools/build.py && touch $@
+	@$(PYTHON) tools/build.py && touch $@
 
 help:
 	@sed -n '/^#/!q; s/^# //p' Makefile
 
 check: $(PROGRAM)
 	@($(IS_BUILT))
-	@$(PROGRAM) check "$(FILE)"
+	@$(PROGRAM) check -- "$$FILE"
 
 test:
-	@RT="$(RT)" $(PYTHON) tests/all.py
+	@$(PYTHON) tests/all.py
 
 install: $(PROGRAM)
 	@($(IS_BUILT))
-	@install -D -m 755 $(PROGRAM) "$(BIN)/vipr"
-	@install -D -m 644 man/vipr.1 "$(SHARE)/man/man1/vipr.1"
-	@install -D -m 644 completions/vipr.bash "$(SHARE)/bash-completion/completions/vipr"
-	@install -D -m 644 completions/_vipr "$(SHARE)/zsh/site-functions/_vipr"
-	@install -D -m 644 completions/vipr.fish "$(SHARE)/fish/vendor_completions.d/vipr.fish"
-	@for page in $(PAGES); do install -D -m 644 "$$page" "$(DOC)/$$page"; done
-	@echo "vipr is installed in $(BIN), and its pages in $(DOC)"
-	@$(if $(filter /usr /usr/local,$(PREFIX)),,echo "for zsh, in ~/.zshrc before compinit: fpath+=($(PREFIX)/share/zsh/site-functions)")
+	@install -D -m 755 $(PROGRAM) "$$BIN/vipr"
+	@install -D -m 644 man/vipr.1 "$$SHARE/man/man1/vipr.1"
+	@install -D -m 644 completions/vipr.bash "$$SHARE/bash-completion/completions/vipr"
+	@install -D -m 644 completions/_vipr "$$SHARE/zsh/site-functions/_vipr"
+	@install -D -m 644 completions/vipr.fish "$$SHARE/fish/vendor_completions.d/vipr.fish"
+	@for page in $(PAGES); do install -D -m 644 "$$page" "$$DOC/$$page" || exit 1; done
+	@printf '%s\n' "vipr is installed in $$BIN, and its pages in $$DOC"
+	@case "$$PREFIX" in /usr|/usr/local) ;; *) \
+		printf '%s\n' "for zsh, in ~/.zshrc before compinit: fpath+=(\"$$PREFIX/share/zsh/site-functions\")";; esac
 
 uninstall:
-	@rm -f $(foreach file,$(INSTALLED),"$(file)")
-	@rm -rf "$(DOC)"
-	@echo "vipr is taken out of $(BIN)"
+	@rm -f -- "$$BIN/vipr" "$$SHARE/man/man1/vipr.1" "$$SHARE/bash-completion/completions/vipr" \
+		"$$SHARE/zsh/site-functions/_vipr" "$$SHARE/fish/vendor_completions.d/vipr.fish"
+	@rm -rf -- "$$DOC"
+	@printf '%s\n' "vipr is taken out of $$BIN"
 
 $(MADE)/libvipr.a: $(SOURCES) include/vipr.map tools/make_library.py
-	@RT="$(RT)" $(PYTHON) tools/make_library.py $(VERSION) $(MADE)
+	@$(PYTHON) tools/make_library.py $(VERSION) $(MADE)
 
 lib: $(MADE)/libvipr.a
 	@echo "libvipr.a and $(SHARED) are in $(MADE)"
 
 install-lib: $(MADE)/libvipr.a
-	@install -D -m 644 include/vipr.h "$(INCLUDE)/vipr.h"
-	@install -D -m 644 $(MADE)/libvipr.a "$(LIB)/libvipr.a"
-	@install -D -m 755 $(MADE)/$(SHARED) "$(LIB)/$(SHARED)"
-	@ln -sf $(SHARED) "$(LIB)/$(SONAME)"
-	@ln -sf $(SONAME) "$(LIB)/libvipr.so"
-	@install -d "$(LIB)/pkgconfig"
-	@sed 's|@PREFIX@|$(PREFIX)|; s|@LIBDIR@|$(LIBDIR)|; s|@VERSION@|$(VERSION)|' include/vipr.pc.in > "$(LIB)/pkgconfig/vipr.pc"
-	@chmod 644 "$(LIB)/pkgconfig/vipr.pc"
-	@echo "the library is installed in $(LIB)"
+	@$(IS_PLAIN)
+	@install -D -m 644 include/vipr.h "$$INCLUDE/vipr.h"
+	@install -D -m 644 $(MADE)/libvipr.a "$$LIB/libvipr.a"
+	@install -D -m 755 $(MADE)/$(SHARED) "$$LIB/$(SHARED)"
+	@ln -sf $(SHARED) "$$LIB/$(SONAME)"
+	@ln -sf $(SONAME) "$$LIB/libvipr.so"
+	@install -d "$$LIB/pkgconfig"
+	@sed "s|@PREFIX@|$$PREFIX|; s|@LIBDIR@|$$LIBDIR|; s|@VERSION@|$(VERSION)|" include/vipr.pc.in > "$$LIB/pkgconfig/vipr.pc"
+	@chmod 644 "$$LIB/pkgconfig/vipr.pc"
+	@printf '%s\n' "the library is installed in $$LIB"
 
 uninstall-lib:
-	@rm -f $(foreach file,$(INSTALLED_LIB),"$(file)")
-	@echo "the library is removed from $(LIB)"
+	@$(IS_PLAIN)
+	@rm -f -- "$$INCLUDE/vipr.h" "$$LIB/pkgconfig/vipr.pc" "$$LIB/libvipr.a" "$$LIB/$(SHARED)" "$$LIB/$(SONAME)" "$$LIB/libvipr.so"
+	@printf '%s\n' "the library is removed from $$LIB"
 
 dist: $(PROGRAM) $(MADE)/libvipr.a
-	@RT="$(RT)" $(PYTHON) tools/dist.py $(VERSION)
+	@$(PYTHON) tools/dist.py $(VERSION)
 
 house:
 	@$(PYTHON) tests/house.py
@@ -113,7 +125,7 @@ statement: build
 	@$(PYTHON) docs/architecture.py
 
 wrong: build
-	@RT="$(RT)" $(PYTHON) tools/wrong.py $(CRATES)
+	@$(PYTHON) tools/wrong.py $$CRATES
 
 bench: $(PROGRAM)
 	@$(PYTHON) bench/measure.py

@@ -1,7 +1,11 @@
 #!/usr/bin/env python3
-"""Makes the archive of `make dist`, and uses it as someone does who has no kit.
+"""Tries what `make` does with names, makes the archive of `make dist`, and uses it as someone does who has no kit.
 
 usage: tests/archive.py [ROOT]     ROOT is a folder with a Debian system, as debootstrap makes it, for root alone
+
+In a copy of the Makefile and of what it installs, with a stand-in for the program and the library, names with spaces,
+quotes, and what a shell or make would run, reach the program and the folders as they are: nothing in a name is run, and
+nothing but what was installed is removed. The library isn't installed in a folder that pkg-config can't name.
 
 The archive is unpacked in an empty folder, or in ROOT and used there by chroot. Nothing but the system's own folders is on
 the path. Its sums are right; `vipr check` verifies an example, the man page is laid out if `man` is there, the callers in C
@@ -11,6 +15,7 @@ time has the same bytes. What isn't tried is named. It needs what `make lib` bui
 
 Prints each fault, and last `archive: N checks, F failed`; the exit status is 1 if one failed.
 """
+import hashlib
 import re
 import shutil
 import subprocess
@@ -24,9 +29,67 @@ VERSION = re.search(r'VIPR_VERSION "(.*)"', (TOP / 'include/vipr.h').read_text()
 PATH = '/usr/sbin:/usr/bin:/sbin:/bin'
 EXAMPLE = 'share/doc/vipr/examples/infeasible.vipr'
 VERDICT = 'verified infeas\nsolutions 0 derived 1 peak 1\n'
+# what a name may do to a shell or to make; each runs `touch PWNED` if it is run
+NAMES = ['a`touch PWNED`.vipr', 'b$(shell touch PWNED).vipr', 'c"; touch PWNED; ".vipr', "d'; touch PWNED; '.vipr",
+         'e$$(touch PWNED)$(FILE).vipr', 'f my files', 'g\\ &|#;*?.vipr', '--help']
 CHECKS = Checks('archive')
 check = CHECKS.check
 left_out = []
+
+
+def laid_out(folder):
+    """A copy of what the Makefile needs in a folder, with a stand-in for the program, which prints its words, and for the
+    library; and a function that runs make there."""
+    version = 'crates/vipr_command/src/args.rt'
+    for name in ('Makefile', 'README.md', 'CONTRIBUTING.md', 'CHANGELOG.md', 'LICENSE', 'crates.txt', version, 'include', 'man',
+                 'completions', 'examples'):
+        (folder / name).parent.mkdir(parents=True, exist_ok=True)
+        (shutil.copytree if (TOP / name).is_dir() else shutil.copy2)(TOP / name, folder / name)
+    program, library = folder / 'crates/vipr/out/vipr', folder / 'crates/vipr_c/out'
+    for path in (folder / 'tools/make_library.py', program, library / f'libvipr.so.{VERSION}', library / 'libvipr.a'):
+        path.parent.mkdir(parents=True, exist_ok=True)
+        path.write_text('#!/bin/sh\nprintf \'%s\\n\' "$@"\n')
+        path.chmod(0o755)
+    (program.parent / 'vipr.sha256').write_text(f'{hashlib.sha256(program.read_bytes()).hexdigest()}  vipr\n')
+
+    def make(*words):
+        done = subprocess.run(['make', '-s', 'RT=none', *words], cwd=folder, stdin=subprocess.DEVNULL, capture_output=True,
+                              text=True, check=False, env={'PATH': PATH, 'LC_ALL': 'C.UTF-8'})
+        return done.returncode, done.stdout, done.stderr
+    return make
+
+
+def files_in(folder):
+    return {str(it.relative_to(folder)) for it in folder.rglob('*') if not it.is_dir() or it.is_symlink()}
+
+
+def names(folder):
+    """Names reach the program and the folders as they are, and nothing in one is run."""
+    copy = folder / 'copy'
+    copy.mkdir()
+    make = laid_out(copy)
+    for name in NAMES:
+        said = make('check', f'FILE={name}')
+        check(said == (0, f'check\n--\n{name}\n', ''), f'make check of {name!r}: {said}')
+    for name in NAMES:
+        place, beside = folder / name, folder / name.split(' ')[0]
+        beside.write_text('precious')
+        if place == beside:
+            beside.unlink()
+        start = files_in(folder)
+        for words in ([f'PREFIX=../{name}'], [f'DESTDIR=../{name}', 'PREFIX=/']):
+            status, out, fault = make('install', *words)
+            check(status == 0 and not fault and (place / 'bin/vipr').is_file() and (place / 'share/doc/vipr/README.md').is_file(),
+                  f'make install {words}: {status} {out} {fault}')
+            status, out, fault = make('uninstall', *words)
+            check(status == 0 and not fault and files_in(folder) == start,
+                  f'make uninstall {words}: {files_in(folder) ^ start} {fault}')
+        is_plain = name == '--help'
+        for target in ('install-lib', 'uninstall-lib'):
+            status, out, fault = make(target, f'PREFIX=../{name}')
+            check((status == 0) == is_plain, f'make {target} PREFIX=../{name}: {status} {out} {fault}')
+            check(files_in(folder) == start or (is_plain and target == 'install-lib'), f'{files_in(folder) ^ start}')
+    check('PWNED' not in {it.name for it in folder.rglob('*')}, 'what stands in a name was run')
 
 
 class Place:
@@ -105,12 +168,14 @@ def packages(place):
 
 def main():
     root = Path(sys.argv[1]).resolve() if len(sys.argv) > 1 else None
+    with tempfile.TemporaryDirectory(prefix='vipr-make-') as name:
+        names(Path(name))
     if not (TOP / 'crates/vipr_c/out/libvipr.a').is_file():
         if shutil.which('cc'):
             print('archive: not made, for want of the library: make lib')
         else:
             CHECKS.skip('C compiler', 'there is no library, and no archive was made')
-        return 0
+        return CHECKS.end()
     with tempfile.TemporaryDirectory(prefix='vipr-dist-', dir=root and root / 'tmp') as name:
         folder = Path(name)
         folder.chmod(0o755)
