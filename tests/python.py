@@ -11,6 +11,7 @@ usage: tests/python.py [PROGRAM]     crates/vipr/out/vipr without it
   the same as an MPS file that is made of it; on random pairs it answers as a loop over all pairs of conditions does.
 - stats gives the goal of `vipr explain`, and as many needed derivations as `vipr tighten` keeps.
 - picture writes well-formed XML, with a box for each derivation, and the page's picture is as it is in docs/.
+- Short texts that stand for long rows or large sets of assumptions are read within limits of memory and processor time.
 - check-all has a row for each file of a folder, plain, compressed, cut and refused, and goes on after a stop.
 
 Prints each fault, and last `python: N checks, F failed`; the exit status is 1 if one failed.
@@ -24,6 +25,7 @@ import lzma
 import os
 import random
 import re
+import resource
 import shutil
 import sys
 import tempfile
@@ -31,7 +33,7 @@ import xml.etree.ElementTree
 from concurrent.futures import ThreadPoolExecutor
 from pathlib import Path
 
-from texts import TOP, Checks, program, run
+from texts import TOP, Checks, program, run, text_of
 import families
 
 PROGRAM = program(sys.argv[1:])
@@ -46,6 +48,11 @@ NAMES = ('check-all', 'compare-mps', 'picture', 'stats')
 PIECES = [b'0', b'1', b'-1', b'OBJ', b'{', b'}', b'inf', b'-inf', b'1/0', b'3.5', b'9' * 39, b'4294967296', b'00007', b'+3/6',
           b'VER', b'%', b'lin', b'uns', b'G', b'x' * 65536, b'\xff\x1b']
 LARGE = 4_000_000
+# a text that says nothing of the dual side, beside a constraint that is true nowhere
+NO_GOAL = b'VER 1.0 VAR 1 x INT 0 OBJ min 1 0 1 CON 1 0 c G 1 0 RTP range -inf inf SOL 0 DER 0'
+# a text that is no proof: its last derivation names a constraint that isn't there
+NOT_THERE = (b'VER 1.0 VAR 1 x INT 1 0 OBJ min 0 CON 0 0 RTP infeas SOL 0 DER 302 ' + b'a G 0 0 { lin 0 } -1 ' * 301
+             + b'b G 1 0 { uns 2 4000000000 3 1 } -1')
 CHECKS = Checks('python')
 check = CHECKS.check
 
@@ -273,22 +280,78 @@ def comparisons(dice):
 
 
 def figures():
-    for path, text in EXAMPLES.items():
-        out, _, status = run([PROGRAM, 'explain', path])
+    for path, text in {**EXAMPLES, 'no goal': NO_GOAL}.items():
+        out, _, status = run([PROGRAM, 'explain'], text)
         if status:
             continue
         found = stats.figures(vipr.read(text))
         goal = re.search(r'^goal (\w+)', out.decode(), re.M)[1]
         check(str(found['goal']) == goal.title().replace('None', 'None') or (goal == 'none' and found['goal'] is None),
-              f'{path.name}: goal {found["goal"]}, {goal}')
+              f'{path}: goal {found["goal"]}, {goal}')
         if found['goal'] is not None:
-            kept = re.match(rb'kept (\d+)', run([PROGRAM, 'tighten', path]).stderr)[1]
-            check(found['needed_derivations'] == int(kept), f'{path.name}: {found["needed_derivations"]} needed, {kept} kept')
+            kept = re.match(rb'kept (\d+)', run([PROGRAM, 'tighten'], text).stderr)[1]
+            check(found['needed_derivations'] == int(kept), f'{path}: {found["needed_derivations"]} needed, {kept} kept')
     found = stats.figures(vipr.read(EXAMPLES[TOP / 'examples/overflow.vipr']))
     check((found['written_bits'], found['computed_bits']) == (127, 128), found)
     found = stats.figures(vipr.read(EXAMPLES[TOP / 'examples/branch_and_bound.vipr']))
     check((found['by_reason'], found['assumption_depth'], found['objective_rows']) ==
           ({'asm': 2, 'lin': 1, 'rnd': 1, 'uns': 1, 'sol': 0}, 1, 3), found)
+
+
+def limited():
+    """Limits of a run over a hostile text: 10 seconds of the processor, and 500 MB."""
+    resource.setrlimit(resource.RLIMIT_CPU, (10, 11))
+    resource.setrlimit(resource.RLIMIT_AS, (500 << 20, 500 << 20))
+
+
+def hostile(room, words):
+    """Short texts that stand for long rows, for large sets of assumptions and for long sums: no command is slow for them."""
+    texts = {name: families.__dict__[name] for name in ('growing', 'growing_at_the_front', 'joined_sets', 'objective_kept', 'one_sum')}
+    for name, family in texts.items():
+        path = room / f'{name}.vipr'
+        path.write_bytes(text_of(family, 1_000_000))
+        for command in ('stats', 'picture'):
+            out, fault, status = run([*words[command], path], preexec_fn=limited)
+            check(status == 0 and len(out) < 2_000_000, f'{command} of {name}: status {status}, {len(out)} bytes, {fault}')
+        path.unlink()
+    count = 12_000
+    rows = [f'VER 1.0 VAR {count}', *(f'x{at}' for at in range(count)), f'INT 0 OBJ min {count}', *(f'{at} 1' for at in range(count)),
+            f'CON {count} 0', *['r G 0 OBJ'] * count, 'RTP range -inf inf SOL 0 DER']
+    path, model = room / 'rows.vipr', room / 'rows.mps'
+    path.write_text('\n'.join([*rows, '0\n']))
+    model.write_text('\n'.join(['NAME', 'ROWS', ' N obj', ' G r', 'COLUMNS', *(f' x{at} obj 1 r 1' for at in range(count)), 'BOUNDS',
+                                *(f' FR x{at}' for at in range(count)), 'ENDATA\n']))
+    for line in ([*words['stats'], path], [*words['picture'], path], [*words['compare-mps'], model, path]):
+        out, fault, status = run(line, preexec_fn=limited)
+        check(status == 0 and b'range -inf inf' in out, f'{line}: status {status}, {fault}')
+    path.write_text('\n'.join([*rows, f'1 d G 0 OBJ {{ lin {count}', *(f'{at} 1' for at in range(count)), '} -1\n']))
+    out, fault, status = run([*words['stats'], path], preexec_fn=limited)
+    check(status == 0 and b'too many steps' in out, f'stats of a long sum: status {status}, {out}, {fault}')
+
+
+def sets_of_assumptions(dice):
+    """Sets that share their parts are those that Python's own sets give."""
+    constraint = vipr.Constraint(b'c', 'G', 1, {})
+    for _ in range(60):
+        first, count = dice.choice([0, 3, 255, 256, 70000]), dice.choice([5, 50, 700, 2000])
+        derivations, plain = [], {}
+        for at in range(count):
+            pick, way = [first + dice.randrange(at + 1) for _ in range(4)], dice.randrange(3)
+            if way == 0:
+                derivations.append(vipr.Derivation(constraint, 'asm', (), (), None))
+                rests_on = {first + at}
+            elif way == 1:
+                entries = tuple((it, 1) for it in pick[:dice.randrange(5)])
+                derivations.append(vipr.Derivation(constraint, 'lin', entries, (), None))
+                rests_on = set().union(*(plain.get(it, set()) for it, _ in entries))
+            else:
+                derivations.append(vipr.Derivation(constraint, 'uns', (), tuple(pick), None))
+                rests_on = (plain.get(pick[0], set()) - {pick[1]}) | (plain.get(pick[2], set()) - {pick[3]})
+            plain[first + at] = rests_on
+        problem = vipr.Problem([], set(), False, {}, 0, [constraint] * first, vipr.Claim(True))
+        found = structure.assumptions(vipr.Certificate(problem, [], derivations))
+        check([it.indices() for it in found] == [sorted(it) for it in plain.values()], 'sets of assumptions differ')
+        check([it.size for it in found] == [len(it) for it in plain.values()], 'sizes of sets of assumptions differ')
 
 
 def drawn(text, boxes=picture.MOST_BOXES):
@@ -313,6 +376,7 @@ def pictures(texts):
             spare = count - sum(it >= len(proof.problem.constraints) for it in needed) if goal is not None else 0
             check(sum('spare' in it for it in boxes) == spare, f'{spare} are not needed: {boxes}')
         drawn(text, 0)
+    drawn(NOT_THERE)
     check((TOP / 'docs/branch_and_bound.svg').read_text() == drawn(EXAMPLES[TOP / 'examples/branch_and_bound.vipr'])[0],
           'docs/branch_and_bound.svg is another picture: python3 -m vipr.picture')
 
@@ -423,7 +487,9 @@ def main():
         causes()
         comparisons(dice)
         figures()
+        sets_of_assumptions(dice)
         pictures(texts)
+        hostile(room, words)
         commands(room, words)
         check_all(room, words)
         large(room, words)

@@ -1,6 +1,7 @@
 """Constraints as people write them."""
 from __future__ import annotations
 
+import heapq
 from typing import List, Optional
 
 from .certificate import Constraint, Number, Row
@@ -18,7 +19,7 @@ def term(coefficient: Number, name: str, is_first: bool) -> str:
 
 def row_text(row: Row, names: List[bytes], most: Optional[int] = None) -> str:
     """The sum of a row, its first terms if there are more than `most`; 0 for an empty one."""
-    shown = sorted(row)[:most]
+    shown = sorted(row) if most is None else heapq.nsmallest(most, row)
     terms = [term(row[index], printable(names[index]), at == 0) for at, index in enumerate(shown)]
     rest = [f'+ .. ({len(row) - len(shown)} more)'] if len(shown) < len(row) else []
     return ' '.join(terms + rest) or '0'

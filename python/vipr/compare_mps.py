@@ -25,12 +25,39 @@ import sys
 from typing import Dict, Iterator, List, Optional, Tuple
 
 from . import algebra, library
-from .certificate import Fraction, Number, Problem, Row, read_problem
+from .certificate import Number, Problem, Row, read_problem
 from .files import FAILED, REFUSED, VERIFIED, printable, read_file, run
 from .mps import Cause, MpsFile, Refused, Sides, read_mps
+from .proof import whole_row
 from .verdict import Claim, Refusal
 
-Key = Tuple[Tuple[int, Number], ...]
+
+
+class Rows:
+    """Numbers for rows: equal rows have one, and the empty row has EMPTY. Each is whole or not wherever the integer variables
+    are whole. The objective's row is looked at once, however often `OBJ` stands for it."""
+
+    def __init__(self, problem: Problem):
+        self.problem = problem
+        self.numbers: Dict[Tuple[Tuple[int, ...], Tuple[Number, ...]], int] = {}
+        self.rows: List[Row] = []
+        self.is_whole: List[bool] = []
+        self.number({})
+        self.objective = self.number(problem.objective)
+
+    def number(self, row: Row) -> int:
+        indices = tuple(sorted(row))
+        found = self.numbers.setdefault((indices, tuple(row[at] for at in indices)), len(self.rows))
+        if found == len(self.rows):
+            self.rows.append(row)
+            self.is_whole.append(bool(row) and whole_row(row, self.problem.integers))
+        return found
+
+    def of(self, row: Row) -> int:
+        return self.objective if row is self.problem.objective else self.number(row)
+
+
+EMPTY = 0
 
 
 class Side:
@@ -38,20 +65,20 @@ class Side:
     is true nowhere."""
 
     def __init__(self) -> None:
-        self.tightest: Dict[Key, Sides] = {}
+        self.tightest: Dict[int, Sides] = {}
         self.is_absurd = False
 
-    def add(self, key: Key, sides: Sides) -> None:
+    def add(self, row: int, sides: Sides) -> None:
         lower, upper = sides
-        low, up = self.tightest.get(key, (None, None))
-        self.tightest[key] = (low if lower is None or (low is not None and low >= lower) else lower,
+        low, up = self.tightest.get(row, (None, None))
+        self.tightest[row] = (low if lower is None or (low is not None and low >= lower) else lower,
                               up if upper is None or (up is not None and up <= upper) else upper)
-        self.is_absurd = self.is_absurd or (not key and not is_void(sides))
+        self.is_absurd = self.is_absurd or (row == EMPTY and not is_void(sides))
 
-    def says(self, key: Key, sides: Sides) -> bool:
+    def says(self, row: int, sides: Sides) -> bool:
         """Whether it asks as much of a point as these sides of a row do."""
-        low, up = self.tightest.get(key, (None, None))
-        return (self.is_absurd or (not key and is_void(sides))
+        low, up = self.tightest.get(row, (None, None))
+        return (self.is_absurd or (row == EMPTY and is_void(sides))
                 or ((sides[0] is None or (low is not None and low >= sides[0]))
                     and (sides[1] is None or (up is not None and up <= sides[1]))))
 
@@ -68,8 +95,9 @@ class Comparison:
         self.file, self.problem = file, problem
         self.names = [printable(name) for name in problem.names]
         self.index = self.indices()
-        self.rows = {name: {self.index[column]: value for column, value in row.items()}
-                     for name, row in file.entries().items()}
+        self.entries = {name: {self.index[column]: value for column, value in row.items()}
+                        for name, row in file.entries().items()}
+        self.rows = Rows(problem)
 
     def indices(self) -> Dict[bytes, int]:
         """The variable of each name. Each is a column, and each column is one."""
@@ -99,7 +127,7 @@ class Comparison:
 
     def is_turned(self) -> bool:
         """Whether the certificate has the negative objective in the other direction."""
-        wanted, stated = self.rows[self.file.objective or b''], self.problem.objective
+        wanted, stated = self.entries[self.file.objective or b''], self.problem.objective
         turned = self.file.maximizes != self.problem.maximizes
         if turned and wanted == stated:
             words = ['min', 'max']
@@ -114,33 +142,33 @@ class Comparison:
                           f'file {wanted.get(at, 0)}{", turned" if turned else ""}')
         return turned
 
-    def rounded(self, row: Row, sides: Sides) -> Tuple[Key, Sides]:
-        """The row, and its sides: rounded, if the row is whole at every point in question."""
-        lower, upper = sides
-        if row and all(index in self.problem.integers and value.denominator == 1 for index, value in row.items()):
+    def rounded(self, row: Row, sides: Sides) -> Tuple[int, Sides]:
+        """The row's number, and its sides: rounded, if the row is whole at every point in question."""
+        number, (lower, upper) = self.rows.of(row), sides
+        if self.rows.is_whole[number]:
             lower = None if lower is None else -(-lower.numerator // lower.denominator)
             upper = None if upper is None else upper.numerator // upper.denominator
-        return tuple(sorted(row.items())), (lower, upper)
+        return number, (lower, upper)
 
-    def of_file(self) -> Iterator[Tuple[Key, Sides, int, str]]:
+    def of_file(self) -> Iterator[Tuple[int, Sides, int, str]]:
         """The conditions of the file, each with its line and its name."""
         for name, (_, line) in self.file.rows.items():
-            yield *self.rounded(self.rows[name], self.file.sides(name)), line, f'row {printable(name)}'
+            yield *self.rounded(self.entries[name], self.file.sides(name)), line, f'row {printable(name)}'
         for name, column in self.file.columns.items():
             line = max([it[1] for it in column.set_sides if it] or [column.line])
             yield *self.rounded({self.index[name]: 1}, column.sides()), line, f'column {printable(name)}'
 
-    def of_certificate(self) -> Iterator[Tuple[Key, Sides, int, str]]:
+    def of_certificate(self) -> Iterator[Tuple[int, Sides, int, str]]:
         """The conditions of the certificate, each with its index and its name."""
         for at, it in enumerate(self.problem.constraints):
             sides = (it.bound if it.sense in 'GE' else None), (it.bound if it.sense in 'LE' else None)
             yield *self.rounded(it.row, sides), at, f'constraint {at} {printable(it.name)}'
 
-    def shown(self, side: str, key: Key, sides: Sides) -> str:
+    def shown(self, side: str, number: int, sides: Sides) -> str:
         """What a side says of a row, between its bounds."""
         if sides == (None, None):
             return f'{side} none'
-        row = algebra.row_text(dict(key), self.problem.names, 12)
+        row = algebra.row_text(self.rows.rows[number], self.problem.names, 12)
         lower, upper = sides
         if lower is not None and lower == upper:
             return f'{side} {row} = {lower}'
@@ -150,18 +178,18 @@ class Comparison:
         """Each side asks as much as the other."""
         file, certificate = Side(), Side()
         for side, conditions in (file, self.of_file()), (certificate, self.of_certificate()):
-            for key, sides, _, _ in conditions:
-                side.add(key, sides)
-        for key, sides, at, name in self.of_certificate():
-            if not file.says(key, sides):
+            for row, sides, _, _ in conditions:
+                side.add(row, sides)
+        for row, sides, at, name in self.of_certificate():
+            if not file.says(row, sides):
                 raise Refused(Cause.NOT_IN_FILE, f'CON {at}', f'cause {Cause.NOT_IN_FILE.word}', name,
-                              self.shown('certificate', key, sides),
-                              self.shown('file', key, file.tightest.get(key, (None, None))))
-        for key, sides, line, name in self.of_file():
-            if not certificate.says(key, sides):
+                              self.shown('certificate', row, sides),
+                              self.shown('file', row, file.tightest.get(row, (None, None))))
+        for row, sides, line, name in self.of_file():
+            if not certificate.says(row, sides):
                 raise Refused(Cause.NOT_IN_CERTIFICATE, f'line {line}', f'cause {Cause.NOT_IN_CERTIFICATE.word}', name,
-                              self.shown('file', key, sides),
-                              self.shown('certificate', key, certificate.tightest.get(key, (None, None))))
+                              self.shown('file', row, sides),
+                              self.shown('certificate', row, certificate.tightest.get(row, (None, None))))
 
     def claim(self) -> Claim:
         """The claim as one of the file's problem. Raises Refused if the problems differ."""

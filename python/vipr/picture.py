@@ -24,14 +24,14 @@ from xml.sax.saxutils import escape
 
 from . import proof as structure
 from .algebra import SIGNS, constraint_text, row_text, term
-from .certificate import Certificate, read
+from .certificate import Certificate, Constraint, read
 from .files import REFUSED, VERIFIED, printable, read_file, run
 from .verdict import Refusal
 
 MOST_BOXES, MOST_SPLITS = 300, 40
 CHARACTER, LINE, PADDING = 7.3, 16, 9   # the width of a character, the height of a line, the edge of a box
 ACROSS, DOWN, MARGIN = 26, 46, 24       # between boxes, between layers, around all
-MOST_CHARACTERS, MOST_LISTED = 32, 40
+MOST_CHARACTERS, MOST_LISTED, MOST_TERMS = 32, 40, 12
 STYLE = '''
 text { font: 12px ui-monospace, Menlo, Consolas, "DejaVu Sans Mono", monospace; fill: #1d2733; white-space: pre; }
 .head { font-weight: bold; } .small { fill: #5a6675; } .title { font-size: 14px; font-weight: bold; }
@@ -171,17 +171,26 @@ class Picture:
         return {'asm': 'assumed', 'sol': 'sol  the best listed solution'}[it.reason]
 
     def short(self, index: int, most: int) -> str:
-        """A constraint in so many characters: a long row is `objective`, or its beginning."""
+        """A constraint in so many characters: a long row is `objective`, or its beginning. One that isn't there is its index."""
+        if index >= self.derived.stop:
+            return f'[{index}]'
         it = self.proof.constraint(index)
-        text, side = constraint_text(it, self.names), f'{SIGNS[it.sense]} {it.bound}'
+        text, side = constraint_text(it, self.names, MOST_TERMS), f'{SIGNS[it.sense]} {it.bound}'
         if len(text) <= most:
             return text
-        row = 'objective' if it.row == self.proof.problem.objective else text[:max(1, most - len(side) - 3)] + '..'
+        row = 'objective' if structure.is_objective(self.proof.problem, it.row) else text[:max(1, most - len(side) - 3)] + '..'
         return f'{row} {side}'
 
+    def text(self, it: Constraint) -> str:
+        """A constraint uncut. A long row that is written `OBJ` is `objective`, so no picture is much longer than the text."""
+        if it.row is self.proof.problem.objective and len(it.row) > MOST_TERMS:
+            return f'objective {SIGNS[it.sense]} {it.bound}'
+        return constraint_text(it, self.names)
+
     def rests_on(self, index: int) -> str:
-        found = sorted(self.sets[index - self.first])
-        return 'rests on ' + (' '.join(f'[{it}]' for it in found) or 'nothing')
+        found = self.sets[index - self.first]
+        rest = [f'.. ({found.size - MOST_LISTED:,} more)'] if found.size > MOST_LISTED else []
+        return 'rests on ' + (' '.join([*(f'[{it}]' for it in found.indices()[:MOST_LISTED]), *rest]) or 'nothing')
 
     def style(self, index: int) -> str:
         return ' '.join([self.proof.derivations[index - self.first].reason, *(['goal'] if index == self.goal else []),
@@ -190,14 +199,14 @@ class Picture:
     def title(self, index: int) -> str:
         """What a pointer on a box shows: all of it, uncut."""
         it = self.proof.constraint(index)
-        return '\n'.join([f'[{index}] {printable(it.name)}', constraint_text(it, self.names), self.reason(index),
+        return '\n'.join([f'[{index}] {printable(it.name)}', self.text(it), self.reason(index),
                           self.rests_on(index)])
 
     def box(self, index: int) -> Box:
         it = self.proof.constraint(index)
         head = f'[{index}] {printable(it.name)}'
         rows = [(head, 'head'), (self.short(index, MOST_CHARACTERS), ''), (self.reason(index), 'small')]
-        if self.sets[index - self.first] != {index}:
+        if self.proof.derivations[index - self.first].reason != 'asm':
             rows.append((self.rests_on(index), 'small'))
         if index == self.goal:
             rows[0] = (cut(head, MOST_CHARACTERS - 8) + '  (goal)', 'head')
@@ -280,7 +289,7 @@ class Picture:
         rows = [(f'claim: {problem.claim}', 'title'),
                 (f'{"max" if problem.maximizes else "min"} {row_text(problem.objective, self.names)}', ''),
                 (f'{len(problem.names)} variables, {len(problem.integers)} integer', 'small'), ('', '')]
-        rows += [(f'[{at}] {printable(it.name)}  {constraint_text(it, self.names)}',
+        rows += [(f'[{at}] {printable(it.name)}  {self.text(it)}',
                   '' if self.goal is None or at in self.needed else 'small')
                  for at, it in enumerate(problem.constraints[:MOST_LISTED])]
         if self.first > MOST_LISTED:

@@ -18,6 +18,7 @@ from .certificate import Certificate, read
 from .files import REFUSED, VERIFIED, read_file, run
 from .verdict import Refusal
 
+STEPS, LEAST_STEPS = 100, 1_000_000  # of sums that are added up: for each number that is written, and in any case
 REASONS = ('asm', 'lin', 'rnd', 'uns', 'sol')
 Figure = Union[int, str, None]
 
@@ -38,10 +39,11 @@ def figures(proof: Certificate) -> Dict[str, Figure | Dict[str, int]]:
     sets = structure.assumptions(proof)
     goal = structure.goal(proof, sets)
     needed = structure.needed(proof, goal)
-    widths = structure.Widths()
+    written = sum(len(it.row) for it in constraints if it.row is not problem.objective) + sum(len(it.entries) for it in derivations)
+    widths = structure.Widths(LEAST_STEPS + STEPS * written)
     widths.see(*problem.objective.values())
     for it in constraints:
-        widths.see(it.bound, *it.row.values())
+        widths.see(it.bound, *(() if it.row is problem.objective else it.row.values()))
     for solution in proof.solutions:
         widths.see(*solution.values.values())
     for index, it in zip(derived, derivations):
@@ -57,12 +59,12 @@ def figures(proof: Certificate) -> Dict[str, Figure | Dict[str, int]]:
         'solutions': len(proof.solutions),
         'derivations': len(derivations),
         'by_reason': by_reason(proof, derived),
-        'assumption_depth': max(map(len, sets), default=0),
+        'assumption_depth': max((it.size for it in sets), default=0),
         'longest_row': max((len(it.row) for it in constraints), default=0),
         'longest_reason': max((len(it.entries) for it in derivations), default=0),
-        'objective_rows': sum(bool(it.row) and it.row == problem.objective for it in constraints),
+        'objective_rows': sum(bool(it.row) and structure.is_objective(problem, it.row) for it in constraints),
         'written_bits': widths.written,
-        'computed_bits': max(widths.written, widths.computed),
+        'computed_bits': None if widths.computed is None else max(widths.written, widths.computed),
         'goal': goal,
         'needed_constraints': len(needed) - needed_derived,
         'needed_derivations': needed_derived,
@@ -80,13 +82,16 @@ ROWS = [
     ('needed_derivations', 'derivations that the goal needs'), ('needed_by_reason', '  {}')]
 
 
+NONE = {'computed_bits': 'too many steps to compute it'}
+
+
 def table(found: Dict[str, Figure | Dict[str, int]]) -> List[Tuple[str, Figure]]:
     """The rows of the table: a label and a figure."""
     rows: List[Tuple[str, Figure]] = []
     for key, label in ROWS:
         value = found[key]
         rows.extend([(label.format(word), count) for word, count in value.items() if count] if isinstance(value, dict)
-                    else [(label, 'none' if value is None else value)])
+                    else [(label, value)] if value is not None else [(label, NONE.get(key, 'none'))])
     return rows
 
 
