@@ -27,7 +27,7 @@ WITHOUT_CALLS = ('vipr_lib',)
 def imports(text):
     """The words that `ghost use` brings in from the definitions of our crates."""
     words = set()
-    for found in re.finditer(r'ghost use Rattle\.vipr\w*\.specs\.[\w.]+?(?:\.\{([^}]*)\}|\.(\w+) as (\w+)|;)', text):
+    for found in re.finditer(r'ghost use Rattle\.vipr\w*\.specs\.(?:(?:[\w.]+?\.)?\{([^}]*)\}|[\w.]+?\.(\w+) as (\w+))', text):
         for item in (found[1] or '').split(','):
             if item.strip():
                 words.add(item.split(' as ')[-1].strip())

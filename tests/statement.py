@@ -253,7 +253,7 @@ def signatures(lines):
     return out
 
 
-IMPORT = re.compile(r'^(?:unfoldable )?(?:pub )?use Rattle\.(\w+)\.specs\.([\w.]+?)(?:\.\{([^}]*)\}|(?: as (\w+))?)[ \t]*$', re.M)
+IMPORT = re.compile(r'^(?:unfoldable )?(?:pub )?use Rattle\.(\w+)\.specs(?:\.([\w.]+?))??(?:\.\{([^}]*)\}|(?: as (\w+))?)[ \t]*$', re.M)
 
 
 class File:
@@ -262,7 +262,7 @@ class File:
     def __init__(self, crate, path, text):
         self.crate, self.own, self.imports, self.aliases = crate, {}, {}, {}
         for m in IMPORT.finditer(text):
-            module = (m[1], m[2].split('.')[-1])
+            module = (m[1], m[2] and m[2].split('.')[-1])
             if m[3] is None:
                 self.aliases[m[4] or module[1]] = module
             else:
@@ -314,7 +314,8 @@ def meant(files, file, word):
         return file.own[word]
     for name, (crate, module, there) in file.imports.items():
         if word == name or word in operators(name):
-            return files[(crate, module)].own.get(there) if (crate, module) in files else None
+            homes = [f for (c, m), f in files.items() if c == crate and module in (m, None) and there in f.own]
+            return homes[0].own[there] if homes else None
     return None
 
 

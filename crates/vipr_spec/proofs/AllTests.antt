@@ -7,16 +7,14 @@ use Rattle.std.proofs.lemmas.List.Elements.{All-nil, All-cons, All-head, All-tai
 use Rattle.std.proofs.lemmas.List.Elements.{All-map}
 use Rattle.std.proofs.Math.ListN.{length-map}
 use Rattle.std.specs.FinMap.{empty}
-use Rattle.vipr_spec.specs.Fraction.{zero_ℚ}
-use Rattle.vipr_spec.specs.Constraint.{Profile, Constraint, IsInteger, at, equal}
-use Rattle.vipr_spec.specs.Certificate.{Named, asm, Derivation, Certificate, Known}
-use Rattle.vipr_spec.specs.Certificate.{given_constraint, derived_constraint, variables}
-use Rattle.vipr_spec.specs.Certificate.{constraint_at, reason_at, IsFeasible, SolutionFits}
-use Rattle.vipr_spec.specs.Certificate.{HasGoodSteps, IsProof}
-use Rattle.vipr_spec.specs.Steps.{before, PassesStep, step_tests, FirstFailing}
-use Rattle.vipr_spec.specs.Tests.{Test, of_solution, meets_primal, of_step, meets_dual, Passes}
-use Rattle.vipr_spec.specs.Tests.{solution_tests, numbered_tests, tests_of_solution}
-use Rattle.vipr_spec.specs.Tests.{tests_of_derivation, proof_tests}
+use Rattle.vipr_spec.specs.{zero_ℚ, Profile, IsInteger, at, equal, Named, asm, Derivation, Known}
+use Rattle.vipr_spec.specs.{given_constraint, derived_constraint, variables, constraint_at}
+use Rattle.vipr_spec.specs.{reason_at, IsFeasible, SolutionFits, HasGoodSteps, IsProof, before}
+use Rattle.vipr_spec.specs.{PassesStep, step_tests, FirstFailing, Test, of_solution, meets_primal}
+use Rattle.vipr_spec.specs.{of_step, meets_dual, Passes, solution_tests, numbered_tests}
+use Rattle.vipr_spec.specs.{tests_of_solution, tests_of_derivation, proof_tests}
+use Rattle.vipr_spec.specs.Constraint.{Constraint}
+use Rattle.vipr_spec.specs.Certificate.{Certificate}
 use Rattle.vipr_spec.proofs.FirstFailing.{none_all, all_none, all_parts}
 use Rattle.vipr_spec.proofs.SolutionTests.{feasible_of_tests, tests_of_feasible}
 use Rattle.vipr_spec.proofs.Prefix.{is_derived}

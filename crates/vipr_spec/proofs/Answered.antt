@@ -4,16 +4,13 @@ use Rattle.std.proofs.Common.{arith, refl, sym, subst, inl, inr, ⊎_elim, lengt
 use Rattle.std.proofs.Common.{Err}
 use Rattle.std.specs.Prelude.{IsSome}
 use Rattle.std.proofs.lemmas.Bool.{cases_lt}
-use Rattle.vipr_spec.specs.Fraction.{ℚ}
+use Rattle.vipr_spec.specs.{ℚ, Profile, IsInteger, Problem, variables, Claim, infeasible, range}
+use Rattle.vipr_spec.specs.{dual_bound, NeedsGoal, ProvesDual, IsGoal, peak, Rest, Fault}
+use Rattle.vipr_spec.specs.{certificate_read, FirstFailing, Test, spelled, meets_dual, Passes}
+use Rattle.vipr_spec.specs.{Found, found_in, Report, Reports, Answer, verified, answer_of_test}
+use Rattle.vipr_spec.specs.{IsAnswer}
 use Rattle.std.proofs.lemmas.List.Elements.{All-contains}
-use Rattle.vipr_spec.specs.Constraint.{Profile, IsInteger}
-use Rattle.vipr_spec.specs.Certificate.{Problem, variables, Claim, infeasible, range, dual_bound}
-use Rattle.vipr_spec.specs.Certificate.{Certificate, NeedsGoal, ProvesDual, IsGoal, peak}
-use Rattle.vipr_spec.specs.Reading.{Rest, Fault, certificate_read}
-use Rattle.vipr_spec.specs.Steps.{FirstFailing}
-use Rattle.vipr_spec.specs.Tests.{Test, spelled, meets_dual, Passes}
-use Rattle.vipr_spec.specs.Verdict.{Found, found_in, Report, Reports, Answer, verified}
-use Rattle.vipr_spec.specs.Verdict.{answer_of_test, IsAnswer}
+use Rattle.vipr_spec.specs.Certificate.{Certificate}
 use Rattle.vipr_spec.proofs.FirstFailing.{failing_some, none_all}
 use Rattle.vipr_spec.proofs.AllTests.{proof_of_tests}
 use Rattle.vipr_spec.proofs.GrammarWhole.{integers_read_below}

@@ -4,13 +4,11 @@ use Rattle.std.proofs.Common.{subst, sym, inl, inr}
 use Rattle.std.specs.Prelude.{◌↔◌, IsTrue}
 use Rattle.std.proofs.lemmas.List.Elements.{All-nil, All-cons, All-head, All-tail, All-weaker}
 use Rattle.std.proofs.lemmas.List.Elements.{All-contains, All-contains_itself}
-use Rattle.vipr_spec.specs.Fraction.{ℚ, zero_ℚ}
-use Rattle.vipr_spec.specs.Constraint.{Profile, Sense, Row, Condition, HasSense, SumOfFits, sum_of}
-use Rattle.vipr_spec.specs.Constraint.{Dominates, DominatesRounded, IsWholeRow, IsSplit}
-use Rattle.vipr_spec.specs.Certificate.{Named, asm, lin, rnd, uns, sol, Certificate, entries}
-use Rattle.vipr_spec.specs.Certificate.{constraint_at, reason_at, is_live, IsBest, cutoff}
-use Rattle.vipr_spec.specs.Certificate.{IsGoodStep}
-use Rattle.vipr_spec.specs.Rules.{AreUsable}
+use Rattle.vipr_spec.specs.{ℚ, zero_ℚ, Profile, Sense, Row, Condition, HasSense, SumOfFits, sum_of}
+use Rattle.vipr_spec.specs.{Dominates, DominatesRounded, IsWholeRow, IsSplit, Named, asm, lin, rnd}
+use Rattle.vipr_spec.specs.{uns, sol, entries, constraint_at, reason_at, is_live, IsBest, cutoff}
+use Rattle.vipr_spec.specs.{IsGoodStep, AreUsable}
+use Rattle.vipr_spec.specs.Certificate.{Certificate}
 
 module _ (P : Profile) (c : Certificate) (k : ℕ) where
   abbrev IsUsable : ℕ × ℚ → Type 0

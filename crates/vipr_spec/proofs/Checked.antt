@@ -5,17 +5,14 @@ use Rattle.std.proofs.Common.{subst, inl, inr, ⊎_elim}
 use Rattle.std.specs.Prelude.{◌↔◌, IsSome}
 use Rattle.std.specs.List.{HoldsAt}
 use Rattle.std.proofs.lemmas.Bool.{cases_lt}
-use Rattle.vipr_spec.specs.Constraint.{Profile, Row, Constraint, condition}
-use Rattle.vipr_spec.specs.Certificate.{Named, Problem, Derivation, Certificate, Known}
-use Rattle.vipr_spec.specs.Certificate.{given_constraint, constraint_at, MeetsDual, NeedsGoal}
-use Rattle.vipr_spec.specs.Certificate.{ProvesDual, GoalIs, count_held, count}
-use Rattle.vipr_spec.specs.Steps.{with_next, IsGoodNext, RefersBack}
-use Rattle.vipr_spec.specs.Reading.{Rest, end_read}
-use Rattle.vipr_spec.specs.Tests.{meets_dual}
-use Rattle.vipr_spec.specs.Verdict.{verified, answer_of_test, Answers}
-use Rattle.vipr_spec.specs.Progress.{derivations_from}
-use Rattle.vipr_spec.specs.Checking.{start, IsChecked, Meets, IsFirstMet, ProvesNext, NextGoal}
-use Rattle.vipr_spec.specs.Checking.{report_from}
+use Rattle.vipr_spec.specs.{Profile, Row, condition, Named, Problem, Derivation, Known}
+use Rattle.vipr_spec.specs.{given_constraint, constraint_at, MeetsDual, NeedsGoal, ProvesDual}
+use Rattle.vipr_spec.specs.{GoalIs, count_held, count, with_next, IsGoodNext, RefersBack, Rest}
+use Rattle.vipr_spec.specs.{end_read, meets_dual, verified, answer_of_test, Answers}
+use Rattle.vipr_spec.specs.{derivations_from, start, IsChecked, Meets, IsFirstMet, ProvesNext}
+use Rattle.vipr_spec.specs.{NextGoal, report_from}
+use Rattle.vipr_spec.specs.Constraint.{Constraint}
+use Rattle.vipr_spec.specs.Certificate.{Certificate}
 use Rattle.vipr_spec.proofs.Prefix.{count_next, known_next}
 use Rattle.vipr_spec.proofs.Held.{peak_next}
 use Rattle.vipr_spec.proofs.Steps.{good_without, good_steps_next, refers_back}

@@ -1,15 +1,12 @@
 -- A step that is refused has one cause and one detail
 use Rattle.std.proofs.Common.{◌≡◌, ℕ, ℤ, List, sym, ◌∙◌, ap, ap₂, subst}
 use Rattle.std.proofs.lemmas.List.Elements.{All-contains}
-use Rattle.vipr_spec.specs.Fraction.{ℚ, whole}
-use Rattle.vipr_spec.specs.Constraint.{Sense, at_most, equal, at_least, Row, at, Condition}
-use Rattle.vipr_spec.specs.Constraint.{RoundsTo, sum_of}
-use Rattle.vipr_spec.specs.Certificate.{Named, Certificate, entries, IsAsGoodAt}
-use Rattle.vipr_spec.specs.Certificate.{reaches, objective_constraint, IsBest, cutoff}
-use Rattle.vipr_spec.specs.Steps.{StepTest, earlier, live, assumed, suitable, fitting, roundable}
-use Rattle.vipr_spec.specs.Steps.{split, listed, by_sum, by_rounding, by_constraint, by_cutoff}
-use Rattle.vipr_spec.specs.Steps.{StepDetail, sum, compared}
-use Rattle.vipr_spec.specs.Steps.{IsSum, Shows}
+use Rattle.vipr_spec.specs.{ℚ, whole, Sense, at_most, equal, at_least, Row, at, Condition, RoundsTo}
+use Rattle.vipr_spec.specs.{sum_of, Named, entries, IsAsGoodAt, reaches, objective_constraint}
+use Rattle.vipr_spec.specs.{IsBest, cutoff, StepTest, earlier, live, assumed, suitable, fitting}
+use Rattle.vipr_spec.specs.{roundable, split, listed, by_sum, by_rounding, by_constraint, by_cutoff}
+use Rattle.vipr_spec.specs.{StepDetail, sum, compared, IsSum, Shows}
+use Rattle.vipr_spec.specs.Certificate.{Certificate}
 use Rattle.vipr_spec.proofs.Integers.{≤ℤ_antisymm}
 use Rattle.vipr_spec.proofs.Fractions.{le_of_eq_ℚ, le_of_whole}
 use Rattle.vipr_spec.proofs.MoreEntries.{one_sense}

@@ -4,7 +4,7 @@ use Rattle.std.proofs.Common.{drop, get_or, Some, None, arith, refl, sym, ◌∙
 use Rattle.std.proofs.Common.{add-one}
 use Rattle.std.proofs.lemmas.List.{drop_all}
 use Rattle.std.proofs.lemmas.Bool.Decides.{nat_tests}
-use Rattle.vipr_spec.specs.Digits.{natural_after, natural_of}
+use Rattle.vipr_spec.specs.{natural_after, natural_of}
 
 pub natural_of_empty : (bs : List ℕ) → length bs ≡ 0 → natural_of bs ≡ None
 unfolding natural_of

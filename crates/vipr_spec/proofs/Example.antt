@@ -8,12 +8,10 @@ use Rattle.std.specs.Ordering.{nat_cmp}
 use Rattle.std.specs.Cmp.{nat_cmp_total}
 use Rattle.std.proofs.lemmas.List.Elements.{All-nil, All-cons}
 use Rattle.std.proofs.lemmas.Int.{ints}
-use Rattle.vipr_spec.specs.Gcd.{gcd}
-use Rattle.vipr_spec.specs.Fraction.{ℚ, over, whole, zero_ℚ, ◌+ℚ◌, ◌*ℚ◌, neg_ℚ, ◌≤ℚ◌, ProductFits}
-use Rattle.vipr_spec.specs.Constraint.{Profile, at_most, at_least, at, Entry, pull, Combines}
-use Rattle.vipr_spec.specs.Constraint.{TermsFit, SumOfFits}
-use Rattle.vipr_spec.specs.Certificate.{constraint_at, reason_at, entries, lin, IsProof, IsGoodStep}
-use Rattle.vipr_spec.specs.Certificate.{HasGoodSteps, is_live, RestsOn, itself, RestsOnNothing}
+use Rattle.vipr_spec.specs.{gcd, ℚ, over, whole, zero_ℚ, ◌+ℚ◌, ◌*ℚ◌, neg_ℚ, ◌≤ℚ◌, ProductFits}
+use Rattle.vipr_spec.specs.{Profile, at_most, at_least, at, Entry, pull, Combines, TermsFit}
+use Rattle.vipr_spec.specs.{SumOfFits, constraint_at, reason_at, entries, lin, IsProof, IsGoodStep}
+use Rattle.vipr_spec.specs.{HasGoodSteps, is_live, RestsOn, itself, RestsOnNothing}
 use Rattle.vipr_spec.specs.Examples.{row, both, example, assumed}
 use Rattle.vipr_spec.proofs.Fractions.{whole-add, whole-mul, whole-le, le_of_whole, is_one, is_neg}
 use Rattle.vipr_spec.proofs.Fractions.{is_whole, mul-zero_ℚ, add-mul_ℚ, zero-mul_ℚ}

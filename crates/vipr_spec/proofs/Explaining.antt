@@ -2,21 +2,17 @@
 use Rattle.std.proofs.Common.{◌≡◌, ℕ, suc, List, [], ◌∷◌, ◌++◌, length, Option, Some, None, Ok, Err}
 use Rattle.std.proofs.Common.{refl, sym, ◌∙◌, ap, subst}
 use Rattle.std.specs.Prelude.{◌↔◌}
-use Rattle.vipr_spec.specs.Fraction.{ℚ}
-use Rattle.vipr_spec.specs.Constraint.{Profile, Row, condition}
-use Rattle.vipr_spec.specs.Certificate.{Named, Problem, Derivation, Certificate, Known, known_at}
-use Rattle.vipr_spec.specs.Certificate.{MeetsPrimal, count}
-use Rattle.vipr_spec.specs.Reading.{Rest, Fault, problem_read, solution_read, derivations_read}
-use Rattle.vipr_spec.specs.Reading.{derivation_read, end_read}
-use Rattle.vipr_spec.specs.Steps.{with_more, with_next, StepTest, PassesStep, step_tests}
-use Rattle.vipr_spec.specs.Steps.{FirstFailing, StepDetail, Shows}
-use Rattle.vipr_spec.specs.Tests.{SolutionTest, PassesSolution, solution_tests, of_solution, Test}
-use Rattle.vipr_spec.specs.Tests.{spelled, meets_primal, of_step, meets_dual, Passes, Detail, none}
-use Rattle.vipr_spec.specs.Tests.{step, no_proof, no_primal, name_at, names_of, solution_detail}
-use Rattle.vipr_spec.specs.Tests.{goal_needed_by, finite_primal, Explains}
-use Rattle.vipr_spec.specs.Verdict.{items_read, Found, Report, Reports, Answer, verified}
-use Rattle.vipr_spec.specs.Verdict.{answer_of_test, IsExplainedBy, Explained, IsExplained}
-use Rattle.vipr_spec.specs.Progress.{derivations_from, solutions_from}
+use Rattle.vipr_spec.specs.{ℚ, Profile, Row, condition, Named, Problem, Derivation, Known, known_at}
+use Rattle.vipr_spec.specs.{MeetsPrimal, count, Rest, Fault, problem_read, solution_read}
+use Rattle.vipr_spec.specs.{derivations_read, derivation_read, end_read, with_more, with_next}
+use Rattle.vipr_spec.specs.{StepTest, PassesStep, step_tests, FirstFailing, StepDetail, Shows}
+use Rattle.vipr_spec.specs.{SolutionTest, PassesSolution, solution_tests, of_solution, Test}
+use Rattle.vipr_spec.specs.{spelled, meets_primal, of_step, meets_dual, Passes, Detail, none, step}
+use Rattle.vipr_spec.specs.{no_proof, no_primal, name_at, names_of, solution_detail, goal_needed_by}
+use Rattle.vipr_spec.specs.{finite_primal, Explains, items_read, Found, Report, Reports, Answer}
+use Rattle.vipr_spec.specs.{verified, answer_of_test, IsExplainedBy, Explained, IsExplained}
+use Rattle.vipr_spec.specs.{derivations_from, solutions_from}
+use Rattle.vipr_spec.specs.Certificate.{Certificate}
 use Rattle.vipr_spec.proofs.Prefix.{before_more, known_next}
 use Rattle.vipr_spec.proofs.Told as known
 

@@ -3,14 +3,12 @@ use Rattle.std.proofs.Common.{◌≡◌, ℕ, ◌<◌, ◌≤◌, ◌⊎◌, Lis
 use Rattle.std.proofs.Common.{IsSome, IsSomeAnd, arith, refl, sym, subst, inl, inr, ⊎_elim}
 use Rattle.std.specs.Prelude.{◌↔◌}
 use Rattle.std.proofs.lemmas.Bool.{cases_lt}
-use Rattle.vipr_spec.specs.Fraction.{ℚ}
-use Rattle.vipr_spec.specs.Constraint.{Profile, one, two, Condition}
-use Rattle.vipr_spec.specs.Certificate.{Problem, Claim, infeasible, range, Reason, asm, lin, rnd}
-use Rattle.vipr_spec.specs.Certificate.{uns, sol, dual_bound, Derivation, Certificate, Known}
-use Rattle.vipr_spec.specs.Certificate.{constraint_at, count, FollowsBy, IsGoodStep}
-use Rattle.vipr_spec.specs.Certificate.{MeetsBound, MeetsDual, NeedsGoal, ProvesDual, IsProof}
-use Rattle.vipr_spec.specs.Certificate.{IsGoal, GoalIs}
-use Rattle.vipr_spec.specs.Steps.{with_more, with_next, RefersBack}
+use Rattle.vipr_spec.specs.{ℚ, Profile, one, two, Condition, Problem, Claim, infeasible, range}
+use Rattle.vipr_spec.specs.{Reason, asm, lin, rnd, uns, sol, dual_bound, Derivation, Known}
+use Rattle.vipr_spec.specs.{constraint_at, count, FollowsBy, IsGoodStep, MeetsBound, MeetsDual}
+use Rattle.vipr_spec.specs.{NeedsGoal, ProvesDual, IsProof, IsGoal, GoalIs, with_more, with_next}
+use Rattle.vipr_spec.specs.{RefersBack}
+use Rattle.vipr_spec.specs.Certificate.{Certificate}
 use Rattle.vipr_spec.proofs.Linear.{split_two}
 use Rattle.vipr_spec.proofs.Prefix.{known_before, reason_given, count_more, count_next}
 use Rattle.vipr_spec.proofs.Rests.{rests_given}

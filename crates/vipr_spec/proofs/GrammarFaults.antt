@@ -3,12 +3,10 @@ use Rattle.std.proofs.Common.{◌≡◌, ℕ, zero, suc, ◌⊎◌, inl, inr, �
 use Rattle.std.proofs.Common.{if◌then◌else◌, List, [], ◌∷◌, ◌++◌, length, Result, Ok, Err, refl}
 use Rattle.std.proofs.Common.{sym, ◌∙◌, ap, subst, append_assoc}
 use Rattle.vipr_spec.specs.Causes as cause
-use Rattle.vipr_spec.specs.Tokens.{Token}
-use Rattle.vipr_spec.specs.Reading.{Rest, Fault, refused, unread, ◌>>=◌, Read, most_bytes}
-use Rattle.vipr_spec.specs.Reading.{first_token, checked_token, token_of, read_each}
+use Rattle.vipr_spec.specs.{Token, Rest, Fault, refused, unread, ◌>>=◌, Read, most_bytes}
+use Rattle.vipr_spec.specs.{first_token, checked_token, token_of, read_each, ReadsFront, Reads}
+use Rattle.vipr_spec.specs.{IsRefusedAt, EndsEarly, FaultsRemain}
 use Rattle.vipr_spec.specs.Grammar.{each}
-use Rattle.vipr_spec.specs.GrammarLaws.{ReadsFront, Reads}
-use Rattle.vipr_spec.specs.FaultLaws.{IsRefusedAt, EndsEarly, FaultsRemain}
 use Rattle.vipr_spec.proofs.GrammarSteps.{ok_then, read_as}
 use Rattle.vipr_spec.proofs.GrammarParts.{repeated_sound, repeated_complete}
 

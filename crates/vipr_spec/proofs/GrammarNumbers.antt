@@ -4,9 +4,8 @@ use Rattle.std.proofs.Common.{[], ◌∷◌, Some, None, arith, refl, sym, ◌�
 use Rattle.std.proofs.lemmas.Bool.Decides.{nat_tests}
 use Rattle.std.specs.Char.{digit_value}
 use Rattle.std.specs.Str.Parse.{AllDigits, digits_value_after}
-use Rattle.vipr_spec.specs.Digits.{is_digit, natural_after, natural_of}
+use Rattle.vipr_spec.specs.{is_digit, natural_after, natural_of, ReadsNaturals}
 use Rattle.vipr_spec.specs.Grammar.{SpellsNatural}
-use Rattle.vipr_spec.specs.GrammarLaws.{ReadsNaturals}
 
 digit_value-is : (b : ℕ) → is_digit b ≡ true → digit_value b ≡ b - 48
 digit_value-is b e = grind (arith, nat_tests)

@@ -3,11 +3,10 @@ use Rattle.std.proofs.Common.{◌≡◌, false, nat_lt, if◌then◌else◌, ℕ
 use Rattle.std.proofs.Common.{◌++◌, length, Result, Ok, Err, All, arith, refl, sym, ◌∙◌, ap, subst}
 use Rattle.std.proofs.lemmas.Bool.Decides.{nat_tests}
 use Rattle.std.proofs.lemmas.List.Elements.{All-nil, All-cons, All-head}
-use Rattle.vipr_spec.specs.Tokens.{Token}
-use Rattle.vipr_spec.specs.Reading.{Rest, refused, Read, most_bytes, first_token, token_read}
-use Rattle.vipr_spec.specs.Reading.{checked_token, token_of, read_each, name_of, word_of}
+use Rattle.vipr_spec.specs.{Token, Rest, refused, Read, most_bytes, first_token, token_read}
+use Rattle.vipr_spec.specs.{checked_token, token_of, read_each, name_of, word_of, ReadsKind}
+use Rattle.vipr_spec.specs.{ReadsFront, Reads}
 use Rattle.vipr_spec.specs.Grammar.{one, ◌then◌, each, word}
-use Rattle.vipr_spec.specs.GrammarLaws.{ReadsKind, ReadsFront, Reads}
 use Rattle.vipr_spec.proofs.GrammarTokens.{kinds_of_token}
 use Rattle.vipr_spec.proofs.GrammarSteps.{bind_ok, ok_then, same_ok, bytes_of, IsShort, read_is}
 use Rattle.vipr_spec.proofs.GrammarSteps.{read_nothing, nothing_read, read_then, parted, Next}

@@ -5,11 +5,9 @@ use Rattle.std.proofs.Common.{sym, ◌∙◌, ap, subst, append_assoc}
 use Rattle.std.proofs.lemmas.List.{map-append}
 use Rattle.std.proofs.lemmas.List.Elements.{All-nil, All-cons, All-head, All-tail, All-append}
 use Rattle.std.proofs.lemmas.Bool.Decides.{nat_tests}
-use Rattle.vipr_spec.specs.Tokens.{Token}
-use Rattle.vipr_spec.specs.Reading.{Rest, Fault, refused, unread, ◌>>=◌, Read, most_bytes}
-use Rattle.vipr_spec.specs.Reading.{first_token, token_read}
+use Rattle.vipr_spec.specs.{Token, Rest, Fault, refused, unread, ◌>>=◌, Read, most_bytes}
+use Rattle.vipr_spec.specs.{first_token, token_read, ReadsFront}
 use Rattle.vipr_spec.specs.Grammar.{◌then◌}
-use Rattle.vipr_spec.specs.GrammarLaws.{ReadsFront}
 
 -- ---- results
 

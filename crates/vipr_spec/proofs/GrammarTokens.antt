@@ -6,18 +6,15 @@ use Rattle.std.specs.List.{list_any}
 use Rattle.std.specs.Str.{bytes_eq}
 use Rattle.std.proofs.lemmas.Bool.Decides.{nat_tests}
 use Rattle.std.proofs.lemmas.Slice.Eq.{bytes_eq-Decides}
-use Rattle.vipr_spec.specs.Digits.{natural_of}
+use Rattle.vipr_spec.specs.{natural_of, Sense, at_most, equal, at_least, minimum, maximum}
+use Rattle.vipr_spec.specs.{most_count, at_most_or, word_of, count_of, derivation_count_of, below}
+use Rattle.vipr_spec.specs.{variable_of, unless_among, new_variable_of, reference_of, some_of}
+use Rattle.vipr_spec.specs.{last_of, spelled_sense, spelled_direction, has_range_of, Rule, by_asm}
+use Rattle.vipr_spec.specs.{by_lin, by_rnd, by_uns, by_sol, rule_of, ReadsKind, SpellsRange}
+use Rattle.vipr_spec.specs.{rule_word, KindsOfToken}
 use Rattle.vipr_spec.specs.Causes as cause
-use Rattle.vipr_spec.specs.Constraint.{Sense, at_most, equal, at_least}
-use Rattle.vipr_spec.specs.Certificate.{minimum, maximum}
-use Rattle.vipr_spec.specs.Reading.{most_count, at_most_or, word_of, count_of, derivation_count_of}
-use Rattle.vipr_spec.specs.Reading.{below, variable_of, unless_among, new_variable_of, reference_of}
-use Rattle.vipr_spec.specs.Reading.{some_of, last_of, spelled_sense, spelled_direction}
-use Rattle.vipr_spec.specs.Reading.{has_range_of, Rule, by_asm, by_lin, by_rnd, by_uns, by_sol}
-use Rattle.vipr_spec.specs.Reading.{rule_of}
 use Rattle.vipr_spec.specs.Grammar.{SpellsNatural, SpellsCount, SpellsVariable, SpellsSense}
 use Rattle.vipr_spec.specs.Grammar.{SpellsDirection, SpellsLast}
-use Rattle.vipr_spec.specs.GrammarLaws.{ReadsKind, SpellsRange, rule_word, KindsOfToken}
 use Rattle.vipr_spec.proofs.GrammarNumbers.{natural_sound, natural_complete}
 use Rattle.vipr_spec.proofs.GrammarSteps.{guard_true, guard_false, chosen, success, same_ok}
 

@@ -4,9 +4,8 @@ use Rattle.std.proofs.Common.{cond, List, [], ◌∷◌, map, length, slice_inde
 use Rattle.std.proofs.Common.{◌∙◌, ap, ap₂, subst, inl, inr, ⊎_elim}
 use Rattle.std.proofs.lemmas.Bool.{cases_Bool, cases_order}
 use Rattle.std.proofs.lemmas.List.{length-map}
-use Rattle.vipr_spec.specs.Certificate.{Derivation}
-use Rattle.vipr_spec.specs.Tightened.{kept_of, new_index, with_new_indices, last_reference}
-use Rattle.vipr_spec.specs.Tightened.{with_last_references, kept_derivations}
+use Rattle.vipr_spec.specs.{Derivation, kept_of, new_index, with_new_indices, last_reference}
+use Rattle.vipr_spec.specs.{with_last_references, kept_derivations}
 
 -- ---- new indices
 

@@ -12,13 +12,12 @@ use Rattle.std.proofs.lemmas.Fmt.{decimal_is_IsNumeral_wide, length-decimal-le_w
 use Rattle.std.specs.Str.Parse.{AllDigits, IsNumeral, digits_value, without_leading_sign}
 use Rattle.std.specs.Str.Parse.{starts_with_minus}
 use Rattle.std.specs.Prelude.{IfSome, unsigned_abs}
-use Rattle.vipr_spec.specs.Fraction.{ℚ, over, most, IsBounded}
+use Rattle.vipr_spec.specs.{ℚ, over, most, IsBounded, natural_after, natural_of, SpellsNumber}
+use Rattle.vipr_spec.specs.{IsSign, signed_integer, under, denominator, too_large, zero_denominator}
+use Rattle.vipr_spec.specs.{is_slash, slash_place, top_of, bottom_of, written_fraction, of_parts}
+use Rattle.vipr_spec.specs.{number_read, number_text}
 use Rattle.vipr_spec.proofs.GrammarNumbers.{natural_sound, natural_complete}
 use Rattle.vipr_spec.proofs.Points.{over_parts}
-use Rattle.vipr_spec.specs.Digits.{natural_after, natural_of}
-use Rattle.vipr_spec.specs.Number.{SpellsNumber, IsSign, signed_integer, under, denominator}
-use Rattle.vipr_spec.specs.Number.{too_large, zero_denominator, is_slash, slash_place, top_of}
-use Rattle.vipr_spec.specs.Number.{bottom_of, written_fraction, of_parts, number_read, number_text}
 
 -- ---- the sign
 pub record Signed (bs : List ℕ) : Type 0 where

@@ -11,17 +11,14 @@ use Rattle.std.specs.Cmp.{nat_cmp_total, unsigned_tied}
 use Rattle.std.proofs.lemmas.Bool.Decides.{nat_tests}
 use Rattle.std.proofs.lemmas.List.Elements.{All-nil, All-cons}
 use Rattle.std.proofs.lemmas.Int.{ints}
-use Rattle.vipr_spec.specs.Gcd.{gcd}
-use Rattle.vipr_spec.specs.Fraction.{ℚ, over, whole, zero_ℚ, ◌+ℚ◌, ◌*ℚ◌, neg_ℚ, ◌≤ℚ◌, IsWhole}
-use Rattle.vipr_spec.specs.Fraction.{ProductFits, SumFits}
-use Rattle.vipr_spec.specs.Constraint.{Profile, one, two, at_most, at_least, at, Row, Constraint}
-use Rattle.vipr_spec.specs.Constraint.{Condition, condition, IsTrueAt, Entry, pull, IsInteger}
-use Rattle.vipr_spec.specs.Constraint.{IsWholeRow, HasSense, sum_of, RoundsTo, CombinesRounded}
-use Rattle.vipr_spec.specs.Constraint.{TermsFit, SumOfFits, value, ValueFits}
-use Rattle.vipr_spec.specs.Certificate.{Named, maximum, objective_at, Reason, rnd, uns, sol, asm}
-use Rattle.vipr_spec.specs.Certificate.{constraint_at, reason_at, IsBest, IsAsGoodAt, IsFeasible}
-use Rattle.vipr_spec.specs.Certificate.{SolutionFits, IsProof, IsGoodStep, HasGoodSteps, is_live}
-use Rattle.vipr_spec.specs.Certificate.{RestsOnNothing}
+use Rattle.vipr_spec.specs.{gcd, ℚ, over, whole, zero_ℚ, ◌+ℚ◌, ◌*ℚ◌, neg_ℚ, ◌≤ℚ◌, IsWhole}
+use Rattle.vipr_spec.specs.{ProductFits, SumFits, Profile, one, two, at_most, at_least, at, Row}
+use Rattle.vipr_spec.specs.{Condition, condition, IsTrueAt, Entry, pull, IsInteger, IsWholeRow}
+use Rattle.vipr_spec.specs.{HasSense, sum_of, RoundsTo, CombinesRounded, TermsFit, SumOfFits, value}
+use Rattle.vipr_spec.specs.{ValueFits, Named, maximum, objective_at, Reason, rnd, uns, sol, asm}
+use Rattle.vipr_spec.specs.{constraint_at, reason_at, IsBest, IsAsGoodAt, IsFeasible, SolutionFits}
+use Rattle.vipr_spec.specs.{IsProof, IsGoodStep, HasGoodSteps, is_live, RestsOnNothing}
+use Rattle.vipr_spec.specs.Constraint.{Constraint}
 use Rattle.vipr_spec.specs.Examples.{row, twice, first_variable, optimum}
 use Rattle.vipr_spec.proofs.Fractions.{whole-mul, whole-le, over-mul, over-le, over_same, is_neg}
 use Rattle.vipr_spec.proofs.Fractions.{is_over, is_zero, le_in, le_out, le_refl_ℚ, le_of_eq_ℚ}

@@ -8,9 +8,7 @@ use Rattle.std.specs.Cmp.{nat_cmp_total}
 use Rattle.std.specs.FinMap.{find, get-from_entries}
 use Rattle.std.specs.FinSet.{from_list, contains-from_list_nat}
 use Rattle.std.specs.Ordering.{nat_cmp, int_eq, eq_by_cmp}
-use Rattle.vipr_spec.specs.Fraction.{ℚ, zero_ℚ}
-use Rattle.vipr_spec.specs.Constraint.{IsInteger, at, NamesBelow}
-use Rattle.vipr_spec.specs.Reading.{is_nonzero, row_of}
+use Rattle.vipr_spec.specs.{ℚ, zero_ℚ, IsInteger, at, NamesBelow, is_nonzero, row_of}
 use Rattle.vipr_spec.proofs.Fractions.{zero_numer}
 
 pub not_zero : (x : ℚ) → not (int_eq x.numer (pos 0)) ≡ true → x ≢ zero_ℚ

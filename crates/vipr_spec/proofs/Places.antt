@@ -5,15 +5,12 @@ use Rattle.std.proofs.Common.{None, Contains, arith, refl, sym, ◌∙◌, ap, s
 use Rattle.std.proofs.Common.{le-leb, lt-ltb}
 use Rattle.std.proofs.lemmas.Bool.{and_from, or_right, cases_lt}
 use Rattle.std.proofs.lemmas.List.{get_or_append_left, length-map}
-use Rattle.vipr_spec.specs.Fraction.{ℚ, zero_ℚ}
-use Rattle.vipr_spec.specs.Constraint.{condition}
-use Rattle.vipr_spec.specs.Certificate.{Reason, asm, lin, rnd, uns, sol, Derivation, Certificate}
-use Rattle.vipr_spec.specs.Certificate.{constraint_at, reason_at, last_at, no_constraint}
-use Rattle.vipr_spec.specs.Certificate.{is_assumption, lasts_to, is_live, RefersTo, count}
-use Rattle.vipr_spec.specs.Tightened.{kept_of, new_index, renumbered_entries, renumbered_reason}
-use Rattle.vipr_spec.specs.Tightened.{renumbered_at, with_new_indices, with_last_references}
-use Rattle.vipr_spec.specs.Tightened.{with_kept}
-use Rattle.vipr_spec.specs.Reading.{is_nonzero}
+use Rattle.vipr_spec.specs.{ℚ, zero_ℚ, condition, Reason, asm, lin, rnd, uns, sol, Derivation}
+use Rattle.vipr_spec.specs.{constraint_at, reason_at, last_at, no_constraint, is_assumption}
+use Rattle.vipr_spec.specs.{lasts_to, is_live, RefersTo, count, kept_of, new_index}
+use Rattle.vipr_spec.specs.{renumbered_entries, renumbered_reason, renumbered_at, with_new_indices}
+use Rattle.vipr_spec.specs.{with_last_references, with_kept, is_nonzero}
+use Rattle.vipr_spec.specs.Certificate.{Certificate}
 use Rattle.vipr_spec.proofs.Kept.{map_with, length_with, index_mono, index_same, old_index}
 use Rattle.vipr_spec.proofs.Kept.{kept_map, length_kept, kept_at}
 use Rattle.vipr_spec.proofs.Prefix.{constraints_listed, reasons_listed, lasts_listed}

@@ -5,12 +5,11 @@ use Rattle.std.specs.Ordering.{nat_cmp}
 use Rattle.std.specs.FinMap.{get-empty}
 use Rattle.std.proofs.lemmas.List.Elements.{All-nil}
 use Rattle.std.proofs.lemmas.Int.{ints}
-use Rattle.vipr_spec.specs.Fraction.{over, whole, zero_ℚ, ◌≤ℚ◌}
-use Rattle.vipr_spec.specs.Constraint.{one, two, at_most, at_least, Condition, RoundsTo, IsAbsurd}
-use Rattle.vipr_spec.specs.Constraint.{IsSplit, Profile}
-use Rattle.vipr_spec.specs.Certificate.{Reason, asm, uns, constraint_at, IsProof, IsGoodStep}
-use Rattle.vipr_spec.specs.Certificate.{HasGoodSteps, is_live, RestsOnNothing, MeetsBound}
-use Rattle.vipr_spec.specs.Certificate.{Problem, Derivation, Certificate, MeetsPrimal, ProvesDual}
+use Rattle.vipr_spec.specs.{over, whole, zero_ℚ, ◌≤ℚ◌, one, two, at_most, at_least, Condition}
+use Rattle.vipr_spec.specs.{RoundsTo, IsAbsurd, IsSplit, Profile, Reason, asm, uns, constraint_at}
+use Rattle.vipr_spec.specs.{IsProof, IsGoodStep, HasGoodSteps, is_live, RestsOnNothing, MeetsBound}
+use Rattle.vipr_spec.specs.{Problem, Derivation, MeetsPrimal, ProvesDual}
+use Rattle.vipr_spec.specs.Certificate.{Certificate}
 use Rattle.vipr_spec.specs.Examples.{first_variable, rounded_bound, split_at_half}
 use Rattle.vipr_spec.proofs.Fractions.{over-le, le_of_whole, le_of_eq_ℚ, le_refl_ℚ}
 use Rattle.vipr_spec.proofs.Optimum.{whole_row, row_first}

@@ -1,10 +1,9 @@
 -- What is read of an item is what its tokens spell, and a fault of it is that of a token: both by the
 -- steps of its reading
 use Rattle.std.proofs.Common.{◌≡◌, ℕ, List, length, [], ◌++◌, Result, Ok, refl, sym, ◌∙◌, ap, append_assoc}
-use Rattle.vipr_spec.specs.Reading.{Rest, ◌>>=◌, Read, token_of, read_each}
+use Rattle.vipr_spec.specs.{Rest, ◌>>=◌, Read, token_of, read_each, ReadsKind, ReadsFront, Reads}
+use Rattle.vipr_spec.specs.{FaultsRemain}
 use Rattle.vipr_spec.specs.Grammar.{one, ◌then◌, each}
-use Rattle.vipr_spec.specs.GrammarLaws.{ReadsKind, ReadsFront, Reads}
-use Rattle.vipr_spec.specs.FaultLaws.{FaultsRemain}
 use Rattle.vipr_spec.proofs.GrammarSteps.{bind_ok, ok_then, answer, is_answer, read_as, read_is}
 use Rattle.vipr_spec.proofs.GrammarSteps.{read_nothing, nothing_read, read_then, parted}
 use Rattle.vipr_spec.proofs.GrammarParts.{reads_one, reads_like}

@@ -6,11 +6,9 @@ use Rattle.std.proofs.Common.{⊎_elim, eq-eqb, eqb-true}
 use Rattle.std.specs.List.{list_any}
 use Rattle.std.proofs.lemmas.Bool.{and_parts, and_from, or_cases, or_left, or_right}
 use Rattle.std.proofs.lemmas.List.Folds.{Any-from_list_any, list_any-from_Any}
-use Rattle.vipr_spec.specs.Fraction.{ℚ, zero_ℚ}
-use Rattle.vipr_spec.specs.Certificate.{Reason, asm, lin, rnd, uns, sol, Derivation, NamesEarlier}
-use Rattle.vipr_spec.specs.Certificate.{RefersTo}
-use Rattle.vipr_spec.specs.Tightened.{refers_to, or_else, last_reference, with_last_references}
-use Rattle.vipr_spec.specs.Reading.{is_nonzero}
+use Rattle.vipr_spec.specs.{ℚ, zero_ℚ, Reason, asm, lin, rnd, uns, sol, Derivation, NamesEarlier}
+use Rattle.vipr_spec.specs.{RefersTo, refers_to, or_else, last_reference, with_last_references}
+use Rattle.vipr_spec.specs.{is_nonzero}
 use Rattle.vipr_spec.proofs.SmallerSums.{is_not_zero, not_zero_is, Any-contains, Any-of}
 use Rattle.vipr_spec.proofs.Kept.{map_with}
 use Rattle.std.proofs.lemmas.List.Elements.{All-contains}

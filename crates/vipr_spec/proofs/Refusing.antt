@@ -2,10 +2,8 @@
 use Rattle.std.proofs.Common.{◌≢◌, ◌≤◌, ◌^◌, ◌-◌, [], pos, IsTrue, arith, refl, lit<, lit≤, le→leb}
 use Rattle.std.proofs.lemmas.List.Elements.{All-head}
 use Rattle.std.proofs.lemmas.Int.{ints}
-use Rattle.vipr_spec.specs.Gcd.{gcd}
-use Rattle.vipr_spec.specs.Fraction.{ℚ, over, whole, zero_ℚ, ◌*ℚ◌, IsBounded, ProductFits}
-use Rattle.vipr_spec.specs.Constraint.{Profile}
-use Rattle.vipr_spec.specs.Certificate.{is_live, IsProof}
+use Rattle.vipr_spec.specs.{gcd, ℚ, over, whole, zero_ℚ, ◌*ℚ◌, IsBounded, ProductFits, Profile}
+use Rattle.vipr_spec.specs.{is_live, IsProof}
 use Rattle.vipr_spec.specs.Examples.{dropped_example, too_large}
 use Rattle.vipr_spec.proofs.Fractions.{le_of_whole, le_of_eq_ℚ}
 

@@ -2,16 +2,14 @@
 use Rattle.std.proofs.Common.{◌≡◌, ℕ, Option, Some, None, MatchOption, arith, refl, sym, ◌∙◌, ap}
 use Rattle.std.proofs.Common.{subst, unwrap_or}
 use Rattle.std.specs.Prelude.{IsSome}
-use Rattle.vipr_spec.specs.Constraint.{Profile, condition}
-use Rattle.vipr_spec.specs.Certificate.{Derivation, Certificate, known_at, constraint_at, NeedsGoal}
-use Rattle.vipr_spec.specs.Certificate.{IsGoal, GoalIs}
-use Rattle.vipr_spec.specs.Reading.{Rest, Fault, refused, unread}
-use Rattle.vipr_spec.specs.Steps.{before, PassesStep, step_tests, FirstFailing, IsGoodNext}
-use Rattle.vipr_spec.specs.Tests.{Test, spelled, of_solution, meets_primal, of_step, meets_dual}
-use Rattle.vipr_spec.specs.Tests.{Passes, Detail, step, no_primal, Explains}
-use Rattle.vipr_spec.specs.Verdict.{Found, found_in, Report, Reports, Answer, verified}
-use Rattle.vipr_spec.specs.Verdict.{answer_of_test, IsAnswerOfTest, Answers, IsAnswer}
-use Rattle.vipr_spec.specs.Verdict.{IsExplainedBy, Explained, IsExplained}
+use Rattle.vipr_spec.specs.{Profile, condition, Derivation, known_at, constraint_at, NeedsGoal}
+use Rattle.vipr_spec.specs.{IsGoal, GoalIs, Rest, Fault, refused, unread, before, PassesStep}
+use Rattle.vipr_spec.specs.{step_tests, FirstFailing, IsGoodNext, Test, spelled, of_solution}
+use Rattle.vipr_spec.specs.{meets_primal, of_step, meets_dual, Passes, Detail, step, no_primal}
+use Rattle.vipr_spec.specs.{Explains, Found, found_in, Report, Reports, Answer, verified}
+use Rattle.vipr_spec.specs.{answer_of_test, IsAnswerOfTest, Answers, IsAnswer, IsExplainedBy}
+use Rattle.vipr_spec.specs.{Explained, IsExplained}
+use Rattle.vipr_spec.specs.Certificate.{Certificate}
 use Rattle.vipr_spec.proofs.Details.{shows_once}
 use Rattle.vipr_spec.proofs.Goals.{goal_needed}
 use Rattle.vipr_spec.proofs.FirstFailing.{failing_unique}

@@ -4,16 +4,13 @@ use Rattle.std.proofs.Common.{length, filter, Option, Some, None, All, Contains,
 use Rattle.std.proofs.Common.{◌∙◌, ap, ap₂, subst, inl, inr, ⊎_elim}
 use Rattle.std.proofs.lemmas.Bool.{cases_Bool, cases_lt}
 use Rattle.std.proofs.lemmas.List.Elements.{All-contains, Contains-get_or}
-use Rattle.vipr_spec.specs.Fraction.{ℚ, zero_ℚ}
-use Rattle.vipr_spec.specs.Constraint.{Profile, Condition, SumOfFits, Combines, CombinesRounded}
-use Rattle.vipr_spec.specs.Certificate.{Reason, asm, lin, rnd, uns, sol, Certificate, constraint_at}
-use Rattle.vipr_spec.specs.Certificate.{reason_at, Brings, RestsOn, itself, brought, entries}
-use Rattle.vipr_spec.specs.Certificate.{NamesEarlier, FollowsBy, StepFits, IsGoodStep, HasGoodSteps}
-use Rattle.vipr_spec.specs.Certificate.{RefersTo, MeetsDual, NeedsGoal, count, ProvesDual, IsProof}
-use Rattle.vipr_spec.specs.Steps.{RefersBack}
-use Rattle.vipr_spec.specs.Tightened.{new_index, renumbered_entries, renumbered_reason}
-use Rattle.vipr_spec.specs.Tightened.{renumbered_at, with_kept}
-use Rattle.vipr_spec.specs.Reading.{is_nonzero}
+use Rattle.vipr_spec.specs.{ℚ, zero_ℚ, Profile, Condition, SumOfFits, Combines, CombinesRounded}
+use Rattle.vipr_spec.specs.{Reason, asm, lin, rnd, uns, sol, constraint_at, reason_at, Brings}
+use Rattle.vipr_spec.specs.{RestsOn, itself, brought, entries, NamesEarlier, FollowsBy, StepFits}
+use Rattle.vipr_spec.specs.{IsGoodStep, HasGoodSteps, RefersTo, MeetsDual, NeedsGoal, count}
+use Rattle.vipr_spec.specs.{ProvesDual, IsProof, RefersBack, new_index, renumbered_entries}
+use Rattle.vipr_spec.specs.{renumbered_reason, renumbered_at, with_kept, is_nonzero}
+use Rattle.vipr_spec.specs.Certificate.{Certificate}
 use Rattle.vipr_spec.proofs.Prefix.{reason_past, is_derived}
 use Rattle.vipr_spec.proofs.Kept.{index_lt, index_injective}
 use Rattle.vipr_spec.proofs.SmallerSums.{is_there, is_not_zero, not_zero_is, filter_yes, filter_no}

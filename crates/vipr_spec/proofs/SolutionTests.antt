@@ -10,14 +10,11 @@ use Rattle.std.proofs.lemmas.List.FromFn.{length-range_with_len, get_or-range_wi
 use Rattle.std.proofs.lemmas.List.Elements.{All-nil, All-cons, All-head, All-tail, All-append}
 use Rattle.std.proofs.lemmas.List.Elements.{All-map, All-get_or, All-weaker, filter_passes}
 use Rattle.std.proofs.Math.ListN.{length-map}
-use Rattle.vipr_spec.specs.Fraction.{zero_ℚ, IsWhole}
-use Rattle.vipr_spec.specs.Constraint.{IsInteger, Row, at, equal, condition, Constraint, IsTrueAt}
-use Rattle.vipr_spec.specs.Constraint.{ValueFits}
-use Rattle.vipr_spec.specs.Certificate.{Named, Problem, variables, integer_variables, IsFeasible}
-use Rattle.vipr_spec.specs.Certificate.{SolutionFits}
-use Rattle.vipr_spec.specs.Tests.{whole_at, value_fits, holds, objective_fits, given_at}
-use Rattle.vipr_spec.specs.Tests.{PassesSolution, solution_tests}
-use Rattle.vipr_spec.specs.Steps.{FirstFailing}
+use Rattle.vipr_spec.specs.{zero_ℚ, IsWhole, IsInteger, Row, at, equal, condition, IsTrueAt}
+use Rattle.vipr_spec.specs.{ValueFits, Named, Problem, variables, integer_variables, IsFeasible}
+use Rattle.vipr_spec.specs.{SolutionFits, whole_at, value_fits, holds, objective_fits, given_at}
+use Rattle.vipr_spec.specs.{PassesSolution, solution_tests, FirstFailing}
+use Rattle.vipr_spec.specs.Constraint.{Constraint}
 use Rattle.vipr_spec.proofs.FirstFailing.{none_all, all_none, all_parts}
 use Rattle.vipr_spec.proofs.EachTests.{flat_all_of, flat_all}
 

@@ -4,26 +4,20 @@ use Rattle.std.proofs.Common.{length, Option, Some, None, Result, Ok, Err, refl,
 use Rattle.std.proofs.Common.{subst, append_assoc, append-nil, length-append, inl, inr}
 use Rattle.std.specs.Prelude.{◌↔◌}
 use Rattle.vipr_spec.specs.Causes as cause
-use Rattle.vipr_spec.specs.Constraint.{Profile, Row, condition}
-use Rattle.vipr_spec.specs.Certificate.{Named, Problem, Derivation, Certificate, MeetsPrimal, count}
-use Rattle.vipr_spec.specs.Tokens.{Token}
-use Rattle.vipr_spec.specs.Reading.{Rest, Fault, refused, unread, Read, ◌>>=◌, most_count}
-use Rattle.vipr_spec.specs.Reading.{problem_read, solution_read, derivations_read, derivation_read}
-use Rattle.vipr_spec.specs.Reading.{end_read}
-use Rattle.vipr_spec.specs.GrammarLaws.{Reads}
-use Rattle.vipr_spec.specs.FaultLaws.{IsRefusedAt, EndsEarly, FaultsRemain}
-use Rattle.vipr_spec.specs.Steps.{with_more, with_next, StepTest, PassesStep, step_tests}
-use Rattle.vipr_spec.specs.Steps.{step_cause, FirstFailing}
-use Rattle.vipr_spec.specs.Tests.{SolutionTest, PassesSolution, solution_tests, solution_cause}
-use Rattle.vipr_spec.specs.Tests.{of_solution, Test, spelled, meets_primal, of_step, meets_dual}
-use Rattle.vipr_spec.specs.Tests.{Passes, numbered_tests, tests_of_solution, tests_of_derivation}
-use Rattle.vipr_spec.specs.Verdict.{items_read, before_items, Found, last_tests, derivations_found}
-use Rattle.vipr_spec.specs.Verdict.{ending_found, found_in, Place, at_byte, at_solution}
-use Rattle.vipr_spec.specs.Verdict.{at_derivation, at_end, Refusal, Answer, refuses, cut_short}
-use Rattle.vipr_spec.specs.Verdict.{answer_of_test, IsAnswerOfTest, Answers, IsAnswer}
-use Rattle.vipr_spec.specs.RefusalLaws.{EndsAtByte, EndsInDerivations, EndsInSolutions, EndsAt}
-use Rattle.vipr_spec.specs.RefusalLaws.{IsRefusedBy}
-use Rattle.vipr_spec.specs.Progress.{derivations_from, solutions_from}
+use Rattle.vipr_spec.specs.{Profile, Row, condition, Named, Problem, Derivation, MeetsPrimal, count}
+use Rattle.vipr_spec.specs.{Token, Rest, Fault, refused, unread, Read, ◌>>=◌, most_count}
+use Rattle.vipr_spec.specs.{problem_read, solution_read, derivations_read, derivation_read}
+use Rattle.vipr_spec.specs.{end_read, Reads, IsRefusedAt, EndsEarly, FaultsRemain, with_more}
+use Rattle.vipr_spec.specs.{with_next, StepTest, PassesStep, step_tests, step_cause, FirstFailing}
+use Rattle.vipr_spec.specs.{SolutionTest, PassesSolution, solution_tests, solution_cause}
+use Rattle.vipr_spec.specs.{of_solution, Test, spelled, meets_primal, of_step, meets_dual, Passes}
+use Rattle.vipr_spec.specs.{numbered_tests, tests_of_solution, tests_of_derivation, items_read}
+use Rattle.vipr_spec.specs.{before_items, Found, last_tests, derivations_found, ending_found}
+use Rattle.vipr_spec.specs.{found_in, Place, at_byte, at_solution, at_derivation, at_end, Refusal}
+use Rattle.vipr_spec.specs.{Answer, refuses, cut_short, answer_of_test, IsAnswerOfTest, Answers}
+use Rattle.vipr_spec.specs.{IsAnswer, EndsAtByte, EndsInDerivations, EndsInSolutions, EndsAt}
+use Rattle.vipr_spec.specs.{IsRefusedBy, derivations_from, solutions_from}
+use Rattle.vipr_spec.specs.Certificate.{Certificate}
 use Rattle.vipr_spec.proofs.FirstFailing.{failing_parts, failing_unmap}
 use Rattle.vipr_spec.proofs.Steps.{tests_next}
 use Rattle.vipr_spec.proofs.Items.{problem_is, solution_is}

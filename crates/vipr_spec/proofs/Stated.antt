@@ -1,12 +1,10 @@
 -- A text states one problem, with one list of solutions
 use Rattle.std.proofs.Common.{◌≡◌, ℕ, List, [], length, Ok, refl, sym, ◌∙◌, ap, append-nil}
-use Rattle.vipr_spec.specs.Constraint.{Row}
-use Rattle.vipr_spec.specs.Tokens.{text_tokens}
-use Rattle.vipr_spec.specs.Certificate.{Named, Problem, variables, Certificate}
-use Rattle.vipr_spec.specs.Reading.{Rest, Read, ◌>>=◌, read_each, problem_read, solution_read}
+use Rattle.vipr_spec.specs.{Row, text_tokens, Named, Problem, variables, Rest, Read, ◌>>=◌}
+use Rattle.vipr_spec.specs.{read_each, problem_read, solution_read, ReadsFront, whole_text, States}
+use Rattle.vipr_spec.specs.{StatesOnly}
+use Rattle.vipr_spec.specs.Certificate.{Certificate}
 use Rattle.vipr_spec.specs.Grammar.{◌then◌, problem, solution, solutions, Spells}
-use Rattle.vipr_spec.specs.GrammarLaws.{ReadsFront, whole_text}
-use Rattle.vipr_spec.specs.Stated.{States, StatesOnly}
 use Rattle.vipr_spec.proofs.GrammarSteps.{ok_then, same_ok, read_then, parted}
 use Rattle.vipr_spec.proofs.GrammarParts.{repeated_complete}
 use Rattle.vipr_spec.proofs.Items.{problem_is, solution_is}

@@ -11,14 +11,12 @@ use Rattle.std.proofs.lemmas.List.{map-append}
 use Rattle.std.proofs.lemmas.List.Elements.{All-from_recursion, recursion_from_All, All-nil}
 use Rattle.std.proofs.lemmas.List.Elements.{All-cons, All-head, All-tail, All-append, All-weaker}
 use Rattle.std.proofs.lemmas.List.Elements.{All-contains, Contains-get_or}
-use Rattle.vipr_spec.specs.Fraction.{ℚ, zero_ℚ}
-use Rattle.vipr_spec.specs.Constraint.{Profile, Sense, Condition, Entry, HasSense, SumOfFits}
-use Rattle.vipr_spec.specs.Certificate.{Reason, asm, lin, rnd, uns, sol, Certificate, constraint_at}
-use Rattle.vipr_spec.specs.Certificate.{entries, is_live, count, IsGoodStep}
-use Rattle.vipr_spec.specs.Reading.{is_nonzero}
-use Rattle.vipr_spec.specs.Steps.{StepTest, earlier, live, suitable, fitting, roundable, listed}
-use Rattle.vipr_spec.specs.Steps.{by_sum, by_rounding, PassesStep, reference_tests, entry_tests}
-use Rattle.vipr_spec.specs.Steps.{sum_tests, step_tests, FirstFailing}
+use Rattle.vipr_spec.specs.{ℚ, zero_ℚ, Profile, Sense, Condition, Entry, HasSense, SumOfFits}
+use Rattle.vipr_spec.specs.{Reason, asm, lin, rnd, uns, sol, constraint_at, entries, is_live, count}
+use Rattle.vipr_spec.specs.{IsGoodStep, is_nonzero, StepTest, earlier, live, suitable, fitting}
+use Rattle.vipr_spec.specs.{roundable, listed, by_sum, by_rounding, PassesStep, reference_tests}
+use Rattle.vipr_spec.specs.{entry_tests, sum_tests, step_tests, FirstFailing}
+use Rattle.vipr_spec.specs.Certificate.{Certificate}
 use Rattle.vipr_spec.proofs.Fractions.{is_zero, Is, zero_from_numer}
 use Rattle.vipr_spec.proofs.MoreEntries.{suitable_front, fitting_front}
 use Rattle.vipr_spec.proofs.FirstFailing.{none_all, all_none, all_parts}

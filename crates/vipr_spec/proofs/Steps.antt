@@ -4,16 +4,13 @@ use Rattle.std.proofs.Common.{Some, None, All, arith, refl, sym, ◌∙◌, ap, 
 use Rattle.std.specs.Prelude.{◌↔◌}
 use Rattle.std.proofs.lemmas.Bool.{cases_lt}
 use Rattle.std.proofs.lemmas.List.Elements.{All-contains}
-use Rattle.vipr_spec.specs.Fraction.{ℚ}
-use Rattle.vipr_spec.specs.Constraint.{Profile, Condition, condition, IsTrueAt}
-use Rattle.vipr_spec.specs.Certificate.{variables, Reason, asm, lin, rnd, uns, sol, Derivation}
-use Rattle.vipr_spec.specs.Certificate.{Certificate, Known, constraint_at, reason_at, RestsOn}
-use Rattle.vipr_spec.specs.Certificate.{itself, brought, count, NamesEarlier, RefersTo, IsGoodStep}
-use Rattle.vipr_spec.specs.Certificate.{HasGoodSteps, FollowsBy}
-use Rattle.vipr_spec.specs.Steps.{with_more, with_next, before, StepTest, PassesStep, step_tests}
-use Rattle.vipr_spec.specs.Steps.{FirstFailing, IsGoodNext, PassesSteps, RefersBack, SomeRestsOn}
-use Rattle.vipr_spec.specs.Steps.{RestsBy}
-use Rattle.vipr_spec.specs.Soundness.{IsTrueOf, IsSound}
+use Rattle.vipr_spec.specs.{ℚ, Profile, Condition, condition, IsTrueAt, variables, Reason, asm, lin}
+use Rattle.vipr_spec.specs.{rnd, uns, sol, Derivation, Known, constraint_at, reason_at, RestsOn}
+use Rattle.vipr_spec.specs.{itself, brought, count, NamesEarlier, RefersTo, IsGoodStep}
+use Rattle.vipr_spec.specs.{HasGoodSteps, FollowsBy, with_more, with_next, before, StepTest}
+use Rattle.vipr_spec.specs.{PassesStep, step_tests, FirstFailing, IsGoodNext, PassesSteps}
+use Rattle.vipr_spec.specs.{RefersBack, SomeRestsOn, RestsBy, IsTrueOf, IsSound}
+use Rattle.vipr_spec.specs.Certificate.{Certificate}
 use Rattle.vipr_spec.proofs.Prefix.{known_before, known_next, reason_next, reason_given, is_derived}
 use Rattle.vipr_spec.proofs.Prefix.{count_next, before_count, before_stays, before_more, known_in}
 use Rattle.vipr_spec.proofs.Prefix.{Alike, holding, brings_earlier, good_alike, follows_alike}

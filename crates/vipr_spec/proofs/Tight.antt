@@ -6,19 +6,15 @@ use Rattle.std.proofs.Common.{refl, sym, ◌∙◌, ap, ap₂, subst, inl, inr, 
 use Rattle.std.proofs.lemmas.Bool.{cases_Bool, cases_lt, both_ways}
 use Rattle.std.proofs.lemmas.List.{nil_from_length}
 use Rattle.std.proofs.lemmas.List.Elements.{All-head, All-tail}
-use Rattle.vipr_spec.specs.Fraction.{ℚ}
-use Rattle.vipr_spec.specs.Constraint.{Profile, Condition}
-use Rattle.vipr_spec.specs.Certificate.{Problem, Claim, infeasible, range, dual_bound, MeetsDual}
-use Rattle.vipr_spec.specs.Certificate.{constraint_at, Reason, asm, lin, rnd, uns, sol, Derivation}
-use Rattle.vipr_spec.specs.Certificate.{Certificate, reason_at, NamesEarlier, RefersTo, is_live}
-use Rattle.vipr_spec.specs.Certificate.{NeedsGoal, count, ProvesDual, IsProof, GoalIs, IsNeeded}
-use Rattle.vipr_spec.specs.Certificate.{the_goal, referred_to}
-use Rattle.vipr_spec.specs.Steps.{RefersBack}
-use Rattle.vipr_spec.specs.Tightened.{is_kept, kept_of, new_index, renumbered_entries}
-use Rattle.vipr_spec.specs.Tightened.{renumbered_reason, renumbered_at, with_new_indices}
-use Rattle.vipr_spec.specs.Tightened.{with_last_references, tightened_certificate, new_goal}
-use Rattle.vipr_spec.specs.Tightened.{IsNeededFor}
-use Rattle.vipr_spec.specs.Reading.{is_nonzero}
+use Rattle.vipr_spec.specs.{ℚ, Profile, Condition, Problem, Claim, infeasible, range, dual_bound}
+use Rattle.vipr_spec.specs.{MeetsDual, constraint_at, Reason, asm, lin, rnd, uns, sol, Derivation}
+use Rattle.vipr_spec.specs.{reason_at, NamesEarlier, RefersTo, is_live, NeedsGoal, count}
+use Rattle.vipr_spec.specs.{ProvesDual, IsProof, GoalIs, IsNeeded, the_goal, referred_to}
+use Rattle.vipr_spec.specs.{RefersBack, is_kept, kept_of, new_index, renumbered_entries}
+use Rattle.vipr_spec.specs.{renumbered_reason, renumbered_at, with_new_indices}
+use Rattle.vipr_spec.specs.{with_last_references, tightened_certificate, new_goal, IsNeededFor}
+use Rattle.vipr_spec.specs.{is_nonzero}
+use Rattle.vipr_spec.specs.Certificate.{Certificate}
 use Rattle.vipr_spec.proofs.Kept.{index_mono, index_same, kept_all}
 use Rattle.vipr_spec.proofs.SmallerSums.{filter_yes, filter_no}
 use Rattle.vipr_spec.proofs.References.{reason_in, with_again}

@@ -7,11 +7,10 @@ use Rattle.std.specs.List.{range_with_len, count_by, fold}
 use Rattle.std.proofs.lemmas.List.Sums.{sum_by-append}
 use Rattle.std.proofs.lemmas.Bool.{cases_Bool, cases_lt, and_parts, and_from, or_cases, or_left}
 use Rattle.std.proofs.lemmas.Bool.{or_right}
-use Rattle.vipr_spec.specs.Constraint.{Profile}
-use Rattle.vipr_spec.specs.Certificate.{Reason, asm, lin, rnd, uns, sol, Certificate, reason_at}
-use Rattle.vipr_spec.specs.Certificate.{last_at, is_assumption, lasts_to, is_live, count_held, peak}
-use Rattle.vipr_spec.specs.Certificate.{RefersTo, IsProof, IsNeeded}
-use Rattle.vipr_spec.specs.Tightened.{is_kept, new_index, renumbered_at, tightened_certificate}
+use Rattle.vipr_spec.specs.{Profile, Reason, asm, lin, rnd, uns, sol, reason_at, last_at}
+use Rattle.vipr_spec.specs.{is_assumption, lasts_to, is_live, count_held, peak, RefersTo, IsProof}
+use Rattle.vipr_spec.specs.{IsNeeded, is_kept, new_index, renumbered_at, tightened_certificate}
+use Rattle.vipr_spec.specs.Certificate.{Certificate}
 use Rattle.vipr_spec.proofs.Kept.{index_yes, index_no, index_mono, index_lt, index_lt_back}
 use Rattle.vipr_spec.proofs.Kept.{index_injective}
 use Rattle.vipr_spec.proofs.Marked.{back_at, needed_cases, needed_below, kept_given, kept_closed}

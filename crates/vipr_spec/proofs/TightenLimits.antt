@@ -9,15 +9,13 @@ use Rattle.std.proofs.lemmas.List.Elements.{All-head, All-tail, All-cons, All-ni
 use Rattle.std.proofs.lemmas.List.Elements.{All-weaker, All-filter}
 use Rattle.std.proofs.lemmas.List.Sums.{length-filter, count_by-le-length}
 use Rattle.std.specs.List.{count_by}
-use Rattle.vipr_spec.specs.Fraction.{ℚ}
-use Rattle.vipr_spec.specs.Reading.{is_nonzero, most_count}
-use Rattle.vipr_spec.specs.Shape.{ReasonShape, DerivationShape, EntryFits, ReasonFits}
-use Rattle.vipr_spec.specs.Shape.{DerivationFits, CanWrite}
-use Rattle.vipr_spec.specs.Certificate.{variables, Reason, asm, lin, rnd, uns, sol, Derivation}
-use Rattle.vipr_spec.specs.Certificate.{Certificate, count}
-use Rattle.vipr_spec.specs.Tightened.{is_kept, kept_of, new_index, renumbered_entries, refers_to}
-use Rattle.vipr_spec.specs.Tightened.{or_else, renumbered_reason, with_new_indices, last_reference}
-use Rattle.vipr_spec.specs.Tightened.{with_last_references, tightened_certificate}
+use Rattle.vipr_spec.specs.{ℚ, is_nonzero, most_count, ReasonShape, DerivationShape, EntryFits}
+use Rattle.vipr_spec.specs.{ReasonFits, DerivationFits, CanWrite, variables, Reason, asm, lin, rnd}
+use Rattle.vipr_spec.specs.{uns, sol, Derivation, count, is_kept, kept_of, new_index}
+use Rattle.vipr_spec.specs.{renumbered_entries, refers_to, or_else, renumbered_reason}
+use Rattle.vipr_spec.specs.{with_new_indices, last_reference, with_last_references}
+use Rattle.vipr_spec.specs.{tightened_certificate}
+use Rattle.vipr_spec.specs.Certificate.{Certificate}
 use Rattle.vipr_spec.proofs.Kept.{index_le, index_same, length_kept, length_kept_derivations}
 
 All-kept : {A : Type 0} (P : A → Type 0) (keep : ℕ → Bool) (k : ℕ) (xs : List A) → All P xs

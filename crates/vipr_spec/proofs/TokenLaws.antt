@@ -8,7 +8,7 @@ use Rattle.std.proofs.lemmas.List.Sums.{prefix_len_is, prefix_len_stops, prefix_
 use Rattle.std.proofs.lemmas.Bool.{cases_lt, cases_eq, false≢true, ne_eqb, eq-eqb, le-leb, leb-true}
 use Rattle.std.proofs.lemmas.Bool.{false_from_ne_true}
 use Rattle.std.proofs.lemmas.List.{length-take-le, take-take, drop_all, take_all}
-use Rattle.vipr_spec.specs.Tokens.{Token, is_white, run, is_cut, token_here, tokens_from}
+use Rattle.vipr_spec.specs.{Token, is_white, run, is_cut, token_here, tokens_from}
 
 -- from inside a run, the tokens are those behind it
 pub inside_run : (fails : Bool) (offset : ℕ) (xs : List ℕ) (n : ℕ) → n ≤ length xs →

@@ -8,9 +8,9 @@ use Rattle.std.proofs.lemmas.List.Elements.{All-nil, All-cons}
 use Rattle.std.proofs.Math.Seq.{take-append_seam, drop-append_seam, get_or-append_right}
 use Rattle.std.proofs.Math.ListN.{get_or-append}
 use Rattle.std.proofs.lemmas.Bool.{false≢true, cases_eq, ne_eqb, eqb-false, eqb-true}
-use Rattle.vipr_spec.specs.Tokens.{Token, is_white, run, is_cut, token_here, tokens_from}
-use Rattle.vipr_spec.specs.Tokens.{tokens_after_front, text_tokens, Begins, IsWhite, IsComment}
-use Rattle.vipr_spec.specs.Tokens.{IsBlank, IsFrontEnd, IsFront, AreSpread, AreTokens}
+use Rattle.vipr_spec.specs.{Token, is_white, run, is_cut, token_here, tokens_from}
+use Rattle.vipr_spec.specs.{tokens_after_front, text_tokens, Begins, IsWhite, IsComment, IsBlank}
+use Rattle.vipr_spec.specs.{IsFrontEnd, IsFront, AreSpread, AreTokens}
 use Rattle.vipr_spec.proofs.TokenLaws.{run_is, token_whole}
 
 -- ---- no other list

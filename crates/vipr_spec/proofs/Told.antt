@@ -4,19 +4,16 @@ use Rattle.std.proofs.Common.{Result, Ok, Err, arith, refl, sym, ◌∙◌, ap, 
 use Rattle.std.proofs.Common.{append-nil, inl, inr}
 use Rattle.std.specs.Prelude.{◌↔◌}
 use Rattle.std.proofs.lemmas.List.{length-append}
-use Rattle.vipr_spec.specs.Constraint.{Profile, Row, condition}
-use Rattle.vipr_spec.specs.Certificate.{Named, Problem, Derivation, Certificate, MeetsPrimal, count}
-use Rattle.vipr_spec.specs.Reading.{Rest, Fault, ◌>>=◌, problem_read, solution_read}
-use Rattle.vipr_spec.specs.Reading.{derivations_read, derivation_read, end_read}
-use Rattle.vipr_spec.specs.Steps.{with_more, with_next, StepTest, PassesStep, step_tests}
-use Rattle.vipr_spec.specs.Steps.{FirstFailing}
-use Rattle.vipr_spec.specs.Tests.{SolutionTest, PassesSolution, solution_tests, of_solution, Test}
-use Rattle.vipr_spec.specs.Tests.{spelled, meets_primal, of_step, meets_dual, Passes}
-use Rattle.vipr_spec.specs.Tests.{numbered_tests, tests_of_solution, tests_of_derivation}
-use Rattle.vipr_spec.specs.Verdict.{before_items, items_read, Found, last_tests, derivations_found}
-use Rattle.vipr_spec.specs.Verdict.{ending_found, problem_found, found_in, Answer}
-use Rattle.vipr_spec.specs.Verdict.{IsAnswerOfTest}
-use Rattle.vipr_spec.specs.Progress.{derivations_from, solutions_from}
+use Rattle.vipr_spec.specs.{Profile, Row, condition, Named, Problem, Derivation, MeetsPrimal, count}
+use Rattle.vipr_spec.specs.{Rest, Fault, ◌>>=◌, problem_read, solution_read, derivations_read}
+use Rattle.vipr_spec.specs.{derivation_read, end_read, with_more, with_next, StepTest, PassesStep}
+use Rattle.vipr_spec.specs.{step_tests, FirstFailing, SolutionTest, PassesSolution, solution_tests}
+use Rattle.vipr_spec.specs.{of_solution, Test, spelled, meets_primal, of_step, meets_dual, Passes}
+use Rattle.vipr_spec.specs.{numbered_tests, tests_of_solution, tests_of_derivation, before_items}
+use Rattle.vipr_spec.specs.{items_read, Found, last_tests, derivations_found, ending_found}
+use Rattle.vipr_spec.specs.{problem_found, found_in, Answer, IsAnswerOfTest, derivations_from}
+use Rattle.vipr_spec.specs.{solutions_from}
+use Rattle.vipr_spec.specs.Certificate.{Certificate}
 use Rattle.vipr_spec.proofs.FirstFailing.{failing_unique, failing_first, failing_second}
 use Rattle.vipr_spec.proofs.FirstFailing.{failing_after, failing_map}
 use Rattle.vipr_spec.proofs.Prefix.{count_next, more_next}

@@ -4,19 +4,16 @@ use Rattle.std.proofs.Common.{None, Result, Ok, Err, All, Contains, refl, sym, �
 use Rattle.std.proofs.Common.{zero-lt-suc}
 use Rattle.std.specs.Prelude.{◌↔◌}
 use Rattle.std.proofs.lemmas.List.Elements.{All-contains, Contains-append_right}
-use Rattle.vipr_spec.specs.Constraint.{Profile, IsInteger, Row}
-use Rattle.vipr_spec.specs.Certificate.{Named, Problem, variables, Derivation, Certificate, IsProof}
-use Rattle.vipr_spec.specs.Reading.{Rest, Fault, Read, ◌>>=◌, read_each, problem_read}
-use Rattle.vipr_spec.specs.Reading.{solution_read, derivations_read, derivation_read, end_read}
-use Rattle.vipr_spec.specs.Reading.{certificate_read}
+use Rattle.vipr_spec.specs.{Profile, IsInteger, Row, Named, Problem, variables, Derivation, IsProof}
+use Rattle.vipr_spec.specs.{Rest, Fault, Read, ◌>>=◌, read_each, problem_read, solution_read}
+use Rattle.vipr_spec.specs.{derivations_read, derivation_read, end_read, certificate_read}
+use Rattle.vipr_spec.specs.{whole_text, FirstFailing, Test, spelled, meets_primal, meets_dual}
+use Rattle.vipr_spec.specs.{Passes, numbered_tests, tests_of_solution, tests_of_derivation}
+use Rattle.vipr_spec.specs.{before_items, items_read, Found, last_tests, derivations_found}
+use Rattle.vipr_spec.specs.{ending_found, problem_found, found_in, Report, Reports, Answer}
+use Rattle.vipr_spec.specs.{verified, IsAnswerOfTest, IsAnswer}
+use Rattle.vipr_spec.specs.Certificate.{Certificate}
 use Rattle.vipr_spec.specs.Grammar.{Spells}
-use Rattle.vipr_spec.specs.GrammarLaws.{whole_text}
-use Rattle.vipr_spec.specs.Steps.{FirstFailing}
-use Rattle.vipr_spec.specs.Tests.{Test, spelled, meets_primal, meets_dual, Passes, numbered_tests}
-use Rattle.vipr_spec.specs.Tests.{tests_of_solution, tests_of_derivation}
-use Rattle.vipr_spec.specs.Verdict.{before_items, items_read, Found, last_tests, derivations_found}
-use Rattle.vipr_spec.specs.Verdict.{ending_found, problem_found, found_in, Report, Reports, Answer}
-use Rattle.vipr_spec.specs.Verdict.{verified, IsAnswerOfTest, IsAnswer}
 use Rattle.vipr_spec.proofs.FirstFailing.{none_all, all_none, failing_unique}
 use Rattle.vipr_spec.proofs.AllTests.{proof_of_tests, tests_of_proof}
 use Rattle.vipr_spec.proofs.GrammarWhole.{reads_texts, integers_read_below}

@@ -1,7 +1,7 @@
 //! Fractions are what they are said to be.
 
 ghost use Rattle.std.specs.Prelude.{◌≡◌, ◌↔◌, ℕ, ◌*◌, ◌<◌, List, map, ℤ, pos, ◌+ℤ◌, ◌*ℤ◌, ◌≤ℤ◌};
-ghost use Rattle.vipr_spec.specs.Fraction.{ℚ, over, ◌+ℚ◌, ◌*ℚ◌, ◌≤ℚ◌, IsWhole};
+ghost use Rattle.vipr_spec.specs.{ℚ, over, ◌+ℚ◌, ◌*ℚ◌, ◌≤ℚ◌, IsWhole};
 
 /// Fractions are equal, ordered, added and multiplied by cross products.
 pub fn cross_products()

@@ -1,15 +1,11 @@
 //! One pass over the derivations: what a checker keeps stays so, and decides the answer at the end.
 
 ghost use Rattle.std.specs.Prelude.{◌≡◌, ℕ, max, List, Option, None, IsSome, Ok};
-ghost use Rattle.vipr_spec.specs.Constraint.{Profile, Row};
-ghost use Rattle.vipr_spec.specs.Certificate.{Named, Problem, Derivation, Certificate, NeedsGoal};
-ghost use Rattle.vipr_spec.specs.Certificate.{count_held, count};
-ghost use Rattle.vipr_spec.specs.Reading.{Rest, end_read};
-ghost use Rattle.vipr_spec.specs.Steps.{with_next, IsGoodNext};
-ghost use Rattle.vipr_spec.specs.Tests.{meets_dual};
-ghost use Rattle.vipr_spec.specs.Verdict.{verified, answer_of_test, Answers};
-ghost use Rattle.vipr_spec.specs.Progress.{derivations_from};
-ghost use Rattle.vipr_spec.specs.Checking.{start, IsChecked, IsFirstMet, NextGoal, report_from};
+ghost use Rattle.vipr_spec.specs.{Profile, Row, Named, Problem, Derivation, NeedsGoal, count_held};
+ghost use Rattle.vipr_spec.specs.{count, Rest, end_read, with_next, IsGoodNext, meets_dual};
+ghost use Rattle.vipr_spec.specs.{verified, answer_of_test, Answers, derivations_from, start};
+ghost use Rattle.vipr_spec.specs.{IsChecked, IsFirstMet, NextGoal, report_from};
+ghost use Rattle.vipr_spec.specs.Certificate.{Certificate};
 
 /// The goal of the problem's constraints is there at the start; the next derivation, if it can come
 /// next, may be the goal, and raises the peak to what is held after it.

@@ -1,13 +1,11 @@
 //! Laws of the format: what is read from a text is what the grammar says that it spells.
 
 ghost use Rattle.std.specs.Prelude.{ℕ, List};
+ghost use Rattle.vipr_spec.specs.{StatesOnly, ReadsNaturals, KindsOfToken, KindsOfNumber};
+ghost use Rattle.vipr_spec.specs.{ItemReadings, ReadsCertificates, ReadsTexts, OneCertificate};
 ghost use Rattle.vipr_spec.specs.Certificate.{Certificate};
 ghost use Rattle.vipr_spec.specs.Grammar.{Spells};
-ghost use Rattle.vipr_spec.specs.Stated.{StatesOnly};
 ghost use Rattle.vipr_spec.specs.ExampleText.{example_text, example_certificate};
-ghost use Rattle.vipr_spec.specs.GrammarLaws.{ReadsNaturals, KindsOfToken, KindsOfNumber};
-ghost use Rattle.vipr_spec.specs.GrammarLaws.{ItemReadings, ReadsCertificates};
-ghost use Rattle.vipr_spec.specs.GrammarLaws.{ReadsTexts, OneCertificate};
 
 /// Digits write the number that they spell, and nothing else writes one.
 pub fn naturals()

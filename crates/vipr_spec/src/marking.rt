@@ -2,10 +2,8 @@
 
 ghost use Rattle.std.specs.Prelude.{◌↔◌, ℕ, ◌<◌, ◌≤◌, ◌⊎◌, IsTrue};
 ghost use Rattle.std.specs.Prelude.{[], length, Option};
-ghost use Rattle.vipr_spec.specs.Certificate.{Certificate, reason_at, RefersTo};
-ghost use Rattle.vipr_spec.specs.Steps.{RefersBack};
-ghost use Rattle.vipr_spec.specs.Tightened.{is_marked, is_kept};
-ghost use Rattle.vipr_spec.specs.Tightened.{IsNeededFor};
+ghost use Rattle.vipr_spec.specs.{reason_at, RefersTo, RefersBack, is_marked, is_kept, IsNeededFor};
+ghost use Rattle.vipr_spec.specs.Certificate.{Certificate};
 
 /// Among the derived constraints those that are marked are those that the goal needs.
 /// What is kept is these and the constraints of the problem, and all that it refers to.

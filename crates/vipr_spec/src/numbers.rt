@@ -1,7 +1,6 @@
 //! Laws of numbers as they are written.
 ghost use Rattle.std.specs.Prelude.{◌≡◌, ◌↔◌, ℕ, ◌≤◌, List, length, Ok};
-ghost use Rattle.vipr_spec.specs.Fraction.{ℚ, IsBounded};
-ghost use Rattle.vipr_spec.specs.Number.{SpellsNumber, number_read, number_text};
+ghost use Rattle.vipr_spec.specs.{ℚ, IsBounded, SpellsNumber, number_read, number_text};
 
 /// What is read as a number is what the bytes spell, no bytes spell two numbers, and what is
 /// written spells the number.

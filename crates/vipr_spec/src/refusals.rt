@@ -3,28 +3,23 @@
 ghost use Rattle.std.specs.Prelude.{◌≡◌, ℕ, List, ◌-◌, ◌<◌, length, Option, Some, None, Ok, Err};
 ghost use Rattle.std.specs.Prelude.{Contains};
 ghost use Rattle.vipr_spec.specs.Causes as cause;
-ghost use Rattle.vipr_spec.specs.Fraction.{ℚ};
-ghost use Rattle.vipr_spec.specs.Constraint.{Row, at, Condition, at_least, at_most, value};
-ghost use Rattle.vipr_spec.specs.Certificate.{Name, minimum, maximum, infeasible, range, Problem};
-ghost use Rattle.vipr_spec.specs.Certificate.{variables, Certificate, constraint_at};
-ghost use Rattle.vipr_spec.specs.Certificate.{objective_constraint};
-ghost use Rattle.vipr_spec.specs.Digits.{natural_of};
-ghost use Rattle.vipr_spec.specs.Number.{number_read, not_a_number, too_large, zero_denominator};
-ghost use Rattle.vipr_spec.specs.Reading.{refused, unread, most_count, count_of, last_of, rule_of};
-ghost use Rattle.vipr_spec.specs.Reading.{derivation_count_of, number_of, variable_of};
-ghost use Rattle.vipr_spec.specs.Reading.{new_variable_of, spelled_sense, spelled_direction};
-ghost use Rattle.vipr_spec.specs.Reading.{has_range_of, reference_of};
-ghost use Rattle.vipr_spec.specs.Steps.{earlier, live, assumed, suitable, fitting, roundable};
-ghost use Rattle.vipr_spec.specs.Steps.{split, listed, by_sum, by_rounding, by_constraint};
-ghost use Rattle.vipr_spec.specs.Steps.{by_cutoff, StepTest, step_cause, Shows, IsSum, index};
-ghost use Rattle.vipr_spec.specs.Steps.{position, sum, both, compared, nothing};
-ghost use Rattle.vipr_spec.specs.Tests.{whole_at, value_fits, holds, objective_fits, SolutionTest};
-ghost use Rattle.vipr_spec.specs.Tests.{given_at, spelled, of_solution, meets_primal, of_step};
-ghost use Rattle.vipr_spec.specs.Tests.{meets_dual, not_whole, breaks, overflows, no_proof};
-ghost use Rattle.vipr_spec.specs.Tests.{name_at, names_of, solution_detail, solution_cause};
-ghost use Rattle.vipr_spec.specs.Tests.{goal_needed_by, finite_primal, Explains, none};
-ghost use Rattle.vipr_spec.specs.Verdict.{at_byte, at_solution, at_derivation, at_end, refuses};
-ghost use Rattle.vipr_spec.specs.Verdict.{cut_short, answer_of_test};
+ghost use Rattle.vipr_spec.specs.{ℚ, Row, at, Condition, at_least, at_most, value, Name, minimum};
+ghost use Rattle.vipr_spec.specs.{maximum, infeasible, range, Problem, variables, constraint_at};
+ghost use Rattle.vipr_spec.specs.{objective_constraint, natural_of, number_read, not_a_number};
+ghost use Rattle.vipr_spec.specs.{too_large, zero_denominator, refused, unread, most_count};
+ghost use Rattle.vipr_spec.specs.{count_of, last_of, rule_of, derivation_count_of, number_of};
+ghost use Rattle.vipr_spec.specs.{variable_of, new_variable_of, spelled_sense, spelled_direction};
+ghost use Rattle.vipr_spec.specs.{has_range_of, reference_of, earlier, live, assumed, suitable};
+ghost use Rattle.vipr_spec.specs.{fitting, roundable, split, listed, by_sum, by_rounding};
+ghost use Rattle.vipr_spec.specs.{by_constraint, by_cutoff, StepTest, step_cause, Shows, IsSum};
+ghost use Rattle.vipr_spec.specs.{index, position, sum, both, compared, nothing, whole_at};
+ghost use Rattle.vipr_spec.specs.{value_fits, holds, objective_fits, SolutionTest, given_at};
+ghost use Rattle.vipr_spec.specs.{spelled, of_solution, meets_primal, of_step, meets_dual};
+ghost use Rattle.vipr_spec.specs.{not_whole, breaks, overflows, no_proof, name_at, names_of};
+ghost use Rattle.vipr_spec.specs.{solution_detail, solution_cause, goal_needed_by, finite_primal};
+ghost use Rattle.vipr_spec.specs.{Explains, none, at_byte, at_solution, at_derivation, at_end};
+ghost use Rattle.vipr_spec.specs.{refuses, cut_short, answer_of_test};
+ghost use Rattle.vipr_spec.specs.Certificate.{Certificate};
 
 /// The numbers of the causes that a token has.
 pub fn causes_of_tokens()

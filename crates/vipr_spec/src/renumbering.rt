@@ -3,12 +3,10 @@
 ghost use Rattle.std.specs.Prelude.{◌≡◌, ◌↔◌, ℕ, ◌<◌, ◌≤◌, IsTrue};
 ghost use Rattle.std.specs.Prelude.{[], map, length};
 ghost use Rattle.std.specs.Prelude.{Option, Some, None};
-ghost use Rattle.vipr_spec.specs.Certificate.{Certificate, constraint_at, reason_at};
-ghost use Rattle.vipr_spec.specs.Certificate.{last_at, RefersTo, count};
-ghost use Rattle.vipr_spec.specs.Steps.{RefersBack};
-ghost use Rattle.vipr_spec.specs.Tightened.{is_kept, kept_of};
-ghost use Rattle.vipr_spec.specs.Tightened.{tightened_index, renumbered_at};
-ghost use Rattle.vipr_spec.specs.Tightened.{tightened_certificate, new_goal};
+ghost use Rattle.vipr_spec.specs.{constraint_at, reason_at, last_at, RefersTo, count, RefersBack};
+ghost use Rattle.vipr_spec.specs.{is_kept, kept_of, tightened_index, renumbered_at};
+ghost use Rattle.vipr_spec.specs.{tightened_certificate, new_goal};
+ghost use Rattle.vipr_spec.specs.Certificate.{Certificate};
 
 /// New indices rise, leave no gap, and are the old ones for the constraints of the problem.
 pub fn new_indices()

@@ -1,14 +1,11 @@
 //! What makes a derivation good, reason by reason.
 
 ghost use Rattle.std.specs.Prelude.{◌≡◌, ◌↔◌, ℕ, ◌<◌, IsTrue, List, [], ◌∷◌, Some, All};
-ghost use Rattle.vipr_spec.specs.Fraction.{ℚ};
-ghost use Rattle.vipr_spec.specs.Constraint.{Profile, Sense, Condition, HasSense, SumOfFits};
-ghost use Rattle.vipr_spec.specs.Constraint.{sum_of, Dominates, DominatesRounded, IsWholeRow};
-ghost use Rattle.vipr_spec.specs.Constraint.{IsSplit, Row};
-ghost use Rattle.vipr_spec.specs.Certificate.{Named, asm, lin, rnd, uns, sol, Certificate, entries};
-ghost use Rattle.vipr_spec.specs.Certificate.{constraint_at, reason_at, is_live, IsBest, cutoff};
-ghost use Rattle.vipr_spec.specs.Certificate.{IsGoodStep};
-ghost use Rattle.vipr_spec.specs.Rules.{AreUsable};
+ghost use Rattle.vipr_spec.specs.{ℚ, Profile, Sense, Condition, HasSense, SumOfFits, sum_of};
+ghost use Rattle.vipr_spec.specs.{Dominates, DominatesRounded, IsWholeRow, IsSplit, Row, Named};
+ghost use Rattle.vipr_spec.specs.{asm, lin, rnd, uns, sol, entries, constraint_at, reason_at};
+ghost use Rattle.vipr_spec.specs.{is_live, IsBest, cutoff, IsGoodStep, AreUsable};
+ghost use Rattle.vipr_spec.specs.Certificate.{Certificate};
 
 /// An assumption is always good. A sum names what is there, fits, has a sense and dominates what is
 /// stated, or does so once it is rounded. Two branches and their assumptions are there; the

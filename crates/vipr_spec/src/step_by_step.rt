@@ -2,13 +2,11 @@
 
 ghost use Rattle.std.specs.Prelude.{◌≡◌, ◌↔◌, ℕ, ◌+◌, ◌<◌, List, [], ◌∷◌, ◌++◌, map};
 ghost use Rattle.std.specs.Prelude.{slice_index_or, Option, Some, None};
-ghost use Rattle.vipr_spec.specs.Fraction.{zero_ℚ};
-ghost use Rattle.vipr_spec.specs.Constraint.{equal, Profile, Condition, condition};
-ghost use Rattle.vipr_spec.specs.Certificate.{Reason, Derivation, Certificate};
-ghost use Rattle.vipr_spec.specs.Certificate.{constraint_at, reason_at, last_at};
-ghost use Rattle.vipr_spec.specs.Certificate.{count, IsGoodStep, HasGoodSteps};
-ghost use Rattle.vipr_spec.specs.Steps.{StepTest, PassesStep, step_tests, FirstFailing, with_more};
-ghost use Rattle.vipr_spec.specs.Steps.{before, IsGoodNext, PassesSteps};
+ghost use Rattle.vipr_spec.specs.{zero_ℚ, equal, Profile, Condition, condition, Reason, Derivation};
+ghost use Rattle.vipr_spec.specs.{constraint_at, reason_at, last_at, count, IsGoodStep};
+ghost use Rattle.vipr_spec.specs.{HasGoodSteps, StepTest, PassesStep, step_tests, FirstFailing};
+ghost use Rattle.vipr_spec.specs.{with_more, before, IsGoodNext, PassesSteps};
+ghost use Rattle.vipr_spec.specs.Certificate.{Certificate};
 
 /// What is known of a constraint, field by field: first the problem's constraints, and then the
 /// derivations.

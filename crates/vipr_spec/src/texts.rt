@@ -1,7 +1,7 @@
 //! A text has one way to be split into tokens.
 
 ghost use Rattle.std.specs.Prelude.{◌≡◌, ℕ, List};
-ghost use Rattle.vipr_spec.specs.Tokens.{Token, text_tokens, AreTokens};
+ghost use Rattle.vipr_spec.specs.{Token, text_tokens, AreTokens};
 
 /// A text is a front and its tokens, and no other list of tokens makes it up.
 pub fn tokens_are_one()

@@ -3,13 +3,10 @@
 ghost use Rattle.std.specs.Prelude.{◌≡◌, ℕ, ◌+◌, ◌<◌, ◌≤◌, not, IsTrue, [], length};
 ghost use Rattle.std.specs.Prelude.{count_by, Option, Some, None};
 ghost use Rattle.std.specs.List.{range_with_len};
-ghost use Rattle.vipr_spec.specs.Constraint.{Profile};
-ghost use Rattle.vipr_spec.specs.Certificate.{Certificate, count, count_held, peak, IsProof};
-ghost use Rattle.vipr_spec.specs.Certificate.{GoalIs, NeedsGoal};
-ghost use Rattle.vipr_spec.specs.Steps.{RefersBack};
-ghost use Rattle.vipr_spec.specs.Shape.{CanWrite};
-ghost use Rattle.vipr_spec.specs.Tightened.{is_kept, tightened_index, tightened_certificate};
-ghost use Rattle.vipr_spec.specs.Tightened.{new_goal, IsNeededFor};
+ghost use Rattle.vipr_spec.specs.{Profile, count, count_held, peak, IsProof, GoalIs, NeedsGoal};
+ghost use Rattle.vipr_spec.specs.{RefersBack, CanWrite, is_kept, tightened_index};
+ghost use Rattle.vipr_spec.specs.{tightened_certificate, new_goal, IsNeededFor};
+ghost use Rattle.vipr_spec.specs.Certificate.{Certificate};
 
 /// Under each profile of the rules: tightened for its goal, a proof is a proof of the same problem,
 /// with the same claim and the same listed solutions.

@@ -1,16 +1,11 @@
 //! The answer for a text, and which texts are verified.
 
 ghost use Rattle.std.specs.Prelude.{◌≡◌, ◌≢◌, ◌↔◌, ℕ, List, Ok};
-ghost use Rattle.vipr_spec.specs.Constraint.{Profile};
-ghost use Rattle.vipr_spec.specs.Certificate.{Certificate, IsProof};
-ghost use Rattle.vipr_spec.specs.Reading.{Rest, certificate_read};
+ghost use Rattle.vipr_spec.specs.{Profile, IsProof, Rest, certificate_read, whole_text, IsShown};
+ghost use Rattle.vipr_spec.specs.{Detail, found_in, Report, Reports, Refusal, Answer, refuses};
+ghost use Rattle.vipr_spec.specs.{verified, IsAnswer, IsExplained, EndsAt, IsRefusedBy};
+ghost use Rattle.vipr_spec.specs.Certificate.{Certificate};
 ghost use Rattle.vipr_spec.specs.Grammar.{Spells};
-ghost use Rattle.vipr_spec.specs.GrammarLaws.{whole_text};
-ghost use Rattle.vipr_spec.specs.Soundness.{IsShown};
-ghost use Rattle.vipr_spec.specs.Tests.{Detail};
-ghost use Rattle.vipr_spec.specs.Verdict.{found_in, Report, Reports, Refusal, Answer, refuses};
-ghost use Rattle.vipr_spec.specs.Verdict.{verified, IsAnswer, IsExplained};
-ghost use Rattle.vipr_spec.specs.RefusalLaws.{EndsAt, IsRefusedBy};
 ghost use Rattle.vipr_spec.specs.Causes as cause;
 
 /// What is refused before the end of the text is refused by the tokens up to the place, whatever

@@ -1,9 +1,7 @@
 //! That the definitions are met, and that they refuse.
 
 ghost use Rattle.std.specs.Prelude.{◌^◌, ◌-◌, pos};
-ghost use Rattle.vipr_spec.specs.Fraction.{whole, IsBounded};
-ghost use Rattle.vipr_spec.specs.Constraint.{Profile};
-ghost use Rattle.vipr_spec.specs.Certificate.{IsProof};
+ghost use Rattle.vipr_spec.specs.{whole, IsBounded, Profile, IsProof};
 ghost use Rattle.vipr_spec.specs.Examples.{example, assumed, dropped_example, too_large, optimum};
 
 /// `x >= 1` and `x <= 0` are proved to have no point.

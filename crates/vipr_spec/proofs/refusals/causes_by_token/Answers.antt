@@ -2,9 +2,9 @@ use Rattle.std.proofs.Common.{arith, if◌then◌else◌, Ok, Err, ap, ◌∙◌
 use Rattle.std.proofs.lemmas.Map.Views.{list_any-from_Contains}
 use Rattle.std.proofs.lemmas.Cmp.{nat_eq_equiv}
 use Rattle.vipr_spec.specs.Causes as cause
-use Rattle.vipr_spec.specs.Reading.{count_of, last_of, rule_of, derivation_count_of, variable_of}
-use Rattle.vipr_spec.specs.Reading.{new_variable_of, spelled_sense, spelled_direction}
-use Rattle.vipr_spec.specs.Reading.{has_range_of, reference_of, unless_among}
+use Rattle.vipr_spec.specs.{count_of, last_of, rule_of, derivation_count_of, variable_of}
+use Rattle.vipr_spec.specs.{new_variable_of, spelled_sense, spelled_direction, has_range_of}
+use Rattle.vipr_spec.specs.{reference_of, unless_among}
 use Rattle.vipr_spec.proofs.refusals.causes_by_token.Goals as goal
 
 pub returns-clause-count : goal.returns-clause-count

@@ -1,5 +1,5 @@
 use Rattle.std.proofs.Common.{refl}
-use Rattle.vipr_spec.specs.Tightened.{is_kept}
+use Rattle.vipr_spec.specs.{is_kept}
 use Rattle.vipr_spec.proofs.Marked.{kept_given}
 use Rattle.vipr_spec.proofs.Places.{kept_values, constraint_new, reason_new}
 use Rattle.vipr_spec.proofs.renumbering.names_and_constraints.Goals as goal
