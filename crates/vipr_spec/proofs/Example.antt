@@ -1,8 +1,7 @@
 -- x ≥ 1 and x ≤ 0 have no point: a proof by the difference of the two
-use Rattle.std.proofs.Common.{◌≡◌, ℕ, zero, suc, ◌<◌, ◌⊎◌, [], ◌∷◌, Some, None, ℤ, pos}
-use Rattle.std.proofs.Common.{negsuc, All, Contains, Bool, true, false, cond, arith, refl, sym, ◌∙◌}
-use Rattle.std.proofs.Common.{ap, subst, inl, inr, ⊎_elim, slice_index_or, IsTrue, lit<, lit≤}
-use Rattle.std.proofs.Common.{unwrap_or}
+use Rattle.std.proofs.Common.{◌≡◌, ℕ, zero, suc, ◌<◌, ◌⊎◌, [], ◌∷◌, Some, None, ℤ, pos, negsuc, All}
+use Rattle.std.proofs.Common.{Contains, Bool, true, false, cond, arith, refl, sym, ◌∙◌, ap, subst}
+use Rattle.std.proofs.Common.{inl, inr, ⊎_elim, slice_index_or, IsTrue, lit<, lit≤, unwrap_or}
 use Rattle.std.specs.FinMap.{empty, get-empty, get-insert}
 use Rattle.std.specs.Ordering.{nat_cmp}
 use Rattle.std.specs.Cmp.{nat_cmp_total}
@@ -13,9 +12,8 @@ use Rattle.vipr_spec.specs.{Profile, at_most, at_least, at, Entry, pull, Combine
 use Rattle.vipr_spec.specs.{SumOfFits, constraint_at, reason_at, entries, lin, IsProof, IsGoodStep}
 use Rattle.vipr_spec.specs.{HasGoodSteps, is_live, RestsOn, itself, RestsOnNothing}
 use Rattle.vipr_spec.specs.Examples.{row, both, example, assumed}
-use Rattle.vipr_spec.proofs.Fractions.{whole-add, whole-mul, whole-le, le_of_whole, is_one, is_neg}
-use Rattle.vipr_spec.proofs.Fractions.{is_whole, mul-zero_ℚ, add-mul_ℚ, zero-mul_ℚ}
-use Rattle.vipr_spec.proofs.Fractions.{add-zero_ℚ}
+use Rattle.vipr_spec.proofs.Fractions.{whole-add, whole-mul, whole-le, is_one, is_neg, not_one}
+use Rattle.vipr_spec.proofs.Fractions.{is_whole, mul-zero_ℚ, add-mul_ℚ, zero-mul_ℚ, add-zero_ℚ}
 use Rattle.vipr_spec.proofs.Rests.{rests_out, rests_given}
 
 one_or_zero : (q : ℚ) (b : Bool) → (unwrap_or (cond b (Some q) None) zero_ℚ ≡ q)
@@ -35,9 +33,6 @@ neg_minus_one = is_one _ _ _ _ (is_neg _ _ _ (is_whole (negsuc 0))) (is_whole (p
 
 one_positive : zero_ℚ ≤ℚ whole (pos 1)
 one_positive = whole-le (pos 0) (pos 1) (omega (arith, ints))
-
-not_one : ¬ (whole (pos 1) ≤ℚ zero_ℚ)
-not_one h = let l = le_of_whole (pos 1) (pos 0) h in omega (arith, ints)
 
 first : Entry
 first = (whole (pos 1), record { row = at row; sense = at_least; bound = whole (pos 1) })

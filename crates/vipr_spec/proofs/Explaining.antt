@@ -1,6 +1,6 @@
 -- The answer with its detail for what remains of a text, item by item
 use Rattle.std.proofs.Common.{◌≡◌, ℕ, suc, List, [], ◌∷◌, ◌++◌, length, Option, Some, None, Ok, Err}
-use Rattle.std.proofs.Common.{refl, sym, ◌∙◌, ap, subst}
+use Rattle.std.proofs.Common.{refl, ◌∙◌, ap}
 use Rattle.std.specs.Prelude.{◌↔◌}
 use Rattle.vipr_spec.specs.{ℚ, Profile, Row, condition, Named, Problem, Derivation, Known, known_at}
 use Rattle.vipr_spec.specs.{MeetsPrimal, count, Rest, Fault, problem_read, solution_read}
@@ -14,10 +14,8 @@ use Rattle.vipr_spec.specs.{verified, answer_of_test, IsExplainedBy, Explained, 
 use Rattle.vipr_spec.specs.{derivations_from, solutions_from}
 use Rattle.vipr_spec.specs.Certificate.{Certificate}
 use Rattle.vipr_spec.proofs.Prefix.{before_more, known_next}
+use Rattle.vipr_spec.proofs.Steps.{same_type}
 use Rattle.vipr_spec.proofs.Told as known
-
-same_type : {A B : Type 0} → A ≡ B → A ↔ B
-same_type e = (λ a. subst (λ X. X) e a, λ b. subst (λ X. X) (sym e) b)
 
 then : {A B C : Type 0} → A ↔ B → B ↔ C → A ↔ C
 then f g = (λ a. g.0 (f.0 a), λ c. f.1 (g.1 c))

@@ -71,7 +71,7 @@ unfolding has_range_of
 has_range_is t false = (λ e. one_of_two (SpellsRange t) t _ _ false true false _ (λ h. h) (λ h. h) e, λ e. rw e)
 has_range_is t true = (λ e. one_of_two (SpellsRange t) t _ _ false true true _ (λ h. h) (λ h. h) e, λ e. rw e)
 
-abbrev SpellsRule : List ℕ → Rule → Type 0
+abbrev pub SpellsRule : List ℕ → Rule → Type 0
 SpellsRule t rule = t ≡ rule_word rule
 
 rule_sound : (t : List ℕ) (r : Rule) → rule_of t ≡ Ok r → SpellsRule t r

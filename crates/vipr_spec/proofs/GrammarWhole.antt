@@ -15,8 +15,7 @@ use Rattle.vipr_spec.proofs.PairRows.{set_below}
 use Rattle.vipr_spec.proofs.GrammarSteps.{bind_ok, ok_then, same_ok, success, bytes_of, IsShort}
 use Rattle.vipr_spec.proofs.GrammarSteps.{read_as, read_then, parted}
 use Rattle.vipr_spec.proofs.GrammarParts.{repeated_sound, repeated_complete}
-use Rattle.vipr_spec.proofs.Items.{problem_is, solution_is}
-use Rattle.vipr_spec.proofs.Items.{derivation_is, reads_derivations}
+use Rattle.vipr_spec.proofs.Items.{problem_is, solution_is, derivation_is, reads_derivations}
 
 -- ---- the end
 

@@ -29,7 +29,7 @@ use Rattle.vipr_spec.specs.Grammar.{each, pair, vector, coefficients, constraint
 use Rattle.vipr_spec.specs.Grammar.{integers, objective, constraints, claim, solution, entry, reason}
 use Rattle.vipr_spec.specs.Grammar.{derivation}
 use Rattle.vipr_spec.proofs.GrammarSteps.{bind_ok, ok_then, answer, read_as, is_answer, next_sound}
-use Rattle.vipr_spec.proofs.GrammarTokens.{kinds_of_token, same_bytes, bytes_same}
+use Rattle.vipr_spec.proofs.GrammarTokens.{SpellsRule, kinds_of_token, same_bytes, bytes_same}
 use Rattle.vipr_spec.proofs.GrammarBounds.{number_is, bound_is, no_lower, no_upper}
 use Rattle.vipr_spec.proofs.GrammarParts.{reads_name, reads_fixed, reads_like, one_token}
 use Rattle.vipr_spec.proofs.GrammarParts.{first_of_front, next_complete}
@@ -406,9 +406,6 @@ entries_is : IsReading entries_read entries
 unfolding entries_read
 entries_is = shaped entries (chain count_is _ (λ n. many entry_is n))
     (λ es ts h. subst (λ n. (one SpellsCount n then each entry es) ts) (sym h.1.4.0) (retail h.1 h.1.4.1)) (λ es ts h. (length es, retail h (refl, h.4)))
-
-abbrev SpellsRule : List ℕ → Rule → Type 0
-SpellsRule t rule = t ≡ rule_word rule
 
 -- what follows the word of a rule
 abbrev Takes : Rule → Shape Reason

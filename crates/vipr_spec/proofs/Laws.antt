@@ -16,9 +16,8 @@ pub use Rattle.vipr_spec.proofs.FractionOrders.{cmp_total, eq_is}
 pub use Rattle.vipr_spec.proofs.Fractions.{Is, add-zero_ℚ, is_neg, is_one, is_over, is_same}
 pub use Rattle.vipr_spec.proofs.Fractions.{is_self, is_whole, is_zero, le_in, le_of_eq_ℚ}
 pub use Rattle.vipr_spec.proofs.Fractions.{le_of_whole, le_out, mul-zero_ℚ, same_ℚ, whole-add}
-pub use Rattle.vipr_spec.proofs.Fractions.{over_common, over_equal}
-pub use Rattle.vipr_spec.proofs.Fractions.{whole-mul, zero-add_ℚ, zero-mul_ℚ, zero_from_numer}
-pub use Rattle.vipr_spec.proofs.Fractions.{zero_numer, zero_or_not}
+pub use Rattle.vipr_spec.proofs.Fractions.{over_common, over_equal, whole-mul, zero-add_ℚ}
+pub use Rattle.vipr_spec.proofs.Fractions.{zero-mul_ℚ, zero_from_numer, zero_numer, zero_or_not}
 -- What is a proof under profile one is one under profile two
 pub use Rattle.vipr_spec.proofs.Goals.{proof_two}
 -- The faults of each item

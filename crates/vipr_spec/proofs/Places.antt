@@ -14,8 +14,9 @@ use Rattle.vipr_spec.specs.Certificate.{Certificate}
 use Rattle.vipr_spec.proofs.Kept.{map_with, length_with, index_mono, index_same, old_index}
 use Rattle.vipr_spec.proofs.Kept.{kept_map, length_kept, kept_at}
 use Rattle.vipr_spec.proofs.Prefix.{constraints_listed, reasons_listed, lasts_listed}
+use Rattle.vipr_spec.proofs.PairRows.{not_zero}
 use Rattle.vipr_spec.proofs.SmallerSums.{Contains-filter, Contains-filter_back, Contains-map}
-use Rattle.vipr_spec.proofs.SmallerSums.{Contains-map_back, is_not_zero, not_zero_is}
+use Rattle.vipr_spec.proofs.SmallerSums.{Contains-map_back, not_zero_is}
 use Rattle.vipr_spec.proofs.References.{reason_in, last_in, last_then, last_names}
 use Rattle.vipr_spec.proofs.Placed.{at_place, reason_placed}
 
@@ -31,7 +32,7 @@ pub entry_old : (new : ℕ → ℕ) (es : List (ℕ × ℚ)) (f : ℕ × ℚ)
 entry_old new es f h =
     let r = Contains-map_back (λ (e : ℕ × ℚ). (new e.0, e.1)) (filter is_nonzero es) f h in
     let s = Contains-filter_back is_nonzero es r.0 r.1 in
-    (r.0, s.0, is_not_zero r.0.1 s.1, r.2)
+    (r.0, s.0, not_zero r.0.1 s.1, r.2)
 
 pub refers_new : (new : ℕ → ℕ) (r : Option Reason) (i : ℕ) → RefersTo r i
     → RefersTo (renumbered_at new r) (new i)

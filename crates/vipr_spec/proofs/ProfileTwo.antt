@@ -11,7 +11,7 @@ use Rattle.vipr_spec.specs.{IsProof, IsGoodStep, HasGoodSteps, is_live, RestsOnN
 use Rattle.vipr_spec.specs.{Problem, Derivation, MeetsPrimal, ProvesDual}
 use Rattle.vipr_spec.specs.Certificate.{Certificate}
 use Rattle.vipr_spec.specs.Examples.{first_variable, rounded_bound, split_at_half}
-use Rattle.vipr_spec.proofs.Fractions.{over-le, le_of_whole, le_of_eq_ℚ, le_refl_ℚ}
+use Rattle.vipr_spec.proofs.Fractions.{over-le, le_of_eq_ℚ, le_refl_ℚ, one_not_zero, not_one}
 use Rattle.vipr_spec.proofs.Optimum.{whole_row, row_first}
 use Rattle.vipr_spec.proofs.Rests.{rests_given}
 
@@ -37,12 +37,6 @@ half_not_whole k e =
 
 one_above_half : ¬ (whole (pos 1) ≤ℚ over (pos 1) 2)
 one_above_half h = let l = (over-le (pos 1) (pos 1) 1 2 (lit< tt) (lit< tt)).0 h in omega (arith, ints)
-
-one_not_zero : whole (pos 1) ≢ zero_ℚ
-one_not_zero e = let l = le_of_whole (pos 1) (pos 0) (le_of_eq_ℚ _ _ e) in omega (arith, ints)
-
-not_one : ¬ (whole (pos 1) ≤ℚ zero_ℚ)
-not_one h = let l = le_of_whole (pos 1) (pos 0) h in omega (arith, ints)
 
 -- ---- a proof that lists no solution
 

@@ -9,7 +9,8 @@ use Rattle.std.proofs.lemmas.List.Folds.{Any-from_list_any, list_any-from_Any}
 use Rattle.vipr_spec.specs.{ℚ, zero_ℚ, Reason, asm, lin, rnd, uns, sol, Derivation, NamesEarlier}
 use Rattle.vipr_spec.specs.{RefersTo, refers_to, or_else, last_reference, with_last_references}
 use Rattle.vipr_spec.specs.{is_nonzero}
-use Rattle.vipr_spec.proofs.SmallerSums.{is_not_zero, not_zero_is, Any-contains, Any-of}
+use Rattle.vipr_spec.proofs.PairRows.{not_zero}
+use Rattle.vipr_spec.proofs.SmallerSums.{not_zero_is, Any-contains, Any-of}
 use Rattle.vipr_spec.proofs.Kept.{map_with}
 use Rattle.std.proofs.lemmas.List.Elements.{All-contains}
 
@@ -21,7 +22,7 @@ entry_true es i t =
     let r = Any-contains (λ (e : ℕ × ℚ). (nat_eq i e.0 && is_nonzero e) ≡ true) es (Any-from_list_any (λ (e : ℕ × ℚ). nat_eq i e.0 && is_nonzero e) es t) in
     let both = and_parts (nat_eq i r.0.0) (is_nonzero r.0) r.2 in
     let same : (r.0.0, r.0.1) ≡ (i, r.0.1) = ap (λ n. (n, r.0.1)) (sym (eqb-true i r.0.0 both.0)) in
-    (r.0.1, subst (Contains es) same r.1, is_not_zero r.0.1 both.1)
+    (r.0.1, subst (Contains es) same r.1, not_zero r.0.1 both.1)
 
 entry_from : (es : List (ℕ × ℚ)) (i : ℕ) (m : ℚ) → Contains es (i, m) → m ≢ zero_ℚ
     → list_any (λ e. nat_eq i e.0 && is_nonzero e) es ≡ true

@@ -1,14 +1,10 @@
 -- A reference that comes too late, and a sum that is too large
-use Rattle.std.proofs.Common.{◌≢◌, ◌≤◌, ◌^◌, ◌-◌, [], pos, IsTrue, arith, refl, lit<, lit≤, le→leb}
+use Rattle.std.proofs.Common.{◌≤◌, ◌^◌, ◌-◌, [], pos, IsTrue, refl, lit<, lit≤, le→leb}
 use Rattle.std.proofs.lemmas.List.Elements.{All-head}
-use Rattle.std.proofs.lemmas.Int.{ints}
-use Rattle.vipr_spec.specs.{gcd, ℚ, over, whole, zero_ℚ, ◌*ℚ◌, IsBounded, ProductFits, Profile}
+use Rattle.vipr_spec.specs.{gcd, ℚ, over, whole, ◌*ℚ◌, IsBounded, ProductFits, Profile}
 use Rattle.vipr_spec.specs.{is_live, IsProof}
 use Rattle.vipr_spec.specs.Examples.{dropped_example, too_large}
-use Rattle.vipr_spec.proofs.Fractions.{le_of_whole, le_of_eq_ℚ}
-
-one_not_zero : whole (pos 1) ≢ zero_ℚ
-one_not_zero e = let l = le_of_whole (pos 1) (pos 0) (le_of_eq_ℚ _ _ e) in omega (arith, ints)
+use Rattle.vipr_spec.proofs.Fractions.{one_not_zero}
 
 pub not_live : (P : Profile) → ¬ IsProof P dropped_example
 not_live P p = late ((p.steps 3 _ refl).references 2 (whole (pos 1), (0, lit< tt, refl), one_not_zero))

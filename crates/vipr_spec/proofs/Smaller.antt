@@ -13,7 +13,8 @@ use Rattle.vipr_spec.specs.{renumbered_reason, renumbered_at, with_kept, is_nonz
 use Rattle.vipr_spec.specs.Certificate.{Certificate}
 use Rattle.vipr_spec.proofs.Prefix.{reason_past, is_derived}
 use Rattle.vipr_spec.proofs.Kept.{index_lt, index_injective}
-use Rattle.vipr_spec.proofs.SmallerSums.{is_there, is_not_zero, not_zero_is, filter_yes, filter_no}
+use Rattle.vipr_spec.proofs.PairRows.{not_zero}
+use Rattle.vipr_spec.proofs.SmallerSums.{is_there, not_zero_is, filter_yes, filter_no}
 use Rattle.vipr_spec.proofs.SmallerSums.{Contains-head, Contains-tail, smaller_combines}
 use Rattle.vipr_spec.proofs.SmallerSums.{smaller_rounds, smaller_fits}
 use Rattle.vipr_spec.proofs.References.{refers_earlier}
@@ -74,10 +75,10 @@ module _ (c : Certificate) (keep : ℕ → Bool) (given : (i : ℕ) → i < leng
       omega arith)
 
   kept_lin : (k : ℕ) (es : List (ℕ × ℚ)) → keep k ≡ true → reason_at c k ≡ Some (lin es) → (e : ℕ × ℚ) → Contains es e → is_nonzero e ≡ true → keep e.0 ≡ true
-  kept_lin k es h q e m t = closed_by k e.0 (lin es) h q (e.1, m, is_not_zero e.1 t)
+  kept_lin k es h q e m t = closed_by k e.0 (lin es) h q (e.1, m, not_zero e.1 t)
 
   kept_rnd : (k : ℕ) (es : List (ℕ × ℚ)) → keep k ≡ true → reason_at c k ≡ Some (rnd es) → (e : ℕ × ℚ) → Contains es e → is_nonzero e ≡ true → keep e.0 ≡ true
-  kept_rnd k es h q e m t = closed_by k e.0 (rnd es) h q (e.1, m, is_not_zero e.1 t)
+  kept_rnd k es h q e m t = closed_by k e.0 (rnd es) h q (e.1, m, not_zero e.1 t)
 
   names_new : (k : ℕ) (r : Option Reason) → keep k ≡ true → reason_at c k ≡ r → NamesEarlier k r → NamesEarlier (new_index keep k) (renumbered_at (new_index keep) r)
   names_new k None h q n = tt

@@ -20,10 +20,9 @@ use Rattle.vipr_spec.specs.{IsRefusedBy, derivations_from, solutions_from}
 use Rattle.vipr_spec.specs.Certificate.{Certificate}
 use Rattle.vipr_spec.proofs.FirstFailing.{failing_parts, failing_unmap}
 use Rattle.vipr_spec.proofs.Steps.{tests_next}
-use Rattle.vipr_spec.proofs.Items.{problem_is, solution_is}
-use Rattle.vipr_spec.proofs.Items.{reads_derivations, derivation_is}
-use Rattle.vipr_spec.proofs.GrammarWhole.{few_constraints_read}
+use Rattle.vipr_spec.proofs.Items.{problem_is, solution_is, reads_derivations, derivation_is}
 use Rattle.vipr_spec.proofs.Items.{item_faults}
+use Rattle.vipr_spec.proofs.GrammarWhole.{few_constraints_read}
 use Rattle.vipr_spec.proofs.Told as known
 use Rattle.vipr_spec.proofs.Told.{answers}
 

@@ -23,7 +23,7 @@ use Rattle.vipr_spec.proofs.Soundness.{step_sound, sound_none, refers_earlier}
 abbrev pub Fails : Profile → Certificate → ℕ → Reason → Option StepTest → Type 0
 Fails P c k r f = FirstFailing (PassesStep P (before c k) (constraint_at c k)) (step_tests r) f
 
-same_type : {A B : Type 0} → A ≡ B → A ↔ B
+pub same_type : {A B : Type 0} → A ≡ B → A ↔ B
 same_type e = (λ a. subst (λ X. X) e a, λ b. subst (λ X. X) (sym e) b)
 
 pub tests_stay : (P : Profile) (c : Certificate) (ds : List Derivation) (k : ℕ) (r : Reason)

@@ -1,9 +1,9 @@
 -- What is so of each derivation whatever its last reference is, and under smaller indices, is so of
 -- each in the tightened certificate
 use Rattle.std.proofs.Common.{◌≡◌, ℕ, suc, ◌+◌, ◌<◌, ◌≤◌, Bool, List, [], ◌∷◌, map, length, Option}
-use Rattle.std.proofs.Common.{Some, None, IfSome, All, filter, le_trans, le_of_lt, le_of_eq, lt-ltb}
-use Rattle.std.proofs.Common.{nat_lt, cond, true, false, arith, refl}
-use Rattle.std.proofs.lemmas.Bool.{cond_both, or_left}
+use Rattle.std.proofs.Common.{Some, None, IfSome, All, filter, le_trans, le_of_lt, le_of_eq}
+use Rattle.std.proofs.Common.{cond, true, false, arith, refl}
+use Rattle.std.proofs.lemmas.Bool.{cond_both}
 use Rattle.std.proofs.lemmas.List.{length-map}
 use Rattle.std.proofs.lemmas.List.Elements.{All-head, All-tail, All-cons, All-nil, All-map}
 use Rattle.std.proofs.lemmas.List.Elements.{All-weaker, All-filter}
@@ -16,6 +16,7 @@ use Rattle.vipr_spec.specs.{renumbered_entries, refers_to, or_else, renumbered_r
 use Rattle.vipr_spec.specs.{with_new_indices, last_reference, with_last_references}
 use Rattle.vipr_spec.specs.{tightened_certificate}
 use Rattle.vipr_spec.specs.Certificate.{Certificate}
+use Rattle.vipr_spec.proofs.Marked.{kept_given}
 use Rattle.vipr_spec.proofs.Kept.{index_le, index_same, length_kept, length_kept_derivations}
 
 All-kept : {A : Type 0} (P : A → Type 0) (keep : ℕ → Bool) (k : ℕ) (xs : List A) → All P xs
@@ -54,12 +55,6 @@ All-with P n k (d ∷ ds) h a =
     (All-head Q d ds a l (below_end (suc k) ds k n (omega arith) l refl))
     (All-with P n (suc k) ds (omega arith) (All-tail Q d ds a))
 
--- the constraints of the problem are kept
-pub given_is_kept : (c : Certificate) (goal : Option ℕ) (i : ℕ) → i < length c.problem.constraints
-    → is_kept c goal i ≡ true
-given_is_kept c goal i h =
-    or_left (nat_lt i (length c.problem.constraints)) _ (lt-ltb i (length c.problem.constraints) h)
-
 count_kept : (c : Certificate) (goal : Option ℕ)
     → count (tightened_certificate c goal) ≡ new_index (is_kept c goal) (count c)
 count_kept c goal =
@@ -67,7 +62,7 @@ count_kept c goal =
     let keep = is_kept c goal in
     let few : length (tightened_certificate c goal).derivations + new_index keep m ≡ new_index keep (count c) =
     length_kept_derivations keep m c.derivations in
-    let first : new_index keep m ≡ m = index_same keep m (given_is_kept c goal) m (omega arith) in
+    let first : new_index keep m ≡ m = index_same keep m (kept_given c goal) m (omega arith) in
     omega arith
 
 limits_stay : (c : Certificate) (goal : Option ℕ) (P : Derivation → Type 0)
@@ -85,7 +80,7 @@ limits_stay c goal P stays a =
     let size : length (map (with_new_indices new) kept) ≡ length kept =
     length-map kept (with_new_indices new) in
     let few : length kept + new m ≡ new (count c) = length_kept keep m c.derivations in
-    let first : new m ≡ m = index_same keep m (given_is_kept c goal) m (omega arith) in
+    let first : new m ≡ m = index_same keep m (kept_given c goal) m (omega arith) in
     let most = index_le keep (count c) in
     All-with P (count c) m (map (with_new_indices new) kept) (omega arith)
     (All-map Q (with_new_indices new) kept (All-weaker P (λ d. Q (with_new_indices new d))

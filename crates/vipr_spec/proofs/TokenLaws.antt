@@ -1,9 +1,8 @@
 -- Laws of the tokens of a text.
 use Rattle.std.proofs.Common.{◌≡◌, ℕ, ◌+◌, ◌<◌, ◌≤◌, Bool, true, false, not, ◌&&◌, ◌==◌, nat_le}
 use Rattle.std.proofs.Common.{List, [], ◌∷◌, ◌++◌, length, take, drop, get_or, zero, suc, refl, sym}
-use Rattle.std.proofs.Common.{ap, ◌∙◌, arith, add-zero}
+use Rattle.std.proofs.Common.{ap, ◌∙◌, arith, add-zero, inl, inr}
 use Rattle.std.specs.List.{prefix_len}
-use Rattle.std.proofs.Common.{inl, inr}
 use Rattle.std.proofs.lemmas.List.Sums.{prefix_len_is, prefix_len_stops, prefix_len-le-length}
 use Rattle.std.proofs.lemmas.Bool.{cases_lt, cases_eq, false≢true, ne_eqb, eq-eqb, le-leb, leb-true}
 use Rattle.std.proofs.lemmas.Bool.{false_from_ne_true}

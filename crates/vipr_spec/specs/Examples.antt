@@ -6,8 +6,7 @@ use Rattle.std.specs.Ordering.{nat_cmp}
 use Rattle.vipr_spec.specs.Fraction.{ℚ, over, whole, zero_ℚ}
 use Rattle.vipr_spec.specs.Constraint.{at_most, at_least, Row}
 use Rattle.vipr_spec.specs.Certificate.{minimum, maximum, infeasible, range, asm, lin, rnd, uns}
-use Rattle.vipr_spec.specs.Certificate.{sol}
-use Rattle.vipr_spec.specs.Certificate.{Problem, Certificate}
+use Rattle.vipr_spec.specs.Certificate.{sol, Problem, Certificate}
 
 -- the row of the first variable
 unfoldable pub row : Row

@@ -1,8 +1,7 @@
 -- The VIPR format 1.0: which tokens spell which certificate
 use Rattle.std.specs.Prelude.{◌≡◌, ℕ, ◌+◌, ◌<◌, ◌≤◌, ◌⊎◌, List, [], ◌∷◌, ◌++◌, length, map, Option}
-use Rattle.std.specs.Prelude.{Some, None, All, codes}
+use Rattle.std.specs.Prelude.{Some, None, All, codes, nat_eq}
 use Rattle.std.specs.List.{IsDistinct}
-use Rattle.std.specs.Prelude.{nat_eq}
 use Rattle.std.specs.Str.Parse.{IsNumeral, digits_value}
 use Rattle.std.specs.FinSet.{from_list}
 use Rattle.vipr_spec.specs.Fraction.{ℚ}

@@ -10,14 +10,11 @@ use Rattle.vipr_spec.specs.Reading.{Rest, Read, most_bytes, most_count, name_of,
 use Rattle.vipr_spec.specs.Reading.{derivation_count_of, variable_of, new_variable_of, reference_of}
 use Rattle.vipr_spec.specs.Reading.{last_of, number_of, bound_of, spelled_sense, spelled_direction}
 use Rattle.vipr_spec.specs.Reading.{has_range_of, rule_of, Rule, by_asm, by_lin, by_rnd, by_uns}
-use Rattle.vipr_spec.specs.Reading.{by_sol}
-use Rattle.vipr_spec.specs.Reading.{problem_read, solution_read, derivations_read}
-use Rattle.vipr_spec.specs.Reading.{derivation_read, end_read}
-use Rattle.vipr_spec.specs.Reading.{certificate_read}
+use Rattle.vipr_spec.specs.Reading.{by_sol, problem_read, solution_read, derivations_read}
+use Rattle.vipr_spec.specs.Reading.{derivation_read, end_read, certificate_read}
 use Rattle.vipr_spec.specs.Grammar.{SpellsNatural, SpellsCount, SpellsVariable, SpellsSense}
 use Rattle.vipr_spec.specs.Grammar.{SpellsDirection, SpellsBound, SpellsLast, word, one, ◌then◌}
-use Rattle.vipr_spec.specs.Grammar.{problem, solution}
-use Rattle.vipr_spec.specs.Grammar.{derivation, SpelledBy, Spells}
+use Rattle.vipr_spec.specs.Grammar.{problem, solution, derivation, SpelledBy, Spells}
 
 -- ---- tokens
 

@@ -3,14 +3,13 @@ use Rattle.std.specs.Prelude.{◌≡◌, ◌≢◌, ℕ, ◌-◌, ◌<◌, ◌�
 use Rattle.std.specs.Prelude.{◌++◌, length, take, flat_map, Option, Some, None, Contains}
 use Rattle.vipr_spec.specs.Fraction.{ℚ, zero_ℚ, whole}
 use Rattle.vipr_spec.specs.Constraint.{Profile, Sense, Row, Condition, condition, HasSense}
-use Rattle.vipr_spec.specs.Constraint.{SumOfFits}
-use Rattle.vipr_spec.specs.Constraint.{sum_of, IsWholeRow, RoundsTo, IsSplit, Dominates, Combines}
-use Rattle.vipr_spec.specs.Constraint.{CombinesRounded}
+use Rattle.vipr_spec.specs.Constraint.{SumOfFits, sum_of, IsWholeRow, RoundsTo, IsSplit, Dominates}
+use Rattle.vipr_spec.specs.Constraint.{Combines, CombinesRounded}
 use Rattle.vipr_spec.specs.Certificate.{Named, Reason, asm, lin, rnd, uns, sol, Derivation}
 use Rattle.vipr_spec.specs.Certificate.{References, no_references, by_entries, by_branches}
-use Rattle.vipr_spec.specs.Certificate.{reason_references, Certificate}
-use Rattle.vipr_spec.specs.Certificate.{constraint_at, reason_at, entries, is_live, IsBest, cutoff}
-use Rattle.vipr_spec.specs.Certificate.{count, NamesEarlier, RestsOn, IsGoodStep}
+use Rattle.vipr_spec.specs.Certificate.{reason_references, Certificate, constraint_at, reason_at}
+use Rattle.vipr_spec.specs.Certificate.{entries, is_live, IsBest, cutoff, count, NamesEarlier}
+use Rattle.vipr_spec.specs.Certificate.{RestsOn, IsGoodStep}
 use Rattle.vipr_spec.specs.Reading.{is_nonzero}
 use Rattle.vipr_spec.specs.Causes as cause
 

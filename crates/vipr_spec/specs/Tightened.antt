@@ -1,13 +1,12 @@
 -- The tightened certificate: the derivations that the goal needs, renumbered
 use Rattle.std.specs.Prelude.{ℕ, zero, suc, Bool, false, cond, ◌&&◌, ◌||◌, nat_eq, nat_lt, ◌+◌}
-use Rattle.std.specs.Prelude.{filter, List, [], ◌∷◌, map, length}
-use Rattle.std.specs.Prelude.{Option, Some, None, IsSomeAnd}
+use Rattle.std.specs.Prelude.{filter, List, [], ◌∷◌, map, length, Option, Some, None, IsSomeAnd}
 use Rattle.std.specs.List.{list_any}
 use Rattle.vipr_spec.specs.Fraction.{ℚ}
 use Rattle.vipr_spec.specs.Reading.{is_nonzero}
-use Rattle.vipr_spec.specs.Certificate.{Reason, asm, lin, rnd, uns, sol, Derivation}
-use Rattle.vipr_spec.specs.Certificate.{References, no_references, by_entries, by_branches}
-use Rattle.vipr_spec.specs.Certificate.{reason_references, Certificate, IsNeeded}
+use Rattle.vipr_spec.specs.Certificate.{Reason, asm, lin, rnd, uns, sol, Derivation, References}
+use Rattle.vipr_spec.specs.Certificate.{no_references, by_entries, by_branches, reason_references}
+use Rattle.vipr_spec.specs.Certificate.{Certificate, IsNeeded}
 
 -- ---- references, as they are tested
 

@@ -5,8 +5,7 @@ use Rattle.std.specs.FinSet as set
 use Rattle.std.specs.FinMap.{empty}
 use Rattle.vipr_spec.specs.Constraint.{Profile}
 use Rattle.vipr_spec.specs.Certificate.{minimum, Claim, infeasible, Problem, Derivation}
-use Rattle.vipr_spec.specs.Certificate.{Certificate}
-use Rattle.vipr_spec.specs.Certificate.{NeedsGoal, IsGoal, peak}
+use Rattle.vipr_spec.specs.Certificate.{Certificate, NeedsGoal, IsGoal, peak}
 use Rattle.vipr_spec.specs.Causes as cause
 use Rattle.vipr_spec.specs.Reading.{Rest, Fault, refused, unread, Read, ◌>>=◌, problem_read}
 use Rattle.vipr_spec.specs.Reading.{solution_read, derivations_read, derivation_read, end_read}

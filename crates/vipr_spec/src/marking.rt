@@ -1,7 +1,6 @@
 //! One pass from the end marks what the goal needs.
 
-ghost use Rattle.std.specs.Prelude.{◌↔◌, ℕ, ◌<◌, ◌≤◌, ◌⊎◌, IsTrue};
-ghost use Rattle.std.specs.Prelude.{[], length, Option};
+ghost use Rattle.std.specs.Prelude.{◌↔◌, ℕ, ◌<◌, ◌≤◌, ◌⊎◌, IsTrue, [], length, Option};
 ghost use Rattle.vipr_spec.specs.{reason_at, RefersTo, RefersBack, is_marked, is_kept, IsNeededFor};
 ghost use Rattle.vipr_spec.specs.Certificate.{Certificate};
 

@@ -1,8 +1,7 @@
 //! The new indices of what is kept, and what is said of it in the tightened certificate.
 
-ghost use Rattle.std.specs.Prelude.{◌≡◌, ◌↔◌, ℕ, ◌<◌, ◌≤◌, IsTrue};
-ghost use Rattle.std.specs.Prelude.{[], map, length};
-ghost use Rattle.std.specs.Prelude.{Option, Some, None};
+ghost use Rattle.std.specs.Prelude.{◌≡◌, ◌↔◌, ℕ, ◌<◌, ◌≤◌, IsTrue, [], map, length, Option, Some};
+ghost use Rattle.std.specs.Prelude.{None};
 ghost use Rattle.vipr_spec.specs.{constraint_at, reason_at, last_at, RefersTo, count, RefersBack};
 ghost use Rattle.vipr_spec.specs.{is_kept, kept_of, tightened_index, renumbered_at};
 ghost use Rattle.vipr_spec.specs.{tightened_certificate, new_goal};

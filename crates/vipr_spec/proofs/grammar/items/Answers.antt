@@ -1,5 +1,4 @@
-use Rattle.vipr_spec.proofs.Items.{problem_is, solution_is}
-use Rattle.vipr_spec.proofs.Items.{reads_derivations, derivation_is}
+use Rattle.vipr_spec.proofs.Items.{problem_is, solution_is, reads_derivations, derivation_is}
 use Rattle.vipr_spec.proofs.GrammarWhole.{few_constraints_read, reads_end}
 use Rattle.vipr_spec.proofs.grammar.items.Goals as goal
 
