@@ -73,10 +73,16 @@ DEFINED = re.compile(r'^(?:unfoldable |abbrev )?pub (?:abbrev |record |data )?([
                      r'|^(?:abbrev|unfoldable|record|data) (?:pub )?([^\s:({]+)')
 
 
+# the statement that can be read by itself: its words are its own
+BY_ITSELF = 'vipr_spec/specs/Short.antt'
+
+
 def names_twice():
-    """One word, one meaning: a name is defined in one spec file."""
+    """One word, one meaning: a name is defined in one spec file, but for the one that is to be read by itself."""
     places = collections.defaultdict(list)
     for crate, part, path in files(('specs',), ('.antt',)):
+        if path == os.path.join(CRATES, BY_ITSELF):
+            continue
         here = set()
         for n, line in enumerate(read(path).split('\n'), 1):
             m = DEFINED.match(line)

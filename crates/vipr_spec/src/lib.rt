@@ -13,6 +13,7 @@ pub mod profiles;
 pub mod refusals;
 pub mod renumbering;
 pub mod rules;
+pub mod short;
 pub mod step_by_step;
 pub mod texts;
 pub mod tightening;
