@@ -45,6 +45,7 @@ SCRIPTS = [
     ['tests/calls.py'],
     ['tests/library.py'],
     ['tests/python.py'],
+    ['tests/writer.py'],
     ['tests/archive.py'],
     ['tests/pages.py'],
     ['tests/language.py'],

@@ -15,7 +15,8 @@ from .certificate import Certificate, Constraint, Derivation, Problem, Solution,
 from .library import BadProfile, Error, LibraryMissing, OutOfMemory, Tightened, check, digest, explain, explain_long, show
 from .library import tighten, version
 from .verdict import Cause, Claim, Place, Refusal, Verdict
+from .writer import OBJECTIVE, StepRefused, Writer
 
 __all__ = ['BadProfile', 'Cause', 'Certificate', 'Claim', 'Constraint', 'Derivation', 'Error', 'LibraryMissing',
-           'OutOfMemory', 'Place', 'Problem', 'Refusal', 'Solution', 'Tightened', 'Verdict', 'check', 'digest', 'explain',
+           'OBJECTIVE', 'OutOfMemory', 'Place', 'Problem', 'Refusal', 'Solution', 'Tightened', 'Verdict', 'check', 'digest', 'explain',
            'explain_long', 'read', 'read_problem', 'show', 'tighten', 'version']

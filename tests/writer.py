@@ -1,0 +1,183 @@
+#!/usr/bin/env python3
+"""Lets vipr.Writer write the proofs of random problems, which the program has to verify.
+
+usage: tests/writer.py [PROGRAM]
+
+500 knapsacks are solved by examples/python/knapsack.py, and 500 set covers by a branch and bound of this script. Each
+certificate is verified with the optimum that an enumeration finds, and names no last reference that a second look at the
+derivations doesn't find. Names, numbers and constraints that aren't there are refused, and then nothing is written. If the
+library for C is built here, it checks each derivation of some of them, and a wrong one.
+
+Prints each fault, and last `writer: N checks, F failed`; the exit status is 1 if one failed.
+"""
+import io
+import itertools
+import os
+import random
+import sys
+from fractions import Fraction
+
+from texts import TOP, Checks, program, run
+
+sys.path[:0] = [str(TOP / 'python'), str(TOP / 'examples/python')]
+import knapsack  # noqa: E402
+import vipr  # noqa: E402
+
+CHECKS = Checks('writer')
+check = CHECKS.check
+EACH = 500
+
+
+def cover(file, costs, sets, count, **options):
+    """Writes the certificate of a set cover: min costs * x, each of the elements in a chosen set, x in {0, 1}."""
+    names = [f'set{j}' for j in range(len(costs))]
+    best = {'value': sum(costs), 'x': [1] * len(costs)}
+    with vipr.Writer(file, dict(zip(names, costs)), integers=names, **options) as proof:
+        covered = [proof.constraint('G', 1, {names[j]: 1 for j, it in enumerate(sets) if element in it}) for element in range(count)]
+        bounds = [[proof.constraint('G', 0, {name: 1}), proof.constraint('L', 1, {name: 1})] for name in names]
+
+        def node(low, high, bounds):
+            open_ = [e for e in range(count) if not any(low[j] for j, it in enumerate(sets) if e in it)]
+            lost = next((e for e in open_ if not any(high[j] for j, it in enumerate(sets) if e in it)), None)
+            if lost is not None:    # 0 >= 1
+                return proof.lin('G', 1, {}, [(covered[lost], 1), *((bounds[j][1], -1) for j, it in enumerate(sets) if lost in it)])
+            if not open_ and sum(c * v for c, v in zip(costs, low)) < best['value']:
+                best.update(value=sum(c * v for c, v in zip(costs, low)), x=low)
+            prices, rest = {}, [Fraction(cost, 2) for cost in costs] if len(open_) > 2 else list(map(Fraction, costs))
+            for element in open_:    # a feasible solution of the LP's dual
+                prices[element] = min(rest[j] for j, it in enumerate(sets) if element in it and high[j])
+                for j, it in enumerate(sets):
+                    rest[j] -= prices[element] * (element in it)
+            reduced = [cost - sum(price for e, price in prices.items() if e in it) for cost, it in zip(costs, sets)]
+            bound = sum(prices.values()) + sum(r * (low[j] if r > 0 else high[j]) for j, r in enumerate(reduced))
+            if bound > best['value'] - 1:
+                used = [(covered[e], price) for e, price in prices.items()]
+                return proof.rnd('G', best['value'], vipr.OBJECTIVE, [*used, *((bounds[j][r < 0], r) for j, r in enumerate(reduced))])
+            split = next(j for j in range(len(costs)) if low[j] < high[j])
+            branches = []
+            for side, sense in ((1, 'L'), (0, 'G')):
+                at = proof.asm(sense, 1 - side, {names[split]: 1})
+                parts = [[*low], [*high], [[*it] for it in bounds]]
+                parts[side][split], parts[2][split][side] = 1 - side, at
+                branches += [node(*parts), at]
+            return proof.uns('G', best['value'], vipr.OBJECTIVE, *branches)
+
+        node([0] * len(costs), [1] * len(costs), bounds)
+        proof.solution(dict(zip(names, best['x'])))
+        proof.claim(best['value'], best['value'])
+
+
+def has_last_references(text):
+    """Whether the last reference of each derivation is the last one that names it."""
+    certificate = vipr.read(text)
+    first = len(certificate.problem.constraints)
+    last = {it: first + at for at, derivation in enumerate(certificate.derivations) for it in derivation.named()}
+    return all(it.last == last.get(first + at) for at, it in enumerate(certificate.derivations))
+
+
+def verified(vipr_program, what, text, optimum):
+    ran = run([vipr_program, 'check'], text)
+    check(ran.stdout.split(b'\n')[0] == f'verified range {optimum} {optimum}'.encode(), f'{what}: {ran}')
+    check(has_last_references(text), f'{what}: a last reference is another one')
+
+
+def points(count):
+    return itertools.product((0, 1), repeat=count)
+
+
+def dot(numbers, values):
+    return sum(n * v for n, v in zip(numbers, values))
+
+
+def random_knapsack(rng):
+    count = rng.randint(1, 8)
+    profits, weights = [rng.randint(1, 40) for _ in range(count)], [rng.randint(1, 30) for _ in range(count)]
+    room = rng.randint(0, sum(weights))
+    return (profits, weights, room), max(dot(profits, x) for x in points(count) if dot(weights, x) <= room)
+
+
+def random_cover(rng):
+    count, elements = rng.randint(1, 7), rng.randint(1, 6)
+    sets = [set(rng.sample(range(elements), rng.randint(1, elements))) for _ in range(count)]
+    sets[0] |= set(range(elements)) - set().union(*sets)
+    costs = [rng.randint(1, 20) for _ in range(count)]
+    optimum = min(dot(costs, x) for x in points(count) if set().union(*(it for it, v in zip(sets, x) if v)) == set(range(elements)))
+    return (costs, sets, elements), optimum
+
+
+def written(write, *parts, **options):
+    file = io.BytesIO()
+    write(file, *parts, **options)
+    return file.getvalue()
+
+
+def refused():
+    """What the writer doesn't take."""
+    def refuses(what, kind, *calls, integers=()):
+        file = io.BytesIO()
+        try:
+            with vipr.Writer(file, {'x': 1, 'y': 0}, integers=integers) as proof:
+                proof.claim(None, None)
+                for name, *words in calls:
+                    getattr(proof, name)(*words)
+            check(False, f'{what} is taken')
+        except kind as fault:
+            check(str(fault) and not file.getvalue(), f'{what}: {fault!r}, {file.getvalue()!r:.200}')
+    row = {'x': 1}
+    refuses('a float', TypeError, ('constraint', 'G', 0.5, row))
+    refuses('a bool', TypeError, ('constraint', 'G', 1, {'x': True}))
+    refuses('a number past the limit', ValueError, ('constraint', 'G', 2**127, row))
+    refuses('a denominator past the limit', ValueError, ('constraint', 'G', Fraction(1, 2**127), row))
+    refuses('an unknown variable', ValueError, ('constraint', 'G', 1, {'z': 1}))
+    refuses('an unknown integer', ValueError, integers=['z'])
+    refuses('an unknown sense', ValueError, ('constraint', '>=', 1, row))
+    for name in ('two words', '%', '\n', 'x' * 65536):
+        refuses(f'the name {name[:20]!r}', ValueError, ('constraint', 'G', 1, row, name))
+    refuses('a later constraint', ValueError, ('constraint', 'G', 1, row), ('lin', 'G', 1, row, {1: 1}))
+    refuses('a negative index', ValueError, ('constraint', 'G', 1, row), ('lin', 'G', 1, row, {-1: 1}))
+    refuses('a constraint behind a derivation', ValueError, ('asm', 'G', 1, row), ('constraint', 'G', 1, row))
+    file = io.BytesIO()
+    try:
+        with vipr.Writer(file, {'x': 1}):
+            pass
+        check(False, 'no claim is taken')
+    except ValueError:
+        check(not file.getvalue(), f'no claim: {file.getvalue()}')
+
+
+def checked_by_the_library(rng):
+    """Derivations that the library checks as they are written."""
+    for _ in range(20):
+        parts, _optimum = random_cover(rng)
+        check(written(cover, *parts, checks=True) == written(cover, *parts), f'checked: {parts}')
+    file = io.BytesIO()
+    try:
+        with vipr.Writer(file, {'x': 1}, checks=True) as proof:
+            given = proof.constraint('G', 1, {'x': 2})
+            proof.solution({'x': 3})
+            proof.sol('L', 3)
+            proof.lin('G', Fraction(1, 2), {'x': 1}, {given: Fraction(1, 2)})
+            proof.lin('G', 1, {'x': 1}, {given: Fraction(1, 2)})
+        check(False, 'a wrong derivation is taken')
+    except vipr.StepRefused as fault:
+        check('does not follow' in str(fault) and not file.getvalue(), str(fault))
+
+
+def main():
+    vipr_program, rng = program(sys.argv[1:]), random.Random(1)
+    for make, write in ((random_knapsack, knapsack.solve), (random_cover, cover)):
+        for number in range(EACH):
+            parts, optimum = make(rng)
+            verified(vipr_program, f'{write.__name__} {number}, {parts}', written(write, *parts), optimum)
+    refused()
+    library = next((TOP / 'crates/vipr_c/out').glob('libvipr.so.*'), None)
+    if library:
+        os.environ['VIPR_LIBRARY'] = str(library)
+        checked_by_the_library(rng)
+    else:
+        print('writer: no library is built here, so no derivation was checked as it was written')
+    return CHECKS.end()
+
+
+if __name__ == '__main__':
+    sys.exit(main())
