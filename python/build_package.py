@@ -16,7 +16,7 @@ SCRIPTS = ''.join(f'{name} = {call}\n' for name, call in re.findall(r'^(vipr-[\w
 
 
 def sources():
-    return sorted([*(TOP / 'vipr').glob('*.py'), TOP / 'vipr/py.typed'])
+    return sorted([*(TOP / 'vipr').glob('*.py'), TOP / 'vipr/proof.html', TOP / 'vipr/py.typed'])
 
 
 def build_wheel(wheel_directory, config_settings=None, metadata_directory=None):

@@ -46,6 +46,7 @@ SCRIPTS = [
     ['tests/library.py'],
     ['tests/python.py'],
     ['tests/writer.py'],
+    ['tests/browser.py'],
     ['tests/archive.py'],
     ['tests/pages.py'],
     ['tests/language.py'],

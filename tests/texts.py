@@ -22,7 +22,7 @@ SECONDS = 120
 # how much of a fault is printed
 MOST = 4000
 # the tools that the test command needs, and a line by which a script says that it left something out for want of one
-NEEDED = 'strace', 'valgrind', 'GNU time', 'C compiler', 'git', 'coqc'
+NEEDED = 'strace', 'valgrind', 'GNU time', 'C compiler', 'git', 'Chromium', 'coqc'
 SKIPPED = re.compile(rf'\w+: no (?:{"|".join(NEEDED)})\b')
 
 

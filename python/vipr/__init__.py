@@ -9,7 +9,7 @@
 
 `check`, `explain`, `explain_long`, `show`, `tighten` and `digest` are calls of the proved library. Everything else in this
 package is plain Python that nothing proves: `read` gives a certificate as values, and the modules check_all, compare_mps,
-picture and stats are commands.
+html, picture and stats are commands.
 """
 from .certificate import Certificate, Constraint, Derivation, Problem, Solution, read, read_problem
 from .library import BadProfile, Error, LibraryMissing, OutOfMemory, Tightened, check, digest, explain, explain_long, show

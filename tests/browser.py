@@ -1,0 +1,184 @@
+#!/usr/bin/env python3
+"""Makes pages of proofs by vipr-html, and looks at them in a browser.
+
+usage: tests/browser.py
+
+Of each example the page's data are those of the certificate, read once more: names, constraints, what each names and what
+names it, and what the goal needs. A page loads nothing, and names with markup stay names. In Chromium, without a window, if
+it is there: a row for each constraint, folding, the search, links and the way back, a refused certificate with its
+refusal and links in it (if the library for C is built here), names that would run a script, and a proof of 100,000
+derivations, of which only the rows that are seen are in the page's tree.
+
+Prints each fault, and last `browser: N checks, F failed`; the exit status is 1 if one failed.
+"""
+import html
+import io
+import json
+import os
+import re
+import shutil
+import subprocess
+import sys
+import tempfile
+from pathlib import Path
+
+from texts import TOP, Checks, examples
+
+sys.path[:0] = [str(TOP / 'python'), str(TOP / 'examples/python')]
+import knapsack  # noqa: E402
+import vipr  # noqa: E402
+from vipr import proof as structure  # noqa: E402
+from vipr.algebra import constraint_text  # noqa: E402
+from vipr.files import printable  # noqa: E402
+from vipr.html import Page, verdict_of  # noqa: E402
+
+CHECKS = Checks('browser')
+check = CHECKS.check
+CHROMIUM = shutil.which('chromium') or shutil.which('chromium-browser') or shutil.which('google-chrome')
+SECONDS = 120
+MARKUP = ['</script><script>document.title="run"</script>', '<img/src=x/onerror=document.title="run">', '&lt;b&gt;', '"\'`${1}', ']]>--!>']
+# what is done in the page, and what it has to answer
+USE = '''
+<script>
+const seen = [], say = what => seen.push(what), texts = () => [...document.querySelectorAll('.row')].map(it => it.textContent);
+const key = name => list.dispatchEvent(new KeyboardEvent('keydown', {key: name, bubbles: true}));
+const look = words => { element('find').value = words; element('find').dispatchEvent(new Event('input')); };
+say(document.title); say(items.length); say(texts().length); say(chosen); say(element('detail').textContent);
+say(document.querySelectorAll('script[src], link, img, iframe').length);
+USES
+document.title = JSON.stringify(seen);
+</script></html>'''
+
+
+def made(text, name='proof.vipr'):
+    """The page of a certificate."""
+    return Page(vipr.read(text)).html(name, *verdict_of(text, name, 1))
+
+
+def data_of(page):
+    return json.loads(re.search(r'<script type="application/json" id="data">(.*?)</script>', page, re.S)[1])
+
+
+def says_what_is_there(path, text):
+    """A page's data against the certificate."""
+    proof = vipr.read(text)
+    data, first = data_of(made(text)), len(proof.problem.constraints)
+    sets = structure.assumptions(proof)
+    goal = structure.goal(proof, sets)
+    needed = structure.needed(proof, goal)
+    check((data['first'], data['goal'], len(data['items'])) == (first, goal, first + len(proof.derivations)), f'{path}: another goal')
+    for index, it in enumerate(data['items']):
+        own = proof.constraint(index)
+        check((it['name'], it['text'], it['needed']) == (printable(own.name), constraint_text(own, proof.problem.names), index in needed)
+              or 'objective ' in it['text'], f'{path}: {index} is {it}')
+        if index >= first:
+            check((it['named'], it['rests']) == (structure.named(proof, index), sets[index - first].indices()), f'{path}: {index} is {it}')
+    rows = data['order']
+    check(sorted(it['index'] for it in rows) == list(range(first, len(data['items']))), f'{path}: a derivation has no row, or two')
+    for at, it in enumerate(rows):
+        below = [other for other in rows[at + 1:at + 1 + it['below']]]
+        check(all(other['parent'] >= at for other in below) and all(other['parent'] < at for other in rows[at + 1 + it['below']:at + 2 + it['below']]),
+              f'{path}: what is below row {at}')
+
+
+def browsed(page, uses):
+    """What a page answers in Chromium to what is done there."""
+    with tempfile.TemporaryDirectory(prefix='vipr-browser-') as room:
+        file = Path(room, 'page.html')
+        file.write_text(page.replace('</html>', USE.replace('USES', uses)), encoding='utf-8')
+        words = [CHROMIUM, '--headless', '--no-sandbox', '--disable-gpu', f'--user-data-dir={room}/user', '--window-size=1000,700', '--dump-dom', file.as_uri()]
+        done = subprocess.run(words, stdin=subprocess.DEVNULL, stdout=subprocess.PIPE, stderr=subprocess.DEVNULL, timeout=SECONDS, check=False)
+    title = re.search(r'<title>(.*?)</title>', done.stdout.decode(errors='replace'), re.S)
+    try:
+        return json.loads(html.unescape(title[1]))
+    except (TypeError, ValueError):
+        return [f"no answer: {title and title[1]}"] * 20
+
+
+def small():
+    """Folding, the search, links and the way back in a proof of two branches."""
+    text = (TOP / 'examples/branch_and_bound.vipr').read_bytes()
+    got = browsed(made(text), '''
+fold(6, true); say(texts().length); key('ArrowRight'); say(texts().length);
+document.querySelector('#detail a').click(); say(chosen); key('Backspace'); say(chosen);
+key('Home'); say(chosen); key('End'); say(chosen); choose(6); key('Enter'); say(chosen);
+look('leaf_up'); say(texts()); look('nothing of the kind'); say(texts()); look('');
+element('flat').click(); say(texts().map(it => it.slice(0, 3)).join(''));''')
+    check(got[1:4] == [7, 7, 6] and 'uns  [4] if [2], [5] if [3]' in got[4] and got[5] == 0, got)
+    check(got[6:12] == [3, 7, 4, 6, 0, 3] and got[12] == 4, got)
+    check(len(got[13]) == 1 and 'leaf_up' in got[13][0] and got[14] == [] and got[15] == '[0][1][2][3][4][5][6]', got)
+
+
+def hostile():
+    """Names that would run a script, or end the data."""
+    file = io.BytesIO()
+    with vipr.Writer(file, dict.fromkeys(MARKUP, 1)) as proof:
+        for name in MARKUP:
+            proof.constraint('G', 1, {name: 1}, name)
+        proof.lin('G', 1, {MARKUP[0]: 1}, {0: 1}, MARKUP[1])
+        proof.claim(None, None)
+    page = made(file.getvalue(), MARKUP[0])
+    check(page.count('<script') == 2 and page.count('</script') == 2, 'a name adds a script')
+    if CHROMIUM:
+        got = browsed(page, "element('all').click(); say(items.map(it => it.name));")
+        check(MARKUP[0] in got[0] and got[-1] == [*MARKUP, MARKUP[1]] and got[5] == 0, got)
+
+
+def large():
+    """A proof of 100,000 derivations."""
+    file = io.BytesIO()
+    names = [f'x{it}' for it in range(16)]
+    with vipr.Writer(file, dict.fromkeys(names, 1), integers=names) as proof:
+        low = [proof.constraint('G', 0, {name: 1}) for name in names]
+        sum_ = proof.lin('G', 0, vipr.OBJECTIVE, {it: 1 for it in low})
+
+        def node(depth):
+            if depth < 0:
+                return proof.lin('G', 0, vipr.OBJECTIVE, {sum_: 1})
+            branches = []
+            for sense, bound in (('L', 0), ('G', 1)):
+                at = proof.asm(sense, bound, {names[depth]: 1})
+                branches += [node(depth - 1), at]
+            return proof.uns('G', 0, vipr.OBJECTIVE, *branches)
+        for _ in range(7):
+            node(11)
+        proof.claim(0, None)
+    got = browsed(made(file.getvalue()), "element('all').click(); choose(100000); say(texts().length); say(chosen);"
+                  "say(document.querySelectorAll('*').length < 500); look('[777]'); say(texts().length);")
+    check(got[1] > 100000 and 0 < got[2] < 100 and 0 < got[6] < 100 and got[7:] == [100000, True, 1], got)
+
+
+def refused():
+    """A certificate that is refused has its refusal above, with links."""
+    text = (TOP / 'examples/false_claims/sense.vipr').read_bytes()
+    page = made(text)
+    check('refused 38 at DER 2' in page and 'does not follow from its reason' in page, 'the refusal is missing')
+    if CHROMIUM:
+        got = browsed(page, "say(document.querySelectorAll('#page a').length > 0); say(document.querySelector('.fault').textContent);")
+        check(got[3] == 2 and got[6] is True and got[7].startswith('[2]'), got)
+
+
+def main():
+    for path, text in examples(20000):
+        if isinstance(vipr.read(text), vipr.Certificate):
+            says_what_is_there(path, text)
+    file = io.BytesIO()
+    knapsack.solve(file, [9, 8, 7, 6], [5, 4, 3, 2], 8)
+    says_what_is_there('a knapsack', file.getvalue())
+    library = next((TOP / 'crates/vipr_c/out').glob('libvipr.so.*'), None)
+    if library:
+        os.environ['VIPR_LIBRARY'] = str(library)
+        refused()
+    else:
+        print('browser: no library is built here, so no refused certificate was tried')
+    hostile()
+    if CHROMIUM:
+        small()
+        large()
+    else:
+        CHECKS.skip('Chromium', 'no page was looked at in a browser')
+    return CHECKS.end()
+
+
+if __name__ == '__main__':
+    sys.exit(main())
