@@ -149,13 +149,29 @@ def use(place):
         check(status == 0 and 'claim' in out, fault)
 
 
+def tried_in_python(place):
+    """The commands of python3-vipr are those of the package, and each runs from where it is unpacked."""
+    status, out, fault = place.run('mkdir -p ../unpacked && for it in ../python3-vipr_*.deb ../vipr_*.deb; do dpkg-deb -x $it ../unpacked; done')
+    check(status == 0, out + fault)
+    wanted = set(re.findall(r'^(vipr-[\w-]+) = ', (TOP / 'python/pyproject.toml').read_text(), re.M)) | {'vipr'}
+    found = place.run('ls ../unpacked/usr/bin')[1].split()
+    check(set(found) == wanted, f'the commands of the packages are {found}')
+    for command in sorted(wanted - {'vipr'}):
+        status, out, fault = place.run(f'PYTHONDONTWRITEBYTECODE=1 PYTHONPATH=../unpacked/usr/lib/python3/dist-packages python3 ../unpacked/usr/bin/{command} --help')
+        check(status == 0 and command in out, f'{command} --help: {out}{fault}')
+    status, out, fault = place.run('PYTHONDONTWRITEBYTECODE=1 PYTHONPATH=../unpacked/usr/lib/python3/dist-packages VIPR_LIBRARY=lib/libvipr.so '
+                                   f'python3 ../unpacked/usr/bin/vipr-html {EXAMPLE}')
+    check(status == 0 and ': verified' in out, f'vipr-html: {out:.300}{fault}')
+
+
 def packages(place):
     if not place.has('dpkg-buildpackage') or not place.has('dh'):
         return
     status, out, fault = place.run('dpkg-buildpackage -b -us -uc')
     check(status == 0, (out + fault)[-2000:])
     found = sorted(it.name.split('_')[0] for it in place.folder.parent.glob('*.deb'))
-    check(found == ['libvipr-dev', 'libvipr1', 'vipr'], f'the packages are {found}')
+    check(found == ['libvipr-dev', 'libvipr1', 'python3-vipr', 'vipr'], f'the packages are {found}')
+    tried_in_python(place)
     for name, file, at in (('vipr', 'bin/vipr', 'bin'),
                            ('libvipr1', f'lib/libvipr.so.{VERSION}', 'lib/x86_64-linux-gnu')):
         status, out, fault = place.run(f'dpkg-deb --fsys-tarfile ../{name}_{VERSION}_amd64.deb | '
