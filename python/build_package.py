@@ -20,19 +20,28 @@ def sources():
 
 
 def build_wheel(wheel_directory, config_settings=None, metadata_directory=None):
-    files = {path.relative_to(TOP).as_posix(): path.read_bytes() for path in sources()}
+    return write_wheel(wheel_directory, 'py3-none-any', {})
+
+
+def write_wheel(folder, tag, built):
+    """Writes a wheel of the package and of files that were built for one platform, by their names in it, and gives its name."""
+    files = {path.relative_to(TOP).as_posix(): path.read_bytes() for path in sources()} | built
     files[f'{NAME}.dist-info/METADATA'] = METADATA.encode()
-    files[f'{NAME}.dist-info/WHEEL'] = b'Wheel-Version: 1.0\nGenerator: vipr\nRoot-Is-Purelib: true\nTag: py3-none-any\n'
+    files[f'{NAME}.dist-info/WHEEL'] = (f'Wheel-Version: 1.0\nGenerator: vipr\nRoot-Is-Purelib: {"false" if built else "true"}\n'
+                                        f'Tag: {tag}\n').encode()
     files[f'{NAME}.dist-info/entry_points.txt'] = f'[console_scripts]\n{SCRIPTS}'.encode()
     record = f'{NAME}.dist-info/RECORD'
     sums = {name: base64.urlsafe_b64encode(hashlib.sha256(text).digest()).rstrip(b'=').decode() for name, text in files.items()}
     rows = [f'{name},sha256={sums[name]},{len(text)}\n' for name, text in files.items()]
     files[record] = ''.join([*rows, f'{record},,\n']).encode()
-    wheel = f'{NAME}-py3-none-any.whl'
-    with zipfile.ZipFile(Path(wheel_directory, wheel), 'w', zipfile.ZIP_DEFLATED) as archive:
+    wheel = f'{NAME}-{tag}.whl'
+    with zipfile.ZipFile(Path(folder, wheel), 'w', zipfile.ZIP_DEFLATED) as archive:
         for name, text in files.items():
             # (a fixed date, so that the same sources give the same bytes)
-            archive.writestr(zipfile.ZipInfo(name, (2020, 1, 1, 0, 0, 0)), text)
+            it = zipfile.ZipInfo(name, (2020, 1, 1, 0, 0, 0))
+            it.external_attr = (0o100755 if '.data/scripts/' in name else 0o100644) << 16
+            it.compress_type = zipfile.ZIP_DEFLATED
+            archive.writestr(it, text)
     return wheel
 
 

@@ -164,6 +164,30 @@ def tried_in_python(place):
     check(status == 0 and ': verified' in out, f'vipr-html: {out:.300}{fault}')
 
 
+def tried_wheel(folder):
+    """The wheel in an environment of its own: nothing else of `vipr` is on its path, and no network is asked."""
+    wheel = next(folder.glob('*.whl'))
+    made = subprocess.run([sys.executable, '-m', 'venv', folder / 'venv'], capture_output=True, text=True, check=False)
+    if made.returncode:
+        left_out.append('venv')
+        return
+    there = {'PATH': f'{folder / "venv/bin"}:/usr/bin:/bin', 'HOME': str(folder), 'LC_ALL': 'C.UTF-8'}
+
+    def run(*words):
+        done = subprocess.run(words, cwd=folder, env=there, stdin=subprocess.DEVNULL, capture_output=True, text=True, check=False)
+        return done.returncode, done.stdout, done.stderr
+    status, out, fault = run('pip', 'install', '--no-index', '--quiet', wheel)
+    check(status == 0, out + fault)
+    example = TOP / 'examples/infeasible.vipr'
+    check(run('vipr', 'check', example) == (0, VERDICT, ''), f'the wheel has another program: {run("vipr", "check", example)}')
+    status, out, fault = run('vipr-html', example)
+    check(status == 0 and ': verified' in out, f'vipr-html of the wheel: {out:.300}{fault}')
+    status, out, fault = run('vipr-check-all', example)
+    check(status == 0 and 'verified' in out + fault, f'vipr-check-all of the wheel: {out}{fault}')
+    code = 'import sys, vipr; print(vipr.check(open(sys.argv[1], "rb").read()))'
+    check(run('python3', '-c', code, example)[:2] == (0, VERDICT), run('python3', '-c', code, example))
+
+
 def packages(place):
     if not place.has('dpkg-buildpackage') or not place.has('dh'):
         return
@@ -196,7 +220,9 @@ def main():
         folder = Path(name)
         folder.chmod(0o755)
         archive, again = made(folder), made(folder / 'again')
-        check(archive.read_bytes() == again.read_bytes(), 'the archive made a second time is another one')
+        for it in (archive, next(folder.glob('*.whl'))):
+            check(it.read_bytes() == (folder / 'again' / it.name).read_bytes(), f'{it.name} made a second time is another one')
+        tried_wheel(folder)
         shutil.rmtree(folder / 'again')
         subprocess.run(['tar', 'xf', archive], cwd=folder, check=True)
         place = Place(folder / f'vipr-{VERSION}', root)

@@ -3,8 +3,8 @@
 
 usage: tools/dist.py VERSION [FOLDER]     FOLDER is dist without it
 
-`make dist` calls it once the program and the library are built. FOLDER gets vipr-VERSION-linux-x86_64.tar.gz, whose files
-lie in a folder vipr-VERSION: bin, lib, include and share as `make install` lays them out, python, and debian, so that
+`make dist` calls it once the program and the library are built. FOLDER gets a wheel of the Python
+package that has the program and the library in it, and vipr-VERSION-linux-x86_64.tar.gz, whose files lie in a folder vipr-VERSION: bin, lib, include and share as `make install` lays them out, python, and debian, so that
 `dpkg-buildpackage -b` makes packages of them. SHA256SUMS has the sum of each file, and BUILD the kit, its logic and the
 commit. The same files and commit give the same bytes. The exit status is 1 if a command fails.
 """
@@ -24,6 +24,8 @@ from pathlib import Path
 import kit
 
 TOP = Path(__file__).resolve().parent.parent
+# (the glibc is that of README)
+WHEEL_TAG = 'py3-none-manylinux_2_34_x86_64'
 INSTALL = '''vipr {version}, a proved checker of VIPR certificates, built for Linux on x86-64.
 
 It needs glibc 2.34 or later (Debian 12, Ubuntu 22.04), and nothing else: neither Rust nor the kit that proved it.
@@ -89,6 +91,14 @@ def pack(tree, archive, day):
                 tar.add(path, path.relative_to(tree.parent), recursive=False, filter=plain)
 
 
+def write_wheel(folder, version):
+    """Writes the wheel with the program and the library, and gives its name."""
+    sys.path.insert(0, str(TOP / 'python'))
+    import build_package
+    built = {'vipr/libvipr.so': f'crates/vipr_c/out/libvipr.so.{version}', f'{build_package.NAME}.data/scripts/vipr': 'crates/vipr/out/vipr'}
+    return build_package.write_wheel(folder, WHEEL_TAG, {name: (TOP / file).read_bytes() for name, file in built.items()})
+
+
 def main():
     if len(sys.argv) < 2:
         print(__doc__.split('\n\n')[1])
@@ -105,6 +115,7 @@ def main():
             print(f'{fault.cmd[0]} failed with status {fault.returncode}')
             return 1
     print(f'{archive} is made')
+    print(f'{folder / write_wheel(folder, version)} is made')
     print(kit.took('make dist', start))
     return 0
 

@@ -1,6 +1,7 @@
-"""The calls of the library for C, which `make install-lib` installs.
+"""The calls of the library for C.
 
-VIPR_LIBRARY names the library's file. Without it the system is asked for `vipr`. The library is loaded at the first call.
+VIPR_LIBRARY names the library's file. Without it the one in this folder is taken, which the wheel of `make dist` has, and
+else the system is asked for `vipr`, which `make install-lib` installs. The library is loaded at the first call.
 """
 from __future__ import annotations
 
@@ -9,6 +10,7 @@ import ctypes.util
 import functools
 import os
 from dataclasses import dataclass, replace
+from pathlib import Path
 from typing import Tuple
 
 from .verdict import Cause, Place, Refusal, Verdict
@@ -58,7 +60,8 @@ class Tightened:
 
 @functools.lru_cache(maxsize=None)
 def _library() -> ctypes.CDLL:
-    name = os.environ.get('VIPR_LIBRARY') or ctypes.util.find_library('vipr')
+    own = Path(__file__).with_name('libvipr.so')
+    name = os.environ.get('VIPR_LIBRARY') or (str(own) if own.is_file() else ctypes.util.find_library('vipr'))
     if not name:
         raise LibraryMissing('the library vipr is not installed: make install-lib, or set VIPR_LIBRARY to its file')
     text, buffer = [_TEXT, _SIZE], [_TEXT, _SIZE, ctypes.POINTER(_SIZE)]
