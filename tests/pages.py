@@ -4,7 +4,7 @@
 usage: tests/pages.py [PROGRAM]     crates/vipr/out/vipr without it; with it no block marked `sh` is run
 
 In README.md, CONTRIBUTING.md and the pages of docs/ and examples/ it looks at
-- blocks marked `console`: each line `$ COMMAND` is run as a reader would, in one shell for all blocks of a page, at the top
+- blocks marked `console`: each line `$ COMMAND` is run as a reader would, in one shell for all blocks of a section, at the top
   of the repository, with the built program as `vipr` on the path. The lines below it are what is printed on standard output
   and standard error, in the order in which they come; after a command whose last line is `$ echo $?` stands its status.
   The home folder is empty, TMPDIR isn't set, and a variable that isn't set ends the shell. The commands of
@@ -24,12 +24,12 @@ known: `make` with a target that there is, or a program of KNOWN. Those of the p
 this order, in a folder as a reader has it: the name URL is this repository, and the home folder is empty. Those of
 README.md begin where a reader begins, the others at the top of the clone that README's first command made. What was proved
 and built here stands in the clone, so that nothing is proved twice. What the pages speak of is there: a folder
-`certificates` with the examples, `certificate.vipr`, `files.txt`, and `check.sh`, which is the page's own. After each block
+`certificates` with the examples, `certificate.vipr`, and `check.sh`, which is the page's own. After each block
 it looks for what that is to leave: the verdict that was printed, the files installed and removed again, the statuses of
 many files. `make test` and the scripts that it runs aren't run, as they are being run.
 
-A command that needs a program that isn't installed here, as `parallel`, is left out, and a line says so. For `sbatch` stands
-a script that runs each task in turn.
+A command that needs a program that isn't installed here, as `parallel`, is left out, and a line says so. For programs that act
+outside a reader's folder, as `sbatch`, there are scripts at the head of the path, so those of the machine are never run.
 
 Prints each fault, and last `pages: N checks, F failed`; the exit status is 1 if one failed.
 """
@@ -69,6 +69,9 @@ INSTALLED = ['bin/vipr', 'share/bash-completion/completions/vipr', 'share/fish/v
 ARCHIVE = 'crates/vipr_c/out/libvipr.a'
 LIBRARY = ['include/vipr.h', 'lib/libvipr.a', 'lib/libvipr.so', 'lib/pkgconfig/vipr.pc']
 TASKS = 3
+# programs that act outside a reader's folder
+OUTSIDE = ['sbatch', 'srun', 'scancel', 'sudo', 'su', 'pip', 'pip3', 'pipx', 'apt', 'apt-get', 'dpkg', 'ldconfig', 'ssh', 'scp', 'curl',
+           'wget']
 CHECKS = Checks('pages')
 left_out = set()
 
@@ -87,6 +90,17 @@ def shell(words, home, place, before, flags='-uc'):
     return done.returncode, done.stdout
 
 
+def put_stand_ins(folder, top):
+    """Scripts in place of programs that act outside a reader's folder: those of the machine are never run. `sbatch` runs each
+    task in turn, and one that would install something fails. `vipr-check-all` is that of the repository."""
+    texts = {name: 'echo "$0 is not run by a test" >&2; exit 1' for name in OUTSIDE}
+    texts['sbatch'] = f'for task in $(seq {TASKS}); do\nSLURM_ARRAY_TASK_ID=$task SLURM_ARRAY_TASK_COUNT={TASKS} sh "$1" || true\ndone'
+    texts['vipr-check-all'] = f'PYTHONDONTWRITEBYTECODE=1 PYTHONPATH={top}/python exec {sys.executable} -m vipr.check_all "$@"'
+    for name, text in texts.items():
+        (folder / name).write_text(f'#!/bin/sh\n{text}\n')
+        (folder / name).chmod(0o755)
+
+
 # ---- what the pages show
 
 def commands_of():
@@ -96,7 +110,7 @@ def commands_of():
 
 
 def console(page, blocks, home, place):
-    """Runs the commands of a page's blocks in one shell, with a mark in front of the output of each."""
+    """Runs the commands of a section's blocks in one shell, with a mark in front of the output of each."""
     commands, wanted = [], []
     for line, text in blocks:
         needed = re.search(r'^[$>] .*?\b(parallel|xz|gzip|zstd|pv|man|fish|zsh)\b', text, re.M)
@@ -250,18 +264,20 @@ def examples(commands):
 def look_at(page, text, room):
     """What a page's blocks, tables and links say."""
     home, place = room / 'home', room / 'empty' if page == TUTORIAL else TOP
-    blocks = []
+    sections = {}
     for found in BLOCK.finditer(text):
         line, words = text[:found.start()].count('\n') + 1, found[1].split()
         if words[:1] == ['console']:
-            blocks.append((line, found[2]))
+            section = len(re.findall(r'^##+ ', text[:found.start()], re.M))
+            sections.setdefault(section, []).append((line, found[2]))
         elif words[:1] == ['sh']:
             named(page, line, found[2])
         elif words[1:2] == ['as']:
             (place / words[2]).write_text(found[2])
         elif len(words) == 2:
             quoted(page, line, found[2], words[1])
-    console(page, blocks, home, place)
+    for blocks in sections.values():
+        console(page, blocks, home, place)
     changes(page, text)
     links(page, text)
 
@@ -278,10 +294,7 @@ class Reader:
         (self.home / '.gitconfig').write_text('[safe]\n\tdirectory = *\n')
         stand_ins = room / 'bin'
         stand_ins.mkdir()
-        if not shutil.which('sbatch'):
-            (stand_ins / 'sbatch').write_text(f'#!/bin/sh\nfor task in $(seq {TASKS}); do\n'
-                                              'SLURM_ARRAY_TASK_ID=$task sh "$1"\ndone\n')
-            (stand_ins / 'sbatch').chmod(0o755)
+        put_stand_ins(stand_ins, self.clone)
         self.has_history = self.run('git rev-parse HEAD', TOP)[0] == 0
         self.place_source()
 
@@ -320,8 +333,6 @@ class Reader:
         folder = self.clone / 'certificates'
         shutil.copytree(self.clone / 'examples', folder, ignore=lambda _, names: {it for it in names if '.md' in it})
         shutil.copy(self.clone / 'examples/infeasible.vipr', self.clone / 'certificate.vipr')
-        names = sorted(str(it.relative_to(self.clone)) for it in folder.glob('*.vipr'))[:TASKS]
-        (self.clone / 'files.txt').write_text(''.join(f'{it}\n' for it in names))
         text = (self.clone / 'docs/USE.md').read_text()
         [script] = [body for _, body in BLOCK.findall(text) if body.startswith('#!/bin/sh\n')]
         (self.clone / 'check.sh').write_text(script)
@@ -383,10 +394,12 @@ def look_for(reader, page, rows, said):
             file = re.search(r'vipr check (\S+)', row[8])[1]
             check(row[6] == status_of(reader, file), f'parallel has the status {row[6]} of {file}')
     if 'sbatch ' in words:
-        for name in (reader.clone / 'files.txt').read_text().split():
-            written = reader.clone / f'{name}.status'
-            text = written.read_text() if written.is_file() else 'none'
-            check(text == f'{status_of(reader, name)} {name}\n', f'{name}.status is {text!r}')
+        rows = [row.split('\t') for part in reader.clone.glob('part*.tsv') for row in part.read_text().splitlines()]
+        files = sorted(str(it.relative_to(reader.clone)) for it in (reader.clone / 'certificates').rglob('*.vipr'))
+        check(sorted(row[2] for row in rows) == files, f'the parts have {len(rows)} rows for {len(files)} files')
+        for row in rows:
+            wanted = {'0': 'verified', '1': 'refused'}[status_of(reader, row[2])]
+            check(row[0] == wanted, f'check.sh has {row[0]} for {row[2]}')
 
 
 def run_blocks(reader, page):
@@ -429,6 +442,7 @@ def main():
         (room / 'vipr').symlink_to(PROGRAM)
         for folder in ('home', 'empty'):
             (room / folder).mkdir()
+        put_stand_ins(room, TOP)
         for page in PAGES:
             look_at(page, (TOP / page).read_text(), room)
         examples(commands)

@@ -12,7 +12,7 @@ usage: tests/python.py [PROGRAM]     crates/vipr/out/vipr without it
 - stats gives the goal of `vipr explain`, and as many needed derivations as `vipr tighten` keeps.
 - picture writes well-formed XML, with a box for each derivation, and the page's picture is as it is in docs/.
 - Short texts that stand for long rows or large sets of assumptions are read within limits of memory and processor time.
-- check-all has a row for each file of a folder, plain, compressed, cut and refused, and goes on after a stop.
+- check-all is tried by tests/many_files.py: each file has a row, what can't be seen too, and goes on after a stop.
 
 Prints each fault, and last `python: N checks, F failed`; the exit status is 1 if one failed.
 """
@@ -35,6 +35,7 @@ from pathlib import Path
 
 from texts import TOP, Checks, program, run, text_of
 import families
+import many_files
 
 PROGRAM = program(sys.argv[1:])
 sys.path.insert(0, str(TOP / 'python'))
@@ -440,40 +441,6 @@ def large(room, words):
         path.unlink()
 
 
-def check_all(room, words):
-    folder = room / 'folder'
-    (folder / 'below').mkdir(parents=True)
-    plain, refused = EXAMPLES[TOP / 'examples/long_chain.vipr'], EXAMPLES[TOP / 'examples/overflow.vipr']
-    files = {'plain.vipr': (plain, 'verified'), 'below/a b.vipr.gz': (gzip.compress(plain), 'verified'),
-             'packed.vipr.xz': (lzma.compress(plain), 'verified'), 'refused.vipr': (refused, 'refused'),
-             'cut.vipr.xz': (lzma.compress(plain)[:3000], 'unpack'), 'no.vipr.gz': (plain, 'unpack'),
-             os.fsdecode(b'caf\xe9.vipr'): (plain, 'verified')}
-    for name, (text, _) in files.items():
-        (folder / name).write_bytes(text)
-    (folder / 'notes.txt').write_text('none')
-    command = [*words['check-all'], '--vipr', PROGRAM]
-    wanted = {str(folder / name): result for name, (_, result) in files.items()}
-    for flags in ([], ['--json']):
-        table = room / f'table{len(flags)}'
-        out, fault, status = run([*command, *flags, '-o', table, folder])
-        check((status, out) == (1, b'') and fault == b'7 checked: 1 refused, 2 unpack, 4 verified\n', f'{status} {out} {fault}')
-        rows = [json.loads(it) if flags else dict(zip(('result', 'seconds', 'file', 'line'), it.split('\t')))
-                for it in table.read_text(errors='surrogateescape').splitlines()]
-        check({it['file']: it['result'] for it in rows} == wanted, rows)
-        (folder / 'more.vipr').write_bytes(plain)
-        _, fault, status = run([*command, *flags, '--resume', '-o', table, folder])
-        check(status == 1 and fault == b'1 checked, 7 before: 1 verified\n', f'{status} {fault}')
-        (folder / 'more.vipr').unlink()
-    _, fault, status = run([*command, '--memory', '1000', folder / 'plain.vipr'])
-    check(status == 0, fault)
-    (room / 'empty').mkdir()
-    for path, said in ((room / 'empty', b'0 checked: none\n'), (room / 'missing', b'1 checked: 1 unpack\n')):
-        _, fault, status = run([*command, path])
-        check((status, fault) == (1, said), f'{path}: {status} {fault}')
-    out, fault, status = run([*words['check-all'], '--vipr', 'no-such-program', folder])
-    check(status == 2 and b'there is no program' in fault and b'Traceback' not in fault, fault)
-
-
 def main():
     dice = random.Random(20)
     os.environ['PYTHONPATH'] = str(TOP / 'python')
@@ -491,7 +458,7 @@ def main():
         pictures(texts)
         hostile(room, words)
         commands(room, words)
-        check_all(room, words)
+        many_files.check_all(check, room, words['check-all'], PROGRAM)
         large(room, words)
     return CHECKS.end()
 

@@ -1,21 +1,24 @@
-"""Files that the commands read, plain or compressed, and what the commands print if they can't."""
+"""Files and command lines of the commands: plain and compressed files, names that are printed, and what a command can't do."""
 from __future__ import annotations
 
+import argparse
 import bz2
 import gzip
+import io
 import lzma
 import os
 import subprocess
 import sys
 import zlib
 from pathlib import Path
-from typing import Callable, Dict
+from typing import Callable, Dict, NoReturn, Optional, Union
 
 UNPACKERS: Dict[str, Callable[[bytes], bytes]] = {
     '.gz': gzip.decompress, '.bz2': bz2.decompress, '.xz': lzma.decompress,
     '.zst': lambda packed: subprocess.run(['zstd', '-dcq'], input=packed, capture_output=True, check=True).stdout,
 }
 VERIFIED, REFUSED, MISUSED, FAILED = range(4)
+SHORT = {'\\': '\\\\', '\t': '\\t', '\n': '\\n', '\r': '\\r'}
 
 
 def read_file(name: str) -> bytes:
@@ -28,15 +31,45 @@ def read_file(name: str) -> bytes:
         raise OSError(None, f'not unpacked: {fault}', name) from fault
 
 
-def printable(name: bytes) -> str:
-    """A name of a certificate or a file: what isn't printable is escaped, so that it can't control a terminal."""
-    return ''.join(c if c.isprintable() and c != '\\' else c.encode('unicode_escape').decode()
-                   for c in name.decode('utf-8', 'backslashreplace'))
+def escaped(character: str) -> str:
+    """A character that isn't printed as it is. A byte that isn't UTF-8 is `\\xff`, a control byte `\\x1b`, others `\\u202e`."""
+    code = ord(character)
+    if character in SHORT:
+        return SHORT[character]
+    if code < 0x80 or 0xdc80 <= code <= 0xdcff:
+        return f'\\x{code & 0xff:02x}'
+    return f'\\u{code:04x}' if code < 0x10000 else f'\\U{code:08x}'
+
+
+def printable(name: Union[bytes, str]) -> str:
+    """A name of a certificate or a file, as each is printed and stored: what isn't printable is escaped, so that it can't
+    control a terminal or end a line. Two names have two such texts."""
+    text = name.decode('utf-8', 'surrogateescape') if isinstance(name, bytes) else name
+    return ''.join(it if it.isprintable() and it != '\\' else escaped(it) for it in text)
+
+
+class Parser(argparse.ArgumentParser):
+    """The command line of a command. What is wrong with one is printed as names are, since it quotes them."""
+
+    def __init__(self, name: str, about: Optional[str]):
+        super().__init__(prog=f'vipr-{name}', description=about, formatter_class=argparse.RawDescriptionHelpFormatter)
+
+    def error(self, message: str) -> NoReturn:
+        super().error(printable(message))
+
+
+def number(word: str) -> int:
+    """A number of a command line, from 1 to a million."""
+    if not (word.isascii() and word.isdigit() and len(word) < 20 and 1 <= int(word) <= 1_000_000):
+        raise argparse.ArgumentTypeError(f'{word} is no number from 1 to 1000000')
+    return int(word)
 
 
 def run(command: Callable[[], int]) -> int:
     """Runs a command, and gives its status: a file that can't be read or written is status 3, as for `vipr`."""
     try:
+        if isinstance(sys.stdout, io.TextIOWrapper):
+            sys.stdout.reconfigure(errors='backslashreplace')
         status = command()
         sys.stdout.flush()
         return status
