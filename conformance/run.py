@@ -26,7 +26,7 @@ TABLE = FOLDER / 'cases.tsv'
 # between two lines of one cell of the table
 BETWEEN = ' | '
 
-Case = namedtuple('Case', 'rule name kind verdict about lines tightened path')
+Case = namedtuple('Case', 'rule name kind verdict about lines same tightened path')
 # what a run did: None for agreement, 'differs' or 'crashed'; and the words that say so
 Result = namedtuple('Result', 'case fault words')
 
@@ -39,7 +39,7 @@ def cases(profile=1):
         rule, name = cell['rule'], cell['name']
         tightened = cell[f'tightened {profile}']
         yield Case(rule, name, cell['kind'], cell[f'profile {profile}'], cell['about'],
-                   cell[f'explain {profile}'].split(BETWEEN), tightened and FOLDER / f'{tightened}.vipr',
+                   cell[f'explain {profile}'].split(BETWEEN), cell['same as'], tightened and FOLDER / f'{tightened}.vipr',
                    FOLDER / rule / f'{name}.vipr')
 
 

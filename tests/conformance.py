@@ -1,92 +1,202 @@
 #!/usr/bin/env python3
-"""The conformance cases of conformance/: the table is whole, and checkers agree with it.
+"""The cases of conformance/: the table is whole, checkers agree with it, and each wrong rule is found.
 
 usage: tests/conformance.py [PROGRAM]     crates/vipr/out/vipr without it
 
-Each file has a line in conformance/cases.tsv and each line a file; names and sentences are as conformance/README.md says,
-and cases that say the same have one verdict. Then conformance/run.py runs the program on all cases, by both profiles: it
-agrees on the verdict and on each line of `explain`. So does the plain model of bench/, which is called without a process
-for each case.
+Each file has a line in conformance/cases.tsv, and each line a file. Sentences are short and name nothing that their reader
+lacks, and cases that say the same have one verdict. conformance/run.py runs the program on all cases: by both profiles it
+agrees with each verdict, with each line of `explain`, and with each text that `tighten` writes. So do the plain models of
+bench/, which are called without a process for each case. bench/gmp_check.cpp agrees on the format, and on the choices but
+the limit for numbers and leading zeros; if g++ or GMP's header isn't there, it is left out, and a line says so.
+
+Each wrong rule of tests/wrong_rules.py is found by a verdict, or by a text, of its own folder. Checkers that always accept,
+crash, hang or aren't there show what run.py says of them.
 
 Prints each fault, and last `conformance: N checks, F failed`; the exit status is 1 if one failed.
 """
 import json
 import re
+import shutil
 import sys
-from types import SimpleNamespace
+import tempfile
+from pathlib import Path
+from types import ModuleType, SimpleNamespace
+from xml.etree import ElementTree
 
 from language import MOST, length
 from texts import TOP, Checks, program, run
+from wrong_rules import WRONG, WRONG_TIGHTENING
 from plain_check import explained
+from plain_tighten import tightened
 
 FOLDER = TOP / 'conformance'
 sys.path.insert(0, str(FOLDER))
 import lengths  # noqa: E402
 import run as runner  # noqa: E402
 
-LEAST, LARGEST = 400, 4096
+LEAST, LARGEST, LEAST_WRONG = 400, 4096, 60
 RULES = 'text numbers problem claim solutions asm lin rnd uns sol goal references tightening'.split()
+# what a sentence may not name: files, pages, numbers of causes, another case
+FOREIGN = re.compile(r'\.vipr|\.md\b|\bcause \d|\bcase\b|\bprevious\b')
 CHECKS = Checks('conformance')
 check = CHECKS.check
 
 
 # ---- the table
 
-def is_plain(sentence):
-    """Whether a sentence is one, short enough, and names no other case, page or cause."""
-    return sentence.endswith('.') and length(sentence) <= MOST and not re.search(r'\.vipr|\.md|\bcause \d|\bcase\b', sentence)
+def one_profile_is_whole(found):
+    """Each line of the table with the answers of one profile, against the others by their names."""
+    for name, it in found.items():
+        check(it.verdict == it.lines[0].split()[0], f'{name}: {it.verdict}, and {it.lines}')
+        check(not it.same or it.same in found and found[it.same].verdict == it.verdict, f'{name}: not as {it.same}')
+        if it.tightened:
+            other = found[str(it.tightened.relative_to(FOLDER).with_suffix(''))]
+            check(it.verdict == 'verified' and other.tightened == it.tightened, f'{name}: {it.verdict}, becomes {other.name}')
+            check(other.lines[0] == it.lines[0], f'{name}: becomes a certificate with another claim')
+        check(bool(it.tightened) == (it.rule == 'tightening' and it.verdict == 'verified'), f'{name}: {it.tightened}')
 
 
 def table_is_whole():
-    first, second = (list(runner.cases(profile)) for profile in (1, 2))
-    long = {path for path, _ in lengths.texts()}
-    check(len(first) >= LEAST, f'there are {len(first)} cases')
-    paths = [it.path for it in first]
-    check(sorted(paths) == sorted(FOLDER.glob('*/*.vipr')), 'the files aren\'t those of the table, each once')
-    for it, other in zip(first, second):
-        name = f'{it.rule}/{it.name}'
-        check(it.kind in ('format', 'choice') and it.rule in RULES, f'{name}: {it.kind}')
-        check(is_plain(it.about), f'{name}: {it.about}')
+    first, second = ({f'{it.rule}/{it.name}': it for it in runner.cases(profile)} for profile in (1, 2))
+    paths = sorted(it.path for it in runner.cases())
+    check(paths == sorted(FOLDER.glob('*/*.vipr')), 'the files aren\'t those of the table, each once')
+    check(len(paths) >= LEAST and {it.rule for it in first.values()} == set(RULES), f'{len(paths)} cases')
+    for found in first, second:
+        one_profile_is_whole(found)
+    long = dict(lengths.texts())
+    for name, it in first.items():
+        check(it.kind in ('format', 'choice'), f'{name}: {it.kind}')
+        check(it.about.endswith('.') and length(it.about) <= MOST and not FOREIGN.search(it.about), f'{name}: {it.about}')
         check((it.path.stat().st_size > LARGEST) == (it.path in long), f'{name}: {it.path.stat().st_size} bytes')
-        for answer in it, other:
-            check(answer.verdict == answer.lines[0].split()[0], f'{name}: {answer.verdict}, and {answer.lines}')
-        check(it.verdict == 'refused' or other.verdict == 'verified', f'{name}: verified by the first profile alone')
-    for path, text in lengths.texts():
+        check(it.verdict == 'refused' or second[name].verdict == 'verified', f'{name}: verified by the first profile alone')
+    check(len({it.about for it in first.values()}) == len(first), 'two sentences are the same')
+    for path, text in long.items():
         check(path.read_text() == text, f'{path.name} is not what lengths.py writes')
 
 
 # ---- checkers
 
-def agrees(what, *words):
-    """Whether a run of run.py finds no disagreement."""
-    done = run([sys.executable, FOLDER / 'run.py', *words])
-    check(done.returncode == 0, f'{what}: {done.stdout.decode()}{done.stderr.decode()}')
+def answer(*words):
+    """The outcome of a run of run.py, and its exit status."""
+    done = run([sys.executable, FOLDER / 'run.py', '--json', *words])
+    return json.loads(done.stdout or '{}'), done.returncode
+
+
+def agrees(*words):
+    outcome, status = answer(*words)
+    check(status == 0, f'{" ".join(map(str, words))}: {outcome}')
 
 
 def program_agrees():
+    agrees('--refused', '1', '--', PROGRAM, 'check', '{}')
     for profile in '1', '2':
-        agrees(f'vipr, profile {profile}', '--refused', '1', '--lines', '--profile', profile, '--',
-               PROGRAM, 'explain', '--profile', profile, '{}')
+        agrees('--refused', '1', '--lines', '--profile', profile, '--', PROGRAM, 'explain', '--profile', profile, '{}')
+        agrees('--tighten', '--profile', profile, '--', PROGRAM, 'tighten', '--profile', profile, '{}')
 
 
 def model_agrees():
-    """The plain model, called by run.py in place of a process."""
+    """The plain models, which run.py calls in place of a process."""
     for profile in 1, 2:
-        def ran(command, path, seconds):
-            lines = explained(path.read_bytes(), profile)
-            return lines.encode(), b'', int(lines.startswith('refused'))
-        runner.ran = ran
-        options = SimpleNamespace(command=[], seconds=0, refused=1, tighten=False, accept=None, lines=True)
-        for it in runner.cases(profile):
-            result = runner.tried(it, options)
-            check(result.fault is None, f'plain_check.py, profile {profile}: {it.rule}/{it.name}: {result.words}')
+        for tighten in False, True:
+            def ran(command, path, seconds):
+                text = path.read_bytes()
+                if tighten:
+                    return tightened(text, profile)
+                lines = explained(text, profile)
+                return lines.encode(), b'', int(lines.startswith('refused'))
+            runner.ran = ran
+            options = SimpleNamespace(command=[], seconds=0, refused=1, tighten=tighten, accept=None, lines=True)
+            for it in runner.cases(profile):
+                if it.tightened or not tighten:
+                    result = runner.tried(it, options)
+                    check(result.fault is None, f'a plain model, profile {profile}: {it.rule}/{it.name}: {result.words}')
+
+
+def other_checker_agrees(folder):
+    """bench/gmp_check.cpp: numbers without a limit, and no leading zeros in counts."""
+    checker = Path(folder, 'gmp_check')
+    words = [shutil.which('g++'), '-std=c++17', TOP / 'bench/gmp_check.cpp', '-o', checker, '-lgmpxx', '-lgmp']
+    if not words[0] or run(words).returncode:
+        print('conformance: bench/gmp_check.cpp left out, for want of g++ or GMP')
+        return
+    agrees('--only', 'format', '--refused', '1', '--', checker, '{}')
+    faults = {it['case'] for it in answer('--only', 'choice', '--refused', '1', '--', checker, '{}')[0]['faults']}
+    for it in runner.cases():
+        is_own = it.lines[0].split()[1] in ('5', '17', '23', '35') or 'leading-zeros' in it.name or 'zero-spelled-long' in it.name
+        check(is_own or f'{it.rule}/{it.name}' not in faults, f'gmp_check: {it.rule}/{it.name}')
+
+
+# ---- wrong rules
+
+def changed(file, old, new):
+    """A model of bench/ with an edit."""
+    source = (TOP / 'bench' / file).read_text()
+    check(source.count(old) == 1, f'{file} has {source.count(old)} times {old!r}')
+    module = ModuleType('changed')
+    exec(compile(source.replace(old, new), file, 'exec'), module.__dict__)
+    return module
+
+
+def finds(rule, model):
+    """The first case of a folder whose verdict a model gets wrong."""
+    return next((it.name for profile in (1, 2) for it in runner.cases(profile) if it.rule == rule
+                 and model.verdict(it.path.read_bytes(), profile).split()[0] != it.verdict), None)
+
+
+def writes(model, case, profile):
+    """The text that a model of `tighten` writes; None if it is no proof."""
+    try:
+        return model.tightened(case.path.read_bytes(), profile)[0]
+    except model.Refused:
+        return None
+
+
+def wrong_rules_are_found():
+    check(sum(map(len, WRONG.values())) >= LEAST_WRONG and {*WRONG, 'tightening'} == set(RULES), 'too few wrong rules')
+    for rule, edits in WRONG.items():
+        for words, old, new in edits:
+            check(finds(rule, changed('plain_check.py', old, new)), f'no case of {rule} finds: {words}')
+    for words, old, new in WRONG_TIGHTENING:
+        model = changed('plain_tighten.py', old, new)
+        check(any(writes(model, it, profile) != it.tightened.read_bytes()
+                  for profile in (1, 2) for it in runner.cases(profile) if it.tightened), f'no case of tightening finds: {words}')
+
+
+# ---- run.py itself
+
+def outcomes_are_said(folder):
+    """What run.py says of checkers that always accept, that print, crash, hang, or aren't there."""
+    found = list(runner.cases())
+    refused = {f'{it.rule}/{it.name}' for it in found if it.verdict == 'refused'}
+    junit = Path(folder, 'junit.xml')
+    outcome, status = answer('--junit', junit, '--', 'true')
+    check(status == 1 and {it['case'] for it in outcome['faults']} == refused, f'true: status {status}')
+    suites = ElementTree.parse(junit).getroot()
+    check(sum(int(it.get('tests')) for it in suites) == len(found), 'JUnit: the number of tests')
+    check(len(suites.findall('.//failure')) == len(refused), 'JUnit: the number of failures')
+    sizes = [answer('--only', kind, '--rule', 'uns', '--rule', 'sol', '--', 'true')[0]['cases'] for kind in ('format', 'choice')]
+    check(sum(sizes) == sum(it.rule in ('uns', 'sol') for it in found) and all(sizes), f'--only: {sizes}')
+    for words in ['--', 'sh', '-c', 'kill -SEGV $$'], ['--seconds', '0.3', '--', 'sh', '-c', 'sleep 60 | cat'], \
+            ['--refused', '1', '--', 'sh', '-c', 'exit 3'], ['--', 'sh', '-c', 'sh -c "kill -ABRT \\$\\$"; exit $?']:
+        outcome, status = answer('--rule', 'asm', *words)
+        check(status == 1 and 0 < outcome['cases'] == outcome['crash'], f'{words}: {outcome}')
+    agrees('--rule', 'asm', '--accept', '^verified', '--', sys.executable, TOP / 'bench/plain_check.py', '{}')
+    agrees('--rule', 'asm', '--', PROGRAM, 'check')
+    for words in ['--', Path(folder, 'missing'), '{}'], []:
+        check(answer(*words)[1] == 2, f'{words}: not status 2')
+    text = run([sys.executable, FOLDER / 'run.py', '--rule', 'sol', '--', 'true']).stdout.decode()
+    check(re.search(r'^sol +\d+ +\d+ +\d+ +0$', text, re.M) and 'verified, which is to be refused\n    ' in text, text)
 
 
 def main():
     sys.set_int_max_str_digits(0)
     table_is_whole()
     program_agrees()
+    with tempfile.TemporaryDirectory(prefix='vipr-conformance-') as folder:
+        other_checker_agrees(folder)
+        outcomes_are_said(folder)
     model_agrees()
+    wrong_rules_are_found()
     return CHECKS.end()
 
 
