@@ -5,7 +5,8 @@
 # make uninstall PREFIX=.. takes them away again
 # make lib               the library for C: libvipr.a and a shared one in crates/vipr_c/out
 # make install-lib PREFIX=.. installs it, with include/vipr.h and vipr.pc; make uninstall-lib removes it
-# make dist              one archive of program, libraries, man page, completions and pages, which needs no kit: dist/
+# make dist              one archive of program, libraries, man page, completions and pages, which needs no kit, and one of the
+#                        conformance cases: dist/
 # make house             checks the repository's text: laws, names, lengths, the tables and pages made from the files
 # make wrong             tries more wrong versions of the code, which the prover has to refuse (hours), CRATES=NAME those of one crate
 # make bench             times the program over certificates that a script makes, beside wc -w and cat
@@ -34,7 +35,7 @@ override export DOC := $(SHARE)/doc/vipr
 override export INCLUDE := $(DESTDIR)$(PREFIX)/include
 override export LIB := $(DESTDIR)$(LIBDIR)
 # what is installed to be read: the pages, and what they link to
-PAGES = README.md CONTRIBUTING.md CHANGELOG.md LICENSE include/vipr.h $(wildcard docs/*.md docs/*.svg) \
+PAGES = README.md CONTRIBUTING.md CHANGELOG.md LICENSE include/vipr.h conformance/README.md $(wildcard docs/*.md docs/*.svg) \
 	$(wildcard examples/*.* examples/*/*.* examples/rust/src/*.rs examples/rust/src/bin/*.rs)
 
 # the library for C: its version is the program's

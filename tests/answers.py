@@ -1,12 +1,12 @@
 #!/usr/bin/env python3
-"""What the built program answers on small certificates, on copies with a part replaced, and on command lines.
+"""What the built program answers on small certificates, however they reach it, and on command lines.
 
 usage: tests/answers.py [PROGRAM]     crates/vipr/out/vipr without it
 
-Each text is checked and explained: from a file, from standard input as a whole, and from a pipe in pieces of a few
-bytes, of which each is read before the next is written. Then texts are shown and tightened, to standard output and to
-files, and the words of command lines are tried. Looked at is all that is printed on both outputs, the exit status, and
-the files that are written. Streams that fail are tried by tests/hostile.py and by the tests in crates/vipr.
+Of each folder of conformance/ one text for each cause is checked and explained: from a file, from standard input as a
+whole, and from a pipe in pieces of a few bytes, of which each is read before the next is written. Then texts are shown and
+tightened, to standard output and to files, and the words of command lines are tried. Looked at is all that is printed on
+both outputs, the exit status, and the files that are written. Streams that fail are tried by tests/hostile.py and by the tests in crates/vipr.
 
 Prints each fault, and last `answers: N checks, F failed`; the exit status is 1 where one failed.
 """
@@ -20,189 +20,20 @@ from pathlib import Path
 
 from texts import TOP, Checks, fed, program
 from plain_check import readable
+from run import cases
 
 PROGRAM = program(sys.argv[1:])
 COMMANDS = ['check', 'explain', 'show', 'tighten']
 # the largest number
 M = 2**127 - 1
 
-# The partial sums M, M - 1 and M.
-UP_AND_DOWN = f'''VER 1.0
-VAR 1
-x
-INT 0
-OBJ min
-0
-CON 3 0
-a G 0 1 0 {M}
-b G 0 1 0 1
-c E 0 1 0 1
-RTP range -inf inf
-SOL 0
-DER 1
-f G 0 1 0 {M} {{ lin 3 0 1 2 -1 1 1 }} -1
-'''
-
-# For each certificate of examples/, and the one above: what stands there, what is put in its place, and what `explain`
-# prints then; and what it prints by the second profile, where that is something else. `check` prints the verdict alone.
-EDITS = {
-    'infeasible': [
-        ('', '', 'verified infeas\nsolutions 0 derived 1 peak 1\ngoal 2'),
-        ('1.0', '1.1', 'refused 3 at byte 4\ncause UnsupportedVersion'),
-        ('VAR', 'VAX', 'refused 2 at byte 8\ncause WrongKeyword'),
-        ('VAR 1', 'VAR -1', 'refused 7 at byte 12\ncause BadCount'),
-        ('min', 'mid', 'refused 12 at byte 26\ncause BadObjectiveSense'),
-        ('a G', 'a g', 'refused 11 at byte 42\ncause BadSense'),
-        ('a G 1', 'a G 1/0', 'refused 6 at byte 44\ncause ZeroDenominator'),
-        ('a G 1', 'a G 1/-2', 'refused 4 at byte 44\ncause BadNumber'),
-        ('a G 1', 'a G 0.5', 'refused 4 at byte 44\ncause BadNumber'),
-        ('a G 1', f'a G {M + 1}', 'refused 5 at byte 44\ncause NumberTooLarge'),
-        ('a G 1 1 0 1', 'a G 1 2 0 1 0 2', 'refused 10 at byte 52\ncause RepeatedIndex'),
-        ('a G 1 1 0', 'a G 1 1 1', 'refused 9 at byte 48\ncause BadIndex'),
-        ('a G 1 1 0 1', f'a G 1 1 0 {M + 1}', 'refused 5 at byte 50\ncause NumberTooLarge'),
-        ('infeas', 'feas', 'refused 13 at byte 68\ncause BadClaim'),
-        ('DER 1', 'DER 4294967294', 'refused 8 at byte 85\ncause CountTooLarge'),
-        ('DER 1', 'DER 4294967293', 'refused 1 at byte 126\ncause Truncated'),
-        ('{ lin', '{lin', 'refused 15 at byte 95\ncause BadBrace'),
-        ('lin', 'sum', 'refused 14 at byte 97\ncause BadReason'),
-        ('lin 2 0', 'lin 2 -1', 'refused 16 at byte 103\ncause BadReference'),
-        ('lin 2 0 1 1 -1', 'lin 2 9 1 1 q', 'refused 4 at byte 109\ncause BadNumber'),
-        (' -1 } -1\n', '', 'refused 1 at byte 108\ncause Truncated'),
-        ('} -1', '} -2', 'refused 16 at byte 114\ncause BadReference'),
-        ('} -1\n', '} -1\n x', 'refused 18 at byte 118\ncause TrailingText'),
-        ('a G 1 1 0 1', f'a G 1 1 0 {M}',
-         f'refused 38 at DER 2\ncause NotDominated\nderivation 2 f\ncomputed G 1 1 0 {M - 1}\nstated G 1 0'),
-        ('1 1 -1 }', '1 2 -1 }', 'refused 31 at DER 2\ncause NotEarlier\nderivation 2 f\nindex 2'),
-        ('1 -1 }', '1 1 }', 'refused 34 at DER 2\ncause MixedSigns\nderivation 2 f\nentry 1'),
-        ('1 -1 } -1\n', '1 1 } -1\n x', 'refused 34 at DER 2\ncause MixedSigns\nderivation 2 f\nentry 1'),
-    ],
-    'both_branches': [
-        ('', '', 'verified infeas\nsolutions 0 derived 5 peak 4\ngoal 6'),
-        ('uns 4 2 5 3', 'uns 5 3 4 2', 'verified infeas\nsolutions 0 derived 5 peak 4\ngoal 6'),
-        ('} 6\nf', '} 5\nf', 'refused 32 at DER 6\ncause Dropped\nderivation 6 g\nindex 4'),
-        ('uns 4 2 5 3', 'uns 5 2 4 3', 'refused 51 at end\ncause NoProof\ngoal absurdity'),
-        ('uns 4 2 5 3', 'uns 4 0 5 3', 'refused 33 at DER 6\ncause NotAssumption\nderivation 6 g\nindex 0'),
-        ('uns 4 2 5 3', 'uns 4 2 5 4', 'refused 33 at DER 6\ncause NotAssumption\nderivation 6 g\nindex 4'),
-        ('uns 4 2 5 3', 'uns 4 2 5 2',
-         'refused 37 at DER 6\ncause NotSplit\nderivation 6 g\nfirst L 0 1 0 1\nsecond L 0 1 0 1'),
-        ('d G 1 1 0 1', 'd G 2 1 0 1',
-         'refused 37 at DER 6\ncause NotSplit\nderivation 6 g\nfirst L 0 1 0 1\nsecond G 2 1 0 1'),
-        ('INT 1\n0\n', 'INT 0\n',
-         'refused 37 at DER 6\ncause NotSplit\nderivation 6 g\nfirst L 0 1 0 1\nsecond G 1 1 0 1'),
-        ('e G 1 0 {', 'e G 0 0 {',
-         'refused 38 at DER 6\ncause NotDominated\nderivation 6 g\ncomputed G 0 0\nstated G 1 0'),
-        ('f G 1 0 {', 'f G 1/2 0 {', 'verified infeas\nsolutions 0 derived 5 peak 4\ngoal 6'),
-        ('f G 1 0 {', 'f G -3/2 0 {',
-         'refused 38 at DER 6\ncause NotDominated\nderivation 6 g\ncomputed G -3/2 0\nstated G 1 0'),
-        ('DER 5', 'DER 3', 'refused 18 at byte 162\ncause TrailingText'),
-    ],
-    'both_branches_loose': [
-        ('', '', 'verified infeas\nsolutions 0 derived 6 peak 6\ngoal 7'),
-    ],
-    'covering_split': [
-        ('', '',
-         'refused 37 at DER 6\ncause NotSplit\nderivation 6 g\nfirst L 1/4 1 0 1\nsecond G 3/4 1 0 1',
-         'verified infeas\nsolutions 0 derived 5 peak 4\ngoal 6'),
-    ],
-    'rounding_min': [
-        ('', '',
-         'verified range 1 1\nsolutions 1 derived 1 peak 1\ngoal 1',
-         'verified range 1 1\nsolutions 1 derived 1 peak 1\ngoal 0'),
-        ('INT 1\n0\n', 'INT 0\n', 'refused 36 at DER 1\ncause NotRoundable\nderivation 1 d\nsum G 1/2 1 0 1'),
-        ('s 1 0 1', 's 1 0 1/2', 'refused 21 at SOL 0\ncause SolutionNotWhole\nsolution 0 s\nvariable 0 x\nvalue 1/2'),
-        ('range 1 1', 'range 1 0', 'refused 52 at end\ncause NoPrimal\nbound 0'),
-        ('range 1 1', 'range 3/2 1', 'refused 51 at end\ncause NoProof\ngoal G 3/2 1 0 1'),
-        ('range 1 1', 'range -2/4 6/3', 'verified range -1/2 2\nsolutions 1 derived 1 peak 1\ngoal 0'),
-        ('range 1 1\nSOL 1\ns 1 0 1\n', 'range 1 inf\nSOL 0\n',
-         'verified range 1 inf\nsolutions 0 derived 1 peak 1\ngoal 1',
-         'verified range 1 inf\nsolutions 0 derived 1 peak 1\ngoal 0'),
-        ('range 1 1\nSOL 1\ns 1 0 1\n', 'range 1 7/2\nSOL 2\ns 1 0 3\nt 1 0 2\n',
-         'verified range 1 7/2\nsolutions 2 derived 1 peak 1\ngoal 1',
-         'verified range 1 7/2\nsolutions 2 derived 1 peak 1\ngoal 0'),
-        ('d G 1 1 0 1', 'd G 2 1 0 1',
-         'refused 38 at DER 1\ncause NotDominated\nderivation 1 d\ncomputed G 1 1 0 1\nstated G 2 1 0 1'),
-    ],
-    'rounding_max': [
-        ('', '',
-         'verified range 2 2\nsolutions 1 derived 1 peak 1\ngoal 1',
-         'verified range 2 2\nsolutions 1 derived 1 peak 1\ngoal 0'),
-        ('range 2 2', 'range 3 2', 'refused 52 at end\ncause NoPrimal\nbound 3'),
-        ('range 2 2', 'range 5/2 2', 'refused 52 at end\ncause NoPrimal\nbound 5/2'),
-        ('range 2 2', 'range 2 1', 'refused 51 at end\ncause NoProof\ngoal L 1 1 0 1'),
-        ('range 2 2', 'range -inf inf', 'verified range -inf inf\nsolutions 1 derived 1 peak 1\ngoal none'),
-        ('d L 2', 'd L 1',
-         'refused 38 at DER 1\ncause NotDominated\nderivation 1 d\ncomputed L 2 1 0 1\nstated L 1 1 0 1'),
-        ('DER 1\nd L 2 1 0 1 { rnd 1 0 1 } -1\n', 'DER 0\n',
-         'refused 51 at end\ncause NoProof\ngoal L 2 1 0 1',
-         'verified range 2 2\nsolutions 1 derived 0 peak 0\ngoal 0'),
-    ],
-    'rounding_equation': [
-        ('', '', 'verified infeas\nsolutions 0 derived 1 peak 1\ngoal 1'),
-        ('INT 1\n0\n', 'INT 0\n', 'refused 36 at DER 1\ncause NotRoundable\nderivation 1 f\nsum E 1/2 1 0 1'),
-    ],
-    'whole_objective': [
-        ('', '',
-         'refused 51 at end\ncause NoProof\ngoal G 1 1 0 1',
-         'verified range 1 1\nsolutions 1 derived 0 peak 0\ngoal 0'),
-        ('INT 1\n0', 'INT 0', 'refused 51 at end\ncause NoProof\ngoal G 1 1 0 1'),
-        ('a G 1/2 1 0 1\nRTP range 1 1\nSOL 1\ns 1 0 1', 'a E 1/2 1 0 1\nRTP range 7 inf\nSOL 0',
-         'refused 51 at end\ncause NoProof\ngoal G 7 1 0 1',
-         'verified range 7 inf\nsolutions 0 derived 0 peak 0\ngoal 0'),
-        ('1 0 1\nCON 1 0\na G 1/2 1 0 1\nRTP range 1 1', '1 0 1/2\nCON 1 0\na G 1/2 1 0 1\nRTP range 1/2 1/2',
-         'refused 51 at end\ncause NoProof\ngoal G 1/2 1 0 1/2'),
-    ],
-    'cutoff_alone': [
-        ('', '', 'refused 51 at end\ncause NoProof\ngoal absurdity'),
-        ('s 1 0 3', 's 1 0 2',
-         'refused 22 at SOL 0\ncause SolutionBreaks\nsolution 0 s\nconstraint 0 a\nleft 2 G right 3'),
-        ('SOL 1\ns 1 0 3\n', 'SOL 2\ns 1 0 3\nt 1 0 2\n',
-         'refused 22 at SOL 1\ncause SolutionBreaks\nsolution 1 t\nconstraint 0 a\nleft 2 G right 3'),
-        ('SOL 1\ns 1 0 3\n', 'SOL 3\ns 1 0 3\nt 1 0 4\nu 1 0 2\n',
-         'refused 22 at SOL 2\ncause SolutionBreaks\nsolution 2 u\nconstraint 0 a\nleft 2 G right 3'),
-        ('CON 1 0\na G 3 1 0 1\nRTP infeas\nSOL 1\n',
-         'CON 2 0\na G 3 1 0 1\nb L 7/2 1 0 2\nRTP infeas\nSOL 2\nt 1 0 7/4\n',
-         'refused 22 at SOL 0\ncause SolutionBreaks\nsolution 0 t\nconstraint 0 a\nleft 7/4 G right 3'),
-        ('CON 1 0\na G 3 1 0 1\nRTP infeas\nSOL 1\ns 1 0 3\n',
-         'CON 2 0\na G 3 1 0 1\nb L 7 1 0 2\nRTP infeas\nSOL 2\ns 1 0 3\nt 1 0 4\n',
-         'refused 22 at SOL 1\ncause SolutionBreaks\nsolution 1 t\nconstraint 1 b\nleft 8 L right 7'),
-        ('c L 3', 'c L 2',
-         'refused 38 at DER 1\ncause NotDominated\nderivation 1 c\ncomputed L 3 1 0 1\nstated L 2 1 0 1'),
-        ('c L 3', 'c L 4', 'refused 51 at end\ncause NoProof\ngoal absurdity'),
-        ('SOL 1\ns 1 0 3\n', 'SOL 2\ns 1 0 3\nt 1 0 7/2\n', 'refused 51 at end\ncause NoProof\ngoal absurdity'),
-        ('SOL 1\ns 1 0 3\n', 'SOL 0\n', 'refused 39 at DER 1\ncause NoSolution\nderivation 1 c'),
-    ],
-    'cutoff_loose': [
-        ('', '', 'verified range 3 3\nsolutions 1 derived 2 peak 2\ngoal 2'),
-    ],
-    'overflow': [
-        ('', '', 'refused 35 at DER 1\ncause Overflow\nderivation 1 f\nentry 0'),
-        ('SOL 0\n', 'SOL 1\ns 1 0 2\n', 'refused 23 at SOL 0\ncause SolutionOverflow\nsolution 0 s\nconstraint 0 a'),
-    ],
-    'up_and_down': [
-        ('', '', 'verified range -inf inf\nsolutions 0 derived 1 peak 1\ngoal none'),
-        ('lin 3 0 1 2 -1 1 1', 'lin 3 0 1 1 1 2 -1', 'refused 35 at DER 3\ncause Overflow\nderivation 3 f\nentry 1'),
-    ],
-    'no_variables': [
-        ('', '', 'verified infeas\nsolutions 0 derived 0 peak 0\ngoal 0'),
-    ],
-    'no_bounds': [
-        ('', '', 'verified range -inf inf\nsolutions 0 derived 0 peak 0\ngoal none'),
-        ('1 0 1\nCON 0 0\nRTP range -inf inf\nSOL 0\n', f'1 0 {2**126}\nCON 0 0\nRTP range -inf inf\nSOL 1\ns 1 0 2\n',
-         'refused 23 at SOL 0\ncause SolutionOverflow\nsolution 0 s\nobjective'),
-    ],
-    'lenient': [
-        ('', '', 'verified range -inf inf\nsolutions 0 derived 0 peak 0\ngoal none'),
-    ],
-}
-
-# Other texts, and what `explain` prints.
-BEGINNINGS = [
-    ('', 'refused 1 at byte 0\ncause Truncated'),
-    ('%x', 'refused 1 at byte 2\ncause Truncated'),
-    ('VER 1.1', 'refused 3 at byte 4\ncause UnsupportedVersion'),
-    ('VER 1.0\nVAR 4294967295\n', 'refused 1 at byte 23\ncause Truncated'),
-    ('VER 1.0\nVAR 4294967296\n', 'refused 8 at byte 12\ncause CountTooLarge'),
-]
+VERIFIED = 'verified infeas\nsolutions 0 derived 1 peak 1\ngoal 2'
+# a text that is read a byte at a time has fewer bytes
+SHORT = 4096
+# examples in their canonical spelling, proofs and others
+CANONICAL = ['infeasible', 'both_branches', 'both_branches_loose', 'covering_split', 'rounding_min', 'rounding_max',
+             'rounding_equation', 'whole_objective', 'cutoff_alone', 'cutoff_loose', 'cutoff_tight', 'overflow', 'no_variables',
+             'no_bounds', 'lenient_canonical']
 
 # The name of a derivation, and how it is printed: as it is where its bytes can be seen, and escaped elsewhere.
 NAMES = [
@@ -336,7 +167,7 @@ def cut(what, wanted, text, command, places):
 # ---- texts
 
 def certificate(name):
-    return UP_AND_DOWN.encode() if name == 'up_and_down' else (TOP / f'examples/{name}.vipr').read_bytes()
+    return (TOP / f'examples/{name}.vipr').read_bytes()
 
 
 def edited(name, old, new):
@@ -348,13 +179,14 @@ def edited(name, old, new):
 
 def explained_texts():
     """The texts, with what `explain` prints of each by the first profile, and by the second where that differs."""
-    for name, rows in EDITS.items():
-        for old, new, *lines in rows:
-            yield f'{name} with {new!r} for {old!r}', edited(name, old, new), lines
-    for text, lines in BEGINNINGS:
-        yield repr(text), text.encode(), [lines]
-    first_branch = edited('both_branches', 'DER 5', 'DER 3').split(b'f G')[0]
-    yield 'the first branch alone', first_branch, ['refused 51 at end\ncause NoProof\ngoal absurdity']
+    seen = set()
+    for first, second in zip(cases(1), cases(2)):
+        kind = first.rule, *first.lines[0].split()[:2], *second.lines[0].split()[:2]
+        text = first.path.read_bytes()
+        if kind not in seen and len(text) < SHORT:
+            seen.add(kind)
+            lines = ['\n'.join(first.lines)] + (['\n'.join(second.lines)] if first.lines != second.lines else [])
+            yield f'{first.rule}/{first.name}', text, lines
     front = certificate('infeasible').split(b'f G')[0]
     for name, shown in NAMES:
         check(readable(name) == shown, f'the model prints the name {name} as {readable(name)!r}')
@@ -386,13 +218,10 @@ def explains(what, text, lines):
 
 def long_texts():
     """Names of 65,535 and 65,536 bytes, and comments of 200,000."""
-    verified = EDITS['infeasible'][0][2]
-    yield 'a long name', edited('infeasible', '\nx\n', f'\n{"x" * 65535}\n'), verified
-    yield 'a name that is too long', edited('infeasible', '\nx\n', f'\n{"x" * 65536}\n'), \
-        'refused 17 at byte 14\ncause TokenTooLong'
-    comment = b'%' + b'c' * 200000 + b'\n'
-    yield 'a long comment', comment + certificate('infeasible'), verified
-    yield 'a number behind a comment', comment + edited('infeasible', 'a G 1 1 0 1', f'a G 1 1 0 {M + 1}'), \
+    for case in cases():
+        if (case.rule, case.name) in (('text', 'longest-name'), ('text', 'name-too-long'), ('text', 'long-comment')):
+            yield case.name, case.path.read_bytes(), '\n'.join(case.lines)
+    yield 'a number behind a comment', b'%' + b'c' * 200000 + b'\n' + edited('infeasible', 'a G 1 1 0 1', f'a G 1 1 0 {M + 1}'), \
         'refused 5 at byte 200052\ncause NumberTooLarge'
 
 
@@ -434,10 +263,9 @@ def shows(what, text, wanted):
 
 def shown_texts():
     """The texts that are shown, with the answers. Canonical ones are shown as they are, proofs and others."""
-    for name in [*EDITS, 'cutoff_tight']:
-        text = certificate(name)
-        yield name, text, (certificate('lenient_canonical') if name == 'lenient' else text, b'', 0)
-    yield 'lenient_canonical', certificate('lenient_canonical'), (certificate('lenient_canonical'), b'', 0)
+    for name in CANONICAL:
+        yield name, certificate(name), (certificate(name), b'', 0)
+    yield 'lenient', certificate('lenient'), (certificate('lenient_canonical'), b'', 0)
     # a last reference that comes before the derivation that refers
     early = edited('both_branches', '} 6\nf', '} 5\nf')
     yield 'an early last reference', early, (early, b'', 0)
@@ -446,7 +274,7 @@ def shown_texts():
 
 
 def cut_anywhere():
-    cut('infeasible', judged(verdict(EDITS['infeasible'][0][2])), certificate('infeasible'), 'check', range(1, 117))
+    cut('infeasible', judged(verdict(VERIFIED)), certificate('infeasible'), 'check', range(1, 117))
     lenient = certificate('lenient')
     cut('lenient', (certificate('lenient_canonical'), b'', 0), lenient, 'show', range(1, len(lenient)))
 
@@ -569,7 +397,7 @@ def other_words():
     for word in '--help', '-h':
         expect('help of help', answer(['help']), ['help', word])
     expect('the version', (b'vipr 1.0.0\n', b'', 0), ['--version'])
-    expect('whole_objective', judged(EDITS['whole_objective'][0][3]), ['explain', '--profile=2'],
+    expect('whole_objective', judged('verified range 1 1\nsolutions 1 derived 0 peak 0\ngoal 0'), ['explain', '--profile=2'],
            certificate('whole_objective'))
     for command in COMMANDS:
         for path in new_path(), '/':

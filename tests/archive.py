@@ -11,7 +11,8 @@ The archive is unpacked in an empty folder, or in ROOT and used there by chroot.
 the path. Its sums are right; `vipr check` verifies an example, the man page is laid out if `man` is there, the callers in C
 (if there is a compiler) and Python answer as the program does, and the Python package's commands run. If dpkg-buildpackage
 and debhelper are there, it makes packages, and lintian, if it is there, finds no error in them. The archive made a second
-time has the same bytes. What isn't tried is named. It needs what `make lib` builds.
+time has the same bytes, and so has the wheel, which is installed into an environment of its own, and the archive of the
+conformance cases, whose script runs the program on some. What isn't tried is named. It needs what `make lib` builds.
 
 Prints each fault, and last `archive: N checks, F failed`; the exit status is 1 if one failed.
 """
@@ -28,6 +29,7 @@ from texts import TOP, Checks
 VERSION = re.search(r'VIPR_VERSION "(.*)"', (TOP / 'include/vipr.h').read_text())[1]
 PATH = '/usr/sbin:/usr/bin:/sbin:/bin'
 EXAMPLE = 'share/doc/vipr/examples/infeasible.vipr'
+CASES = 'vipr-conformance-1.0'
 VERDICT = 'verified infeas\nsolutions 0 derived 1 peak 1\n'
 # what a name may do to a shell or to make; each runs `touch PWNED` if it is run
 NAMES = ['a`touch PWNED`.vipr', 'b$(shell touch PWNED).vipr', 'c"; touch PWNED; ".vipr', "d'; touch PWNED; '.vipr",
@@ -119,7 +121,7 @@ def made(folder):
     done = subprocess.run([sys.executable, TOP / 'tools/dist.py', VERSION, folder], cwd=TOP, capture_output=True, text=True,
                           check=False)
     check(done.returncode == 0, done.stdout + done.stderr)
-    return folder / f'vipr-{VERSION}-linux-x86_64.tar.gz'
+    return [folder / f'vipr-{VERSION}-linux-x86_64.tar.gz', folder / f'{CASES}.tar.xz', *folder.glob('*.whl')]
 
 
 def use(place):
@@ -188,6 +190,17 @@ def tried_wheel(folder):
     check(run('python3', '-c', code, example)[:2] == (0, VERDICT), run('python3', '-c', code, example))
 
 
+def use_cases(place):
+    """The conformance cases, unpacked beside the program."""
+    there = {str(it.relative_to(TOP / 'conformance')) for it in (TOP / 'conformance').rglob('*') if '__pycache__' not in it.parts}
+    folder = place.folder.parent / CASES
+    found = {str(it.relative_to(folder)) for it in folder.rglob('*')}
+    check(found == there | {'LICENSE'}, f'the archive of cases has other files: {sorted(found ^ there)[:5]}')
+    if place.has('python3'):
+        status, out, fault = place.run(f'../{CASES}/run.py --rule asm --rule sol --refused 1 -- ./bin/vipr check {{}}')
+        check(status == 0, out + fault)
+
+
 def packages(place):
     if not place.has('dpkg-buildpackage') or not place.has('dh'):
         return
@@ -219,14 +232,16 @@ def main():
     with tempfile.TemporaryDirectory(prefix='vipr-dist-', dir=root and root / 'tmp') as name:
         folder = Path(name)
         folder.chmod(0o755)
-        archive, again = made(folder), made(folder / 'again')
-        for it in (archive, next(folder.glob('*.whl'))):
-            check(it.read_bytes() == (folder / 'again' / it.name).read_bytes(), f'{it.name} made a second time is another one')
+        archives, again = made(folder), made(folder / 'again')
+        for archive, other in zip(archives, again):
+            check(archive.read_bytes() == other.read_bytes(), f'{archive.name} made a second time is another one')
+        for archive in archives[:2]:
+            subprocess.run(['tar', 'xf', archive], cwd=folder, check=True)
         tried_wheel(folder)
         shutil.rmtree(folder / 'again')
-        subprocess.run(['tar', 'xf', archive], cwd=folder, check=True)
         place = Place(folder / f'vipr-{VERSION}', root)
         use(place)
+        use_cases(place)
         packages(place)
     if 'cc' in left_out:
         CHECKS.skip('C compiler', 'the library of the archive was not linked')

@@ -28,12 +28,10 @@ from texts import TOP, Checks, program, run
 from wrong_rules import WRONG, WRONG_TIGHTENING
 from plain_check import explained
 from plain_tighten import tightened
+import lengths
+import run as runner
 
 FOLDER = TOP / 'conformance'
-sys.path.insert(0, str(FOLDER))
-import lengths  # noqa: E402
-import run as runner  # noqa: E402
-
 LEAST, LARGEST, LEAST_WRONG = 400, 4096, 60
 RULES = 'text numbers problem claim solutions asm lin rnd uns sol goal references tightening'.split()
 # what a sentence may not name: files, pages, numbers of causes, another case

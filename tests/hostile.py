@@ -38,9 +38,9 @@ from pathlib import Path
 from texts import TOP, Checks, program, run, spent, text_of
 import families
 from plain_check import verdict
+from run import cases
 
 PROGRAM = program(sys.argv[1:])
-M = 2**127 - 1
 MEMORY = b'', b'fault memory\n', 3
 READ = b'', b'fault read\n', 3
 ROOM = 64 << 20
@@ -419,43 +419,11 @@ def beginnings(examples):
 
 
 def limits():
-    """Counts over an empty rest, and numbers and tokens at and past their limits, in little memory."""
-    text = (TOP / 'examples/infeasible.vipr').read_bytes()
-    at = {word: text.index(word) for word in (b'INT', b'OBJ', b'CON', b'SOL', b'DER')}
-    right_hand = text.index(b'a G 1') + 4
-    most = b'4294967295'
-
-    def put(place, length, new):
-        return text[:place] + new + text[place + length:]
-    first, last = text.rindex(b'2 0 1') + 2, text.rindex(b'-1')
-    verified = 'verified infeas\nsolutions 0 derived 1 peak 1'
-    rows = [
-        (text[:at[b'INT']] + b'INT %s\n' % most, 'refused 1 at byte'),
-        (text[:at[b'OBJ'] + 8] + most + b'\n', 'refused 1 at byte'),
-        (text[:at[b'CON']] + b'CON %s 0\n' % most, 'refused 1 at byte'),
-        (text[:at[b'SOL']] + b'SOL %s\n' % most, 'refused 1 at byte'),
-        (text[:at[b'DER']] + b'DER 4294967293\n', 'refused 1 at byte'),
-        (text[:at[b'DER']] + b'DER 4294967294\n', None),
-        (text[:first - 2] + most, 'refused 1 at byte'),
-        (put(right_hand, 1, b'0' * 65534 + b'1'), verified),
-        (put(right_hand, 1, b'9' * 65535), f'refused 5 at byte {right_hand}'),
-        (put(right_hand, 1, b'9' * 65536), f'refused 17 at byte {right_hand}'),
-        (put(right_hand, 1, b'%d' % M), verified),
-        (put(right_hand, 1, b'%d' % (M + 1)), f'refused 5 at byte {right_hand}'),
-        (put(right_hand, 1, b'%d/%d' % (M, M - 1)), verified),
-        (put(right_hand, 1, b'1/%d' % (M + 1)), f'refused 5 at byte {right_hand}'),
-        (text + b' ' + b'x' * 65536, f'refused 18 at byte {len(text) + 1}'),
-        (put(first, 1, most), 'refused 31 at DER 2'),
-        (put(first, 1, b'4294967296'), f'refused 16 at byte {first}'),
-        (put(last, 2, most), verified),
-        (put(last, 2, b'4294967296'), None),
-        (b'%' * 200000 + b'\n' + text, verified),
-    ]
-    for n, (row, wanted) in enumerate(rows):
-        model = verdict(row)
-        if wanted is not None and not model.startswith(wanted):
-            expect(f'the model at limit {n}', (model,), (wanted,))
-        expect(f'limit {n}', answer(['check'], row, room=ROOM), lines(model))
+    """Counts over an empty rest, and numbers, indices and tokens at and past their limits, in little memory."""
+    def one(case):
+        wanted = lines('\n'.join(case.lines[:1 + (case.verdict == 'verified')]))
+        expect(f'{case.rule}/{case.name} in little memory', answer(['check'], case.path.read_bytes(), room=ROOM), wanted)
+    each(one, [it for it in cases() if it.rule in ('text', 'numbers', 'problem', 'references')])
 
 
 def what_is_asked_for():

@@ -14,7 +14,7 @@ from collections import namedtuple
 from pathlib import Path
 
 TOP = Path(__file__).resolve().parent.parent
-sys.path[:0] = [str(TOP / 'bench'), str(TOP / 'tools')]
+sys.path[:0] = [str(TOP / folder) for folder in ('bench', 'tools', 'conformance')]
 GNU_TIME, VALGRIND = shutil.which('time'), shutil.which('valgrind')
 ENVIRONMENT = {'PATH': os.environ.get('PATH', '/usr/bin:/bin'), 'LC_ALL': 'C.UTF-8'}
 # a run that takes longer is ended, and its answer is none that is wanted

@@ -1,15 +1,18 @@
 #!/usr/bin/env python3
-"""Makes one archive of what is built: program, libraries, header, man page, completions, pages and the Python package.
+"""Makes one archive of what is built: program, libraries, header, man page, completions, pages and the Python package; and
+one of the conformance cases.
 
 usage: tools/dist.py VERSION [FOLDER]     FOLDER is dist without it
 
 `make dist` calls it once the program and the library are built. FOLDER gets a wheel of the Python
 package that has the program and the library in it, and vipr-VERSION-linux-x86_64.tar.gz, whose files lie in a folder vipr-VERSION: bin, lib, include and share as `make install` lays them out, python, and debian, so that
 `dpkg-buildpackage -b` makes packages of them. SHA256SUMS has the sum of each file, and BUILD the kit, its logic and the
-commit. The same files and commit give the same bytes. The exit status is 1 if a command fails.
+commit. vipr-conformance-1.0.tar.xz has the folder conformance and the licence; its number is the format's version. The same
+files and commit give the same bytes. The exit status is 1 if a command fails.
 """
 import gzip
 import hashlib
+import lzma
 import os
 import shutil
 import subprocess
@@ -26,6 +29,8 @@ import kit
 TOP = Path(__file__).resolve().parent.parent
 # (the glibc is that of README)
 WHEEL_TAG = 'py3-none-manylinux_2_34_x86_64'
+# the version of the format, and not of the program
+FORMAT = '1.0'
 INSTALL = '''vipr {version}, a proved checker of VIPR certificates, built for Linux on x86-64.
 
 It needs glibc 2.34 or later (Debian 12, Ubuntu 22.04), and nothing else: neither Rust nor the kit that proved it.
@@ -77,18 +82,23 @@ def lay_out(tree, version):
     return day
 
 
-def pack(tree, archive, day):
-    """Writes a folder as an archive, in which nothing depends on when and by whom it was made."""
+def lay_out_cases(tree):
+    """Puts the conformance cases into a folder."""
+    shutil.copytree(TOP / 'conformance', tree, ignore=shutil.ignore_patterns('__pycache__'))
+    shutil.copy(TOP / 'LICENSE', tree)
+
+
+def pack(tree, packed, day):
+    """Writes a folder to a stream as an archive, in which nothing depends on when and by whom it was made."""
     def plain(it):
         it.uid = it.gid = 0
         it.uname = it.gname = 'root'
         it.mtime = day
         it.mode = 0o755 if it.isdir() or it.mode & 0o100 else 0o644
         return it
-    with open(archive, 'wb') as file, gzip.GzipFile('', 'wb', 9, file, 0) as packed:
-        with tarfile.open(fileobj=packed, mode='w', format=tarfile.GNU_FORMAT) as tar:
-            for path in [tree, *sorted(tree.rglob('*'))]:
-                tar.add(path, path.relative_to(tree.parent), recursive=False, filter=plain)
+    with tarfile.open(fileobj=packed, mode='w', format=tarfile.GNU_FORMAT) as tar:
+        for path in [tree, *sorted(tree.rglob('*'))]:
+            tar.add(path, path.relative_to(tree.parent), recursive=False, filter=plain)
 
 
 def write_wheel(folder, version):
@@ -106,15 +116,20 @@ def main():
     version, folder = sys.argv[1], Path(sys.argv[2] if len(sys.argv) > 2 else TOP / 'dist')
     start = time.monotonic()
     folder.mkdir(parents=True, exist_ok=True)
-    archive = folder / f'vipr-{version}-linux-x86_64.tar.gz'
+    archive, cases = folder / f'vipr-{version}-linux-x86_64.tar.gz', folder / f'vipr-conformance-{FORMAT}.tar.xz'
     with tempfile.TemporaryDirectory(prefix='vipr-dist-') as name:
-        tree = Path(name) / f'vipr-{version}'
+        tree, tree_of_cases = Path(name) / f'vipr-{version}', Path(name) / f'vipr-conformance-{FORMAT}'
         try:
-            pack(tree, archive, lay_out(tree, version))
+            day = lay_out(tree, version)
         except subprocess.CalledProcessError as fault:
             print(f'{fault.cmd[0]} failed with status {fault.returncode}')
             return 1
-    print(f'{archive} is made')
+        lay_out_cases(tree_of_cases)
+        with open(archive, 'wb') as file, gzip.GzipFile('', 'wb', 9, file, 0) as packed:
+            pack(tree, packed, day)
+        with lzma.open(cases, 'wb', preset=9) as packed:
+            pack(tree_of_cases, packed, day)
+    print(f'{archive} and {cases.name} are made')
     print(f'{folder / write_wheel(folder, version)} is made')
     print(kit.took('make dist', start))
     return 0
