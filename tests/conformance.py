@@ -3,11 +3,12 @@
 
 usage: tests/conformance.py [PROGRAM]     crates/vipr/out/vipr without it
 
-Each file has a line in conformance/cases.tsv, and each line a file. Sentences are short and name nothing that their reader
-lacks, and cases that say the same have one verdict. conformance/run.py runs the program on all cases: by both profiles it
-agrees with each verdict, with each line of `explain`, and with each text that `tighten` writes. So do the plain models of
-bench/, which are called without a process for each case. bench/gmp_check.cpp agrees on the format, and on the choices but
-the limit for numbers and leading zeros; if g++ or GMP's header isn't there, it is left out, and a line says so.
+Each file has a line in conformance/cases.tsv, and each line a file. Sentences are as those of README.md and name nothing
+that their reader lacks, and cases that say the same have one verdict. conformance/run.py runs the program on all cases: by
+both profiles it agrees with each verdict, with each line of `explain`, and with each text that `tighten` writes. So do the
+plain models of bench/, which are called without a process for each case. bench/gmp_check.cpp agrees on the format, and on
+the choices but for the limit of numbers and leading zeros in counts. If g++ or GMP's header isn't there, it is left out, and
+a line says so.
 
 Each wrong rule of tests/wrong_rules.py is found by a verdict, or by a text, of its own folder. Checkers that always accept,
 crash, hang or aren't there show what run.py says of them.
@@ -23,7 +24,7 @@ from pathlib import Path
 from types import ModuleType, SimpleNamespace
 from xml.etree import ElementTree
 
-from language import MOST, length
+from language import faults_of
 from texts import TOP, Checks, program, run
 from wrong_rules import WRONG, WRONG_TIGHTENING
 from plain_check import explained
@@ -55,21 +56,27 @@ def one_profile_is_whole(found):
 
 
 def table_is_whole():
+    """Whether each line has its file."""
     first, second = ({f'{it.rule}/{it.name}': it for it in runner.cases(profile)} for profile in (1, 2))
     paths = sorted(it.path for it in runner.cases())
-    check(paths == sorted(FOLDER.glob('*/*.vipr')), 'the files aren\'t those of the table, each once')
+    there = sorted(FOLDER.glob('*/*.vipr'))
+    check(paths == there, f'not a file and a line each: {sorted(it.stem for it in {*paths} ^ {*there})}, {len(paths)} lines')
+    if paths != there:
+        return False
     check(len(paths) >= LEAST and {it.rule for it in first.values()} == set(RULES), f'{len(paths)} cases')
     for found in first, second:
         one_profile_is_whole(found)
     long = dict(lengths.texts())
     for name, it in first.items():
         check(it.kind in ('format', 'choice'), f'{name}: {it.kind}')
-        check(it.about.endswith('.') and length(it.about) <= MOST and not FOREIGN.search(it.about), f'{name}: {it.about}')
+        faults = list(faults_of(it.about, 'README.md'))
+        check(it.about.endswith('.') and not faults and not FOREIGN.search(it.about), f'{name}: {it.about} {faults}')
         check((it.path.stat().st_size > LARGEST) == (it.path in long), f'{name}: {it.path.stat().st_size} bytes')
         check(it.verdict == 'refused' or second[name].verdict == 'verified', f'{name}: verified by the first profile alone')
     check(len({it.about for it in first.values()}) == len(first), 'two sentences are the same')
     for path, text in long.items():
         check(path.read_text() == text, f'{path.name} is not what lengths.py writes')
+    return True
 
 
 # ---- checkers
@@ -188,7 +195,8 @@ def outcomes_are_said(folder):
 
 def main():
     sys.set_int_max_str_digits(0)
-    table_is_whole()
+    if not table_is_whole():
+        return CHECKS.end()
     program_agrees()
     with tempfile.TemporaryDirectory(prefix='vipr-conformance-') as folder:
         other_checker_agrees(folder)
