@@ -4,11 +4,11 @@
 usage: tests/conformance.py [PROGRAM]     crates/vipr/out/vipr without it
 
 Each file has a line in conformance/cases.tsv, and each line a file. Sentences are as those of README.md and name nothing
-that their reader lacks, and cases that say the same have one verdict. conformance/run.py runs the program on all cases: by
-both profiles it agrees with each verdict, with each line of `explain`, and with each text that `tighten` writes. So do the
-plain models of bench/, which are called without a process for each case. bench/gmp_check.cpp agrees on the format, and on
-the choices but for the limit of numbers and leading zeros in counts. If g++ or GMP's header isn't there, it is left out, and
-a line says so.
+that their reader lacks, cases that say the same have one verdict, and the certificates of docs/TUTORIAL.md are among them.
+conformance/run.py runs the program on all cases: by both profiles it agrees with each verdict, with each line of `explain`,
+and with each text that `tighten` writes. So do the plain models of bench/, which are called without a process for each case.
+bench/gmp_check.cpp agrees on the format, and on the choices but for the limit of numbers and leading zeros in counts. If g++
+or GMP isn't there, it is left out, and a line says so.
 
 Each wrong rule of tests/wrong_rules.py is found by a verdict, or by a text, of its own folder. Checkers that always accept,
 crash, hang or aren't there show what run.py says of them.
@@ -32,7 +32,7 @@ from plain_tighten import tightened
 import lengths
 import run as runner
 
-FOLDER = TOP / 'conformance'
+FOLDER, TUTORIAL = TOP / 'conformance', TOP / 'docs/TUTORIAL.md'
 LEAST, LARGEST, LEAST_WRONG = 400, 4096, 60
 RULES = 'text numbers problem claim solutions asm lin rnd uns sol goal references tightening'.split()
 # what a sentence may not name: files, pages, numbers of causes, another case
@@ -76,6 +76,9 @@ def table_is_whole():
     check(len({it.about for it in first.values()}) == len(first), 'two sentences are the same')
     for path, text in long.items():
         check(path.read_text() == text, f'{path.name} is not what lengths.py writes')
+    texts = {it.path.read_text(encoding='latin-1') for it in first.values()}
+    for name, text in re.findall(r'^```vipr as (\S+)\n(.*?)^```', TUTORIAL.read_text(), re.M | re.S):
+        check(text in texts, f'{name} of the tutorial is no case')
     return True
 
 
@@ -119,10 +122,12 @@ def model_agrees():
 
 def other_checker_agrees(folder):
     """bench/gmp_check.cpp: numbers without a limit, and no leading zeros in counts."""
-    checker = Path(folder, 'gmp_check')
-    words = [shutil.which('g++'), '-std=c++17', TOP / 'bench/gmp_check.cpp', '-o', checker, '-lgmpxx', '-lgmp']
-    if not words[0] or run(words).returncode:
-        print('conformance: bench/gmp_check.cpp left out, for want of g++ or GMP')
+    compiler, checker = shutil.which('g++'), Path(folder, 'gmp_check')
+    if not compiler:
+        CHECKS.skip('C compiler', 'bench/gmp_check.cpp was not tried')
+        return
+    if run([compiler, '-std=c++17', TOP / 'bench/gmp_check.cpp', '-o', checker, '-lgmpxx', '-lgmp']).returncode:
+        print('conformance: bench/gmp_check.cpp was not tried, for want of GMP')
         return
     agrees('--only', 'format', '--refused', '1', '--', checker, '{}')
     faults = {it['case'] for it in answer('--only', 'choice', '--refused', '1', '--', checker, '{}')[0]['faults']}
