@@ -10,7 +10,8 @@ and with each text that `tighten` writes. So do the plain models of bench/, whic
 bench/gmp_check.cpp agrees on the format, and on the choices but for the limit of numbers and leading zeros in counts. If g++
 or GMP isn't there, it is left out, and a line says so.
 
-Each wrong rule of tests/wrong_rules.py is found by a verdict, or by a text, of its own folder. Checkers that always accept,
+Each wrong rule of tests/wrong_rules.py is found by a verdict, or by a text, of its own folder. If choices alone find it
+there, no case of the format does anywhere: so the kinds agree with each other. Checkers that always accept,
 crash, hang or aren't there show what run.py says of them.
 
 Prints each fault, and last `conformance: N checks, F failed`; the exit status is 1 if one failed.
@@ -138,19 +139,20 @@ def other_checker_agrees(folder):
 
 # ---- wrong rules
 
-def changed(file, old, new):
-    """A model of bench/ with an edit."""
+def changed(file, pieces):
+    """A model of bench/ with edits: pieces of it, each with what is written for it."""
     source = (TOP / 'bench' / file).read_text()
-    check(source.count(old) == 1, f'{file} has {source.count(old)} times {old!r}')
+    for old, new in zip(pieces[::2], pieces[1::2]):
+        check(source.count(old) == 1, f'{file} has {source.count(old)} times {old!r}')
+        source = source.replace(old, new)
     module = ModuleType('changed')
-    exec(compile(source.replace(old, new), file, 'exec'), module.__dict__)
+    exec(compile(source, file, 'exec'), module.__dict__)
     return module
 
 
-def finds(rule, model):
-    """The first case of a folder whose verdict a model gets wrong."""
-    return next((it.name for profile in (1, 2) for it in runner.cases(profile) if it.rule == rule
-                 and model.verdict(it.path.read_bytes(), profile).split()[0] != it.verdict), None)
+def finding(model, cases, profile):
+    """The cases whose verdict a model gets wrong."""
+    return [it for it in cases if model.verdict(it.path.read_bytes(), profile).split()[0] != it.verdict]
 
 
 def writes(model, case, profile):
@@ -163,11 +165,18 @@ def writes(model, case, profile):
 
 def wrong_rules_are_found():
     check(sum(map(len, WRONG.values())) >= LEAST_WRONG and {*WRONG, 'tightening'} == set(RULES), 'too few wrong rules')
+    first, second = list(runner.cases(1)), list(runner.cases(2))
+    of_format = [it for it in first if it.kind == 'format']
     for rule, edits in WRONG.items():
-        for words, old, new in edits:
-            check(finds(rule, changed('plain_check.py', old, new)), f'no case of {rule} finds: {words}')
-    for words, old, new in WRONG_TIGHTENING:
-        model = changed('plain_tighten.py', old, new)
+        for words, *pieces in edits:
+            model = changed('plain_check.py', pieces)
+            found = finding(model, [it for it in first if it.rule == rule], 1)
+            check(found or finding(model, [it for it in second if it.rule == rule], 2), f'no case of {rule} finds: {words}')
+            if found and all(it.kind == 'choice' for it in found):
+                names = [f'{it.rule}/{it.name}' for it in finding(model, of_format, 1)]
+                check(not names, f'{words} is left open by cases of {rule}, and not by {names}')
+    for words, *pieces in WRONG_TIGHTENING:
+        model = changed('plain_tighten.py', pieces)
         check(any(writes(model, it, profile) != it.tightened.read_bytes()
                   for profile in (1, 2) for it in runner.cases(profile) if it.tightened), f'no case of tightening finds: {words}')
 

@@ -1,8 +1,14 @@
 """Wrong rules, as edits of bench/plain_check.py and, for the last folder, of bench/plain_tighten.py.
 
-For each folder of conformance/ what a checker might do wrong: in words, the piece of the model, and what is written for it.
-tests/conformance.py shows that a case of that folder finds it.
+For each folder of conformance/ what a checker might do otherwise: in words, and then pieces of the model, each with what is
+written for it. tests/conformance.py shows that a case of that folder finds it. If all that find it there are choices, it is
+another reading of what the format leaves open, and then no case of the format finds it, in any folder.
 """
+
+# how the model finds the best solution, and where it takes it for the cutoff; what the primal bound needs stays
+BEST = '''        if self.best is None or (value < self.best if self.minimizes else value > self.best):
+'''
+CUTOFF = '''else "G", self.best))''', '''else "G", self.cutoff))'''
 
 WRONG = {
     'text': [
@@ -146,11 +152,13 @@ WRONG = {
         ('under the second profile a gap of 1 covers', '''ceil(other_right) <= floor(right) + 1''', '''other_right <= right + 1'''),
     ],
     'sol': [
-        ('the last solution is the cutoff', '''if self.best is None or (value < self.best if self.minimizes else value > self.best):''', '''if True:'''),
-        ('the first solution is the cutoff', '''if self.best is None or (value < self.best if self.minimizes else value > self.best):''',
-         '''if self.best is None:'''),
-        ('the worst solution is the cutoff', '''(value < self.best if self.minimizes else value > self.best)''',
-         '''(value > self.best if self.minimizes else value < self.best)'''),
+        ('the last solution is the cutoff', BEST, f'''        self.cutoff = value
+{BEST}''', *CUTOFF),
+        ('the first solution is the cutoff', BEST, f'''        self.cutoff = self.cutoff if own else value
+{BEST}''', *CUTOFF),
+        ('the worst solution is the cutoff', BEST, f'''        if not own or (value > self.cutoff if self.minimizes else value < self.cutoff):
+            self.cutoff = value
+{BEST}''', *CUTOFF),
         ('a cutoff is an upper bound under max, too', '''need((self.objective, "L" if self.minimizes else "G", self.best))''',
          '''need((self.objective, "L", self.best))'''),
         ('without a solution the cutoff is 0', '''                refuse(39)''', '''                self.best = Fraction(0)'''),
