@@ -151,6 +151,8 @@ def read_options():
 
 
 def main():
+    # as others do, it ends if what it prints to is closed
+    signal.signal(signal.SIGPIPE, signal.SIG_DFL)
     options = read_options()
     chosen = [it for it in cases(options.profile) if options.only in (None, it.kind)
               and it.rule in (options.rule or [it.rule]) and (it.tightened or not options.tighten)]
