@@ -5,7 +5,8 @@ one of the conformance cases.
 usage: tools/dist.py VERSION [FOLDER]     FOLDER is dist without it
 
 `make dist` calls it once the program and the library are built. FOLDER gets a wheel of the Python
-package that has the program and the library in it, and vipr-VERSION-linux-x86_64.tar.gz, whose files lie in a folder vipr-VERSION: bin, lib, include and share as `make install` lays them out, python, and debian, so that
+package that has the program and the library in it, and vipr-VERSION-linux-x86_64.tar.gz, whose files lie in a folder
+vipr-VERSION: bin, lib, include and share as `make install` lays them out, python, and debian, so that
 `dpkg-buildpackage -b` makes packages of them. SHA256SUMS has the sum of each file, and BUILD the kit, its logic and the
 commit. vipr-conformance-1.0.tar.xz has the folder conformance and the licence; its number is the format's version. The same
 files and commit give the same bytes. The exit status is 1 if a command fails.
