@@ -216,7 +216,7 @@ def dead_lemmas():
 
 # calls for callers, which nothing here makes but tests
 OFFERED = {'apply', 'count_items', 'from_pairs', 'holds_at', 'in_solutions', 'refers_back', 'tighten_certificate',
-           'is_of_text', 'is_overflow'}
+           'is_of_text', 'is_overflow', 'is_verified'}
 # a public call, and its body if that is empty: such a function states a law
 CALL = re.compile(r'^( *)pub (?:const |unsafe )*fn (\w+).*(?:\{$|(?:\n(?!\1\{).*)*\n\1\{(\})?$)', re.M)
 

@@ -3,7 +3,7 @@
 
 usage: tests/statement.py [--check] [--missing]
 
-Each part of the page is made from clauses of the contract of `check`: every definition that they rest on is found, in
+Each part of the page is made from clauses of the contract of a call: every definition that they rest on is found, in
 whatever file it is, and quoted once, in the order in which the files are to be read, with its example. Proofs aren't
 quoted: the check believes none of them. Nor is, in the three parts, a definition that a law hides: the law is quoted
 instead, and its proof is part of the check. What no clause needs is in the appendix. The example of a definition X is
@@ -20,7 +20,7 @@ from sources import CRATES, TOP, files_of, functions, in_order, read, record_fie
 
 TARGET, EXAMPLES = TOP / 'docs/STATEMENT.md', TOP / 'tests/statement_examples.md'
 SPEC_CRATES = ['vipr_spec', 'vipr_bytes', 'vipr_cert', 'vipr_check', 'vipr_tighten']
-MOST_LINES = 1750
+MOST_LINES = 1735
 # the columns of a line that is quoted with its comment, and of an item of examples
 WIDTH, ITEM = 122, 600
 
@@ -36,12 +36,6 @@ LAWS = {
         'Fractions', 'vipr_spec/src/arithmetic.rt',
         'A law says what fractions are. `over p q` is p / q; `x.numer` and `x.denom` are the parts of x. If you believe '
         'the law, you need none of the definitions by which they are computed ([appendix](#appendix)).', COMPUTED),
-    'one_problem': (
-        'The grammar', 'vipr_spec/src/grammar.rt',
-        'The clause `sound` says `SpellsOnly bytes c`: the text spells the certificate c and no other (`Spells`). Part 2 '
-        'defines both, and this part needs neither. By a law the text then states the problem `c.problem` and the '
-        'listed solutions `c.solutions`, and no others: its first tokens spell them. So nothing has to be believed '
-        'about derivations, not even how they are spelled.', {'SpellsOnly'}),
     'field_by_field': (
         'Problem, claim and certificate', 'vipr_spec/src/step_by_step.rt',
         'A reason names constraints by an index: those of the problem come first, and then the derivations; past the '
@@ -56,30 +50,37 @@ LAWS = {
 NEEDLESS = ['whole']
 BY_LAW = COMPUTED | LISTED | {'IsGoodStep'}
 
-# Each part: its title, its clauses of `ChecksIn`, those that imply the others, the most lines to believe for these, the
-# laws that stand for definitions, those that they hide, those that they cite instead, what the part
-# says, and what a reader knows behind it.
+# The file of the two calls for bytes in memory.
+IN_MEMORY = 'vipr_check/src/in_memory.rt'
+
+# Each part: its title, the call of IN_MEMORY or the clauses of `ChecksIn` from which it is made, the definitions at which
+# these begin or those clauses that imply the others, the most lines to believe for them, the laws that stand for
+# definitions, those that they cite instead, those that they hide, what the part says, and what a reader knows behind it.
 PARTS = [
-    {'title': 'What is claimed is true', 'clauses': ['sound'], 'core': ['sound'], 'most': 254,
-     'laws': ['cross_products', 'one_problem'], 'instead': ['StatesOnly'],
-     'hidden': COMPUTED | {'gcd', 'euclid', 'IsLowest', 'ℚ', 'SpellsOnly', 'Certificate'},
-     'what': 'What `verified` promises of the problem in the text.',
-     'known': 'If `check` answers verified for bytes in memory, they state one problem, and what they claim of it is '
-              'true. Under `infeas` each rational point that is whole at the integer variables breaks '
-              'a constraint. Under `range` the dual bound holds at each such point that meets all constraints; and if '
-              'a primal bound is claimed, a listed solution is feasible and attains it. Nothing here speaks of rules '
-              'or derivations, so no mistake in a rule can make it false. Stop here if a false `verified` is all that you fear.'},
-    {'title': 'Verified in both directions', 'clauses': ['proof', 'every'], 'core': ['proof', 'every'], 'most': 484, 'laws': ['field_by_field', 'rules_by_reason'],
+    {'title': 'The statement, for whoever fears a false `verified`', 'call': 'is_verified', 'shown': ['means'], 'core': ['Means'],
+     'most': 120, 'laws': ['cross_products'], 'instead': [],
+     'hidden': COMPUTED | {'gcd', 'euclid', 'IsLowest', 'ℚ'},
+     'what': 'What a `true` of `is_verified` promises of the bytes, and all that it rests on. The first lines say what a point, '
+             'a constraint, a problem and a true claim are; the others how bytes state a problem. Nothing here speaks of rules '
+             'or derivations, so no mistake in a rule can make it false. That no text states two problems is a law about the words '
+             'of part 2 (`one_problem`), and not about these.',
+     'known': 'If `is_verified` answers `true`, the bytes state a problem and listed solutions, and what they claim is true. '
+              'Under `infeas` no point is feasible. Under `range` the dual bound holds at each feasible point; and if a primal '
+              'bound is claimed, a listed solution is feasible and attains it. Stop here if a false `verified` is all that you fear.'},
+    {'title': 'Verified in both directions', 'call': 'is_proof', 'shown': ['proof'], 'core': ['SpellsProof'], 'most': 456,
+     'laws': ['field_by_field', 'rules_by_reason'],
      'instead': ['AreUsable', 'is_live', 'SumOfFits', 'entries', 'HasSense', 'sum_of', 'Dominates', 'DominatesRounded', 'IsWholeRow', 'IsSplit',
                  'IsBest', 'cutoff'],
-     'hidden': BY_LAW | {'Reports', 'report_of', 'Profile'},
-     'what': 'Which texts are verified: this part adds what a proof is. P is profile one, `one`, which `check` uses. What '
-             'the clauses say about the report, `Reports`, is in part 3: the rest of each clause has a meaning without it.',
-     'known': 'As long as memory suffices and no read fails, a text is verified exactly if it spells a certificate that '
+     'hidden': BY_LAW | {'Profile'},
+     'what': 'Which texts are verified: those that spell a proof, and no others. This part says what a proof is, and how a text '
+             'spells one. `one` is profile one, which `check` uses. It also has the parts of fractions, since a proof has '
+             'limits for them. By part 1 the claim of each such text is true (`proofs_mean`).',
+     'known': 'As long as memory suffices, `is_proof` answers `true` exactly if the bytes spell a certificate that '
               'is a proof by these rules. So no proof is refused. Under profile two, which `check` doesn\'t use, two definitions have one more equation '
               'each: part 3 has them.'},
-    {'title': 'The exact answer', 'clauses': ['any', 'exact', 'only', 'read', 'ended', 'second'], 'core': ['any', 'exact'], 'most': 900, 'laws': [], 'instead': [], 'hidden': BY_LAW,
-     'what': 'The answer for every text, and what is known about a file.',
+    {'title': 'The exact answer', 'clauses': ['any', 'exact', 'only', 'read', 'ended', 'proof', 'every', 'sound', 'second'], 'core': ['any', 'exact'],
+     'most': 900, 'laws': [], 'instead': [], 'hidden': BY_LAW,
+     'what': 'The answer of `check` for every text, from whatever source, and what is known about a file.',
      'known': 'You know the whole answer for all bytes: the report of a proof, or for any other text the first cause, '
               'in the order of the tests, with its place. And you know that a failed read is answered only if one failed. About a file '
               'you know that what is verified is the report of a proof whose claim is true.'},
@@ -88,6 +89,7 @@ PARTS = [
 # Sections, by the spec files that they quote.
 TOPICS = [
     ('Fractions', ['Gcd', 'Lowest', 'Fraction']),
+    ('Problems and texts', ['Short']),
     ('Constraints', ['Constraint']),
     ('Problem, claim and certificate', ['Certificate', 'Soundness', 'Rules']),
     ('Numbers in a text', ['Digits', 'Number']),
@@ -98,15 +100,17 @@ TOPICS = [
     ('The tests of a derivation', ['Steps']),
     ('The tests of a text', ['Tests']),
     ('The first test that fails', ['Verdict']),
-    ('What the call answers', ['Known', 'Reads', 'Items', 'View', 'Checks']),
+    ('What the call answers', ['Promises', 'Known', 'Reads', 'Items', 'View', 'Checks']),
 ]
-# What is in another section in a part: of the reading, part 1 has the limits that the grammar cites.
-JOINED = {(1, 'Reading'): 'The grammar'}
+# What is in another section in a part, since it has few lines there.
+JOINED = {(2, 'Reading'): 'The grammar', (2, 'What the call answers'): 'The grammar',
+          (3, 'Constraints'): 'Problem, claim and certificate', (3, 'Numbers in a text'): 'Reading', (3, 'The grammar'): 'Reading',
+          ('A', 'The tests of a derivation'): 'The tests of a text', ('A', 'The first test that fails'): 'The tests of a text'}
 
 # What is said at the head of a section.
 NOTES = {
     (3, 'Reading'):
-        'The reading goes through the grammar of part 1 from left to right, up to the first fault. '
+        'The reading goes through the grammar of part 2 from left to right, up to the first fault. '
         '`reading_is_the_grammar` proves that it reads exactly the texts that spell a certificate, as that certificate.',
     (3, 'The tests of a derivation'):
         'The tests are the rules of part 2, one by one, in the order in which they are tried. `tests_are_the_rules` '
@@ -116,12 +120,13 @@ NOTES = {
 # The last part is of another call: its clause, the definitions that it quotes, and what the part says.
 TIGHTENING = {
     'clause': 'spelled',
-    'quoted': ['IsNeeded', 'IsNeededFor', 'IsProofFor', 'IsTight', 'AreFigures', 'KindOfText', 'kind_spelled', 'ForProof',
+    'quoted': ['References', 'reason_references', 'Include', 'RefersTo', 'GoalIs', 'IsNeeded', 'IsNeededFor', 'IsProofFor', 'IsTight', 'AreFigures', 'KindOfText', 'kind_spelled', 'ForProof',
                'TightensText'],
     'what': 'What `tighten_as` writes to a sink, in the form F: the contract is the record `TightensAs`, and this clause is for '
             'whole texts in memory. `text_in F t` is the canonical or the compact text of t; `IsTight` says what it spells, so '
-            'neither it nor `tightened_certificate` has to be believed. `GoalIs` and `peak` are those of part 3. `TakesText` '
-            'says that the sink accepted the text, or, beside `Err n`, its first n bytes; `TakesNothing` that it accepted '
+            'neither it nor `tightened_certificate` has to be believed, but for the field `again`, which is for whoever '
+            'tightens twice. `new_goal c goal` is the index of the goal in t: by `IsProofFor` there is no other. `IsGoal` and '
+            '`peak` are those of part 3. `TakesText` says that the sink accepted the text, or, beside `Err n`, its first n bytes; `TakesNothing` that it accepted '
             'nothing.',
     'known': 'If `tighten_as` answers that it tightened, the text that the sink accepted spells a proof of the same claim about '
              'the same problem, with the same solutions. Each of its derivations is needed, and its peak isn\'t larger. If the '
@@ -129,7 +134,7 @@ TIGHTENING = {
              'proof.'}
 
 # What no clause of `Checks` cites, and why it is quoted.
-APPENDIX = ['over', '◌+ℚ◌', '◌*ℚ◌', '◌≤ℚ◌', 'IsTrueClaim', 'AreTokens', 'PassesSteps', 'IsExplained']
+APPENDIX = ['over', '◌+ℚ◌', '◌*ℚ◌', '◌≤ℚ◌', 'IsTrueClaim', 'PassesSteps', 'IsExplained']
 
 # Definitions that say the same, and the law that proves it: its file and function.
 SAME = [
@@ -144,6 +149,7 @@ SAME = [
     ('the rules (`IsGoodStep`), reason by reason', 'vipr_spec/src/rules.rt', 'rules_by_reason'),
     ('constraints by their index, and the lists of the certificate', 'vipr_spec/src/step_by_step.rt', 'field_by_field'),
     ('what a text spells, and the problem that it states (`StatesOnly`)', 'vipr_spec/src/grammar.rt', 'one_problem'),
+    ('a text that spells a proof, and what it means (`Means`)', 'vipr_spec/src/short.rt', 'proofs_mean'),
     ('a verified answer, and a text that spells a proof', 'vipr_spec/src/verdict.rt', 'verified_texts'),
     ('`IsTrueClaim`, over all points, of a proof', 'vipr_spec/src/claims.rt', 'proofs_are_true'),
     ('`IsShown`, over points of one denominator, of a proof', 'vipr_spec/src/claims.rt', 'proofs_show'),
@@ -156,43 +162,50 @@ HEAD = '''# The statement
 
 <!-- written by tests/statement.py from the spec files; `make statement` writes it anew -->
 
-**Verified** means that the bytes read spell a certificate that is a proof by the rules below. Hence what the certificate \
-claims is true of every point, whole at the integer variables, of the problem that it states. No such point is feasible; \
-or the dual bound holds at all feasible ones, and if a primal bound is claimed, a listed solution is feasible and attains it.
+**Verified** means that the bytes read spell a certificate that is a proof by the rules below, and so state a problem and \
+solutions of which the claim is true. No feasible point is there; \
+or the dual bound holds at all feasible ones, and if a primal bound is claimed, a listed solution is feasible and attains it. \
+Two functions from bytes to yes or no say it, `is_verified` (part 1) and `is_proof` (part 2): `is_verified(text)` is true only if \
+the text means what it claims, and `is_proof(text)` exactly if it spells a proof.
 
 **The premises**: the source gives the bytes of the text that is meant, with no failed read and fewer than 2^64 of \
 them. The definitions below say what one means by a problem, a claim and a text. The tools keep their word: the prover, \
 the compiler, the machine and its C library.
 
 **Files and standard input**: a contract can name the bytes of a slice, so each clause holds for it. It can't name those \
-of a file or of standard input. For them the clause `any` is what is proved: what is verified is the report of a \
+of a file or of standard input. For them the clause `any` of part 3 is what is proved: what is verified is the report of a \
 certificate that is a proof, and what that certificate claims is true. That it is the certificate which the bytes of the \
 file spell is a premise, and no theorem. It rests on this: `check` has one body for all sources, and that body can't ask \
-which source it has. So a slice that holds what a file's reads gave gets the same answer.
+which source it has. So a slice that holds what a file's reads gave gets the same answer, unless memory runs out for one of both.
 
-**How to read it.** The page has three parts, by the clauses of the contract, a fourth about `tighten`, and an appendix. You can stop after each \
+**How to read it.** Part 1 has what a verified text means, part 2 which texts are verified, part 3 the whole answer, and \
+part 4 what `tighten` writes. You can stop after each \
 part: it says what you know by then. A part quotes the definitions that its clauses rest on, word by word from the spec \
-files, and then an example of each. The prover computes the examples that are terms; `apart`, `example` and \
+files, and then an example of each. Part 1 has words of its own for all that it needs, some of which mean other things in \
+the parts behind it. The prover computes the examples that are terms; `apart`, `example` and \
 `dropped_example` in them are a problem and certificates of `vipr_spec/specs/Examples.antt`. The words `abbrev`, \
 `unfoldable` and `pub` are for the prover, and no part of what one has to believe.
 
-| Written | Means |
-|---|---|
-| `T : A → Type 0`, `(x : A) × P`, `(x : A) → P` | T is a property of values of A; there is an x with P; P holds for all x |
-| `⊎`, `⊤` or `Unit`, `⊥`, `¬`, `x ≡ y`, `IsTrue b` | or, true, false, not, equality, the `Bool` b is true |
-| `IfSome x P`, `IsSomeAnd x P` | P holds for the value of the option x, if it has one; it has one, and P holds for it |
-| `All P xs`, `Any P xs`, `Contains xs x` | P holds for all elements of a list, for one of them; x is one |
-| `x ∷ xs`, `xs ++ ys`, `take n xs`, `drop n xs` | a list by its first element and the others; one list and then another; the first n elements, and the others |
-| `pos n`, `negsuc n`; `codes "VER"` | the whole numbers n and -(n + 1); the bytes of a word |
-| `IsNumeral 10 t`, `digits_value 10 t` | the bytes t are one or more decimal digits; the number that they write |
-| `ensures`, `requires`, `ghost` | what a call promises, what it asks of its caller, and a part of the code for contracts alone |
+| Written | Means | Example |
+|---|---|---|
+| `T : A → Type 0`; `(x : A) × P`, `(x : A) → P` | T is a property of values of A, which holds as the first equation says that fits; there is an x with P; P holds for all x | `IsAsGood true v w` is `v ≤ℚ w` |
+| `⊎`, `⊤` or `Unit`, `⊥`, `¬`, `x ≡ y`; `P × Q`, `P ↔ Q` | or, true, false, not, equality; and, if and only if | `(x ≡ 1) ⊎ (x ≡ 2)` |
+| `IfOk r P`; `IfSome x P`, `IsSomeAnd x P` | P holds for the value of the result or option, if it has one; it has one, and P holds for it | `IfOk` says nothing about `Err(Memory)` |
+| `Bool`, `if b then x else y`, `not`, `&&`, `\|\|`; `IsTrue b` | as in any language; the `Bool` b is true | `if true then 1 else 2` is 1 |
+| `a == b`, `nat_le a b`; `a < b` | whether a is b, whether a is at most b; that a is less than b | `nat_le 9 32` is true |
+| `All P xs`, `Any P xs`, `Contains xs x` | P holds for all elements of a list, for one of them; x is one | `Any P []` is false |
+| `[]`, `x ∷ xs`, `xs ++ ys`, `length xs`; `take n xs`, `drop n xs` | the empty list, one by its first element and the others, one list and then another, how many; the first n elements, and the others | `length (codes "VER")` is 3 |
+| `ℕ`, `ℤ`, `pos n`, `negsuc n`, `neg_ℤ k`; `+ℤ`, `*ℤ`, `≤ℤ` | natural numbers, integers, the integers n, -(n + 1) and minus k; sum, product and order of integers | `neg_ℤ (pos 3)` is -3 |
+| `Option A`, `None`, `Some x`; `(x, y)`, `p.0`, `p.1` | a value of A, or none; a pair and its parts | the bound `-inf` is `None` |
+| `codes "VER"`; `IsNumeral 10 t`, `digits_value 10 t` | the bytes of a word; the bytes t are one or more decimal digits; the number that they write | `007` writes 7 |
+| `record`, `r.name`; `λ x. y` | fields with names, one of them; the function that gives y for x | `p.constraints` |
+| `ensures`, `requires`, `ghost` | what a call promises, what it asks of its caller, and a part of the code for contracts alone | |
 '''
 
 COUNTED = '''
 Lines are those to believe: clauses, definitions, and laws that are quoted instead of definitions, without comments and \
 imports. The code that is quoted, and the words of the standard library (numbers, lists, finite maps and sets), aren't \
-counted. The headline in both directions is parts 1 and 2 together: their lines are those of part 2 under 'Up to here'. The last \
-column is a part without the parts before it: what `sound` needs; what `proof` and `every` need; what \
+counted. The last column is a part without the parts before it: what `means` needs; what `proof` needs; what \
 `any` and `exact` need, which imply all other clauses. These two need no grammar, since a law says that it and the reading \
 are the same. By other laws the tests of derivations (`PassesSteps`) replace their rules there, and the spelling of digits \
 (`SpellsNatural`) replaces how they are read.
@@ -336,7 +349,8 @@ def closure(files, start, hidden, known):
 
 def named(files, names):
     """The definitions of these names."""
-    return [f.own[name] for name in names for f in files.values() if name in f.own and name in f.own[name].names]
+    return [f.own[name] for name in names for (_, module), f in files.items()
+            if name in f.own and name in f.own[name].names and (module != OWN or name == 'Means')]
 
 
 def cited(files, home, lines):
@@ -366,9 +380,8 @@ def is_number(d):
 
 
 def quoted(d):
-    """A definition's lines below its comment; a comment stands at the end of the line below it if there is room. A cause's
-    number is in one line."""
-    comment, lines = ' '.join(l[2:].strip() for l in d.comment), d.lines[1:] if is_number(d) else folded(d.lines)
+    """A definition's lines below its comment; a comment stands at the end of the line below it if there is room."""
+    comment, lines = ' '.join(l[2:].strip() for l in d.comment), folded(d.lines)
     if comment and len(lines[0]) + len(comment) + 4 <= WIDTH:
         return [lines[0] + ' -- ' + comment] + lines[1:]
     return textwrap.wrap(comment, WIDTH, initial_indent='-- ', subsequent_indent='-- ') + lines
@@ -410,10 +423,15 @@ def worked():
     """The examples that are proved, by the definition that they are of."""
     out = {}
     for path in files_of('vipr_worked', 'src', '.rt'):
+        own = OWN + '.' if path.stem == OWN.lower() else ''
         for _, _, _, clauses, _, _ in functions(path):
-            for name, text in [(name.removesuffix('_is'), text) for _, name, text in clauses if name.endswith('_is')]:
+            for name, text in [(own + name.removesuffix('_is'), text) for _, name, text in clauses if name.endswith('_is')]:
                 out[OPERATORS.get(name, name)] = ' '.join(text[1:-1].split())
     return out
+
+
+# the module whose words are its own, so that some of them are those of other definitions, too
+OWN = 'Short'
 
 
 class Examples:
@@ -426,7 +444,7 @@ class Examples:
             self.said[name] = ('`%s`. %s' % (term, self.said.get(name, ''))).rstrip()
 
     def of(self, d):
-        names = [n for n in d.names if n in self.said]
+        names = [n for n in ([OWN + '.' + n for n in d.names] if d.module == OWN else d.names) if n in self.said]
         if not names:
             self.without.append('%s (%s)' % (d.names[0], d.module))
             return None
@@ -471,6 +489,13 @@ def item(path, head):
     return [l for l in lines if not re.match(r'\s*(?:///|#\[)', l) and l.strip()]
 
 
+def call(part):
+    """The call of a part with its clauses that the part is about."""
+    head, *clauses = re.split(r'^(?=    ensures )', '\n'.join(item(IN_MEMORY, r'pub fn %s\(' % part['call'])), flags=re.M)
+    shown = [c for c in clauses if re.match(r'    ensures (?:%s) ' % '|'.join(part['shown']), c)]
+    return ''.join([head] + shown).rstrip('\n').split('\n')
+
+
 def law(function):
     """The clauses of a law, but for those that aren't needed."""
     m = re.search(r'^pub fn %s\(\)\n((?:.|\n)*?)^\{\}$' % function, read(CRATES / LAWS[function][1]), re.M)
@@ -493,10 +518,10 @@ def the_call(files, examples):
     verdict = 'vipr_check/src/verdict.rt'
     code = item('vipr_check/src/checks.rt', r'pub fn check<')
     code += [l for head in ('enum Verdict', 'enum Fault') for l in item(verdict, r'pub %s ' % head)]
-    record = home['ChecksIn'].lines[:2] + ['  -- the clauses at the head of each part'] + quoted(home['Checks'])
+    record = home['ChecksIn'].lines[:2] + ['  -- the clauses below'] + quoted(home['Checks'])
     slices = ["impl<'a> Bytes<'a> {", line_of(source, "pub fn new(bytes: &'a [u8])"), line_of(source, 'ensures { result ≡ bytes.now }'), '}',
               "impl Source for Bytes<'_> {", line_of(source, 'ghost input = { λ bytes.'), '}']
-    out = ['## The call and its source\n',
+    out = ['**The call and its source.** '
            'The contract of `check` is the record `ChecksIn` for profile one; that of `check_in` is the record for the '
            'profile that is passed in.\n', fenced(code + record),
            'The input `R.input source` is what the source says about its reads. A slice in memory is the source '
@@ -514,7 +539,8 @@ def topic_of(module, number):
 def sections(number, definitions, examples, laws):
     """A section for each topic: the laws that stand for definitions, one block of definitions, and their examples."""
     out = []
-    titles = list(dict.fromkeys(topic_of(d.module, number) for d in definitions))
+    order = [title for title, _ in TOPICS]
+    titles = sorted({topic_of(d.module, number) for d in definitions} | {LAWS[function][0] for function in laws}, key=order.index)
     for k, title in enumerate(titles, 1):
         paths = dict.fromkeys('`%s`' % str(d.path.relative_to(CRATES)).replace('/specs', '') for d in definitions if topic_of(d.module, number) == title)
         out.append('### %s.%d %s\n' % (number, k, title + (' (%s)' % ', '.join(paths) if paths else '')))
@@ -526,14 +552,20 @@ def sections(number, definitions, examples, laws):
                 out += [said + '\n', fenced(law(function))]
         here = [d for d in definitions if topic_of(d.module, number) == title]
         if here:
-            lines = []
-            for d in here:
-                if is_number(d) and '-- each is a number, of the type ℕ' not in lines:
-                    lines.append('-- each is a number, of the type ℕ')
-                lines += quoted(d)
+            lines = [line for d in here if not is_number(d) for line in quoted(d)]
+            numbers = '; '.join(d.lines[1] for d in here if is_number(d))
+            lines += ['-- each is a number, of the type ℕ'] + textwrap.wrap(numbers, WIDTH) if numbers else []
             items = examples.items(here)
             out += [fenced(lines), '\n'.join(items) + '\n' if items else 'The table in [FORMAT.md](FORMAT.md#5-causes) says when each comes.\n']
     return out
+
+
+def start_of(files, home, fields, part):
+    """The lines of a part's clauses, and the definitions that they cite."""
+    if 'call' in part:
+        return [[line for line in call(part) if line.startswith('    ensures ')]], named(files, part['core'])
+    clauses = [fields[name] for name in part['clauses']]
+    return clauses, [d for lines in clauses for d in cited(files, home, lines)]
 
 
 def alone(files, home, fields, number):
@@ -541,9 +573,9 @@ def alone(files, home, fields, number):
     that they rest on, and the laws that stand for some."""
     part, last = PARTS[number - 1], number == len(PARTS)
     hidden, instead = part['hidden'] | (INSTEAD['hidden'] if last else set()), part['instead'] + (INSTEAD['instead'] if last else [])
-    clauses = [fields[name] for name in part['core']]
-    found = closure(files, [d for lines in clauses for d in cited(files, home, lines)] + named(files, instead), hidden, set())
-    needed = {w for d in found for w in d.words()} | {w for lines in clauses for d in cited(files, home, lines) for w in d.names}
+    clauses, start = start_of(files, home, fields, part if 'call' in part else {'clauses': part['core']})
+    found = closure(files, start + named(files, instead), hidden, set())
+    needed = {w for d in found for w in d.words()} | {w for d in start for w in d.names}
     laws = [function for function, (_, _, _, stands_for) in LAWS.items() if stands_for & needed and stands_for & hidden]
     return count([split(d)[0] for d in found]) + sum(believed(lines) for lines in clauses + [law(f) for f in laws])
 
@@ -566,32 +598,31 @@ def page():
     files, examples, faults = load(), Examples(), []
     home = files[('vipr_check', 'Checks')]
     fields = record_fields(home.own['ChecksIn'].lines)
-    call, known = the_call(files, examples)
-    missing = set(fields) ^ {name for part in PARTS for name in part['clauses']}
+    source, of_source = the_call(files, examples)
+    missing = set(fields) ^ {name for part in PARTS for name in part.get('clauses', [])}
     faults += ['docs/STATEMENT.md: the clause %s of ChecksIn is in no part' % name for name in sorted(missing)]
-    known, body, rows, up_to, later = set(known), [], [], 0, []
+    known, body, rows, up_to, later = set(of_source), [], [], 0, []
     for number, part in enumerate(PARTS, 1):
-        clauses = [fields[name] for name in part['clauses']]
-        start = [d for lines in clauses for d in cited(files, home, lines)] + named(files, part['instead'])
-        new = closure(files, start, part['hidden'], known)
+        clauses, start = start_of(files, home, fields, part)
+        new = closure(files, start + named(files, part['instead']), part['hidden'], known)
         known |= set(new)
         quoted_laws = [law(function) for function in part['laws']]
         halves = [split(d) for d in new]
         shown = [one for one, _ in halves]
         later += [two for _, two in halves if two]
-        if 'second' in part['clauses']:
+        if 'clauses' in part:
             shown = sorted(shown + later, key=lambda d: d.order)
         lines = count(shown) + sum(believed(lines) for lines in clauses + quoted_laws)
         up_to += lines
         by_itself = alone(files, home, fields, number)
-        # the headline is parts 1 and 2 together; part 3 implies both
-        needed = up_to if number == 2 else by_itself
-        if needed > part['most']:
-            faults.append('docs/STATEMENT.md: part %d has %d lines to believe, more than %d' % (number, needed, part['most']))
+        if by_itself > part['most']:
+            faults.append('docs/STATEMENT.md: part %d has %d lines to believe, more than %d' % (number, by_itself, part['most']))
         title = '%d. %s' % (number, part['title'])
-        clauses_named = ', '.join('`%s`' % name for name in part['clauses'])
-        rows.append('| [%s](#%s) | %s | %d | %d | %d | %d |' % (title, anchor(title), clauses_named, len(new), lines, up_to, by_itself))
-        body += ['## %s\n' % title, part['what'] + '\n', fenced([line for lines in clauses for line in lines])]
+        named_clauses = ', '.join('`%s`' % name for name in part.get('clauses', part.get('shown')))
+        of_call = '%s of `%s`' % (named_clauses, part.get('call', 'check'))
+        rows.append('| [%s](#%s) | %s | %d | %d | %d | %d |' % (title, anchor(title), of_call, len(new), lines, up_to, by_itself))
+        body += ['## %s\n' % title, part['what'] + '\n']
+        body += [fenced(call(part))] if 'call' in part else source + [fenced([line for lines in clauses for line in lines])]
         body += sections(number, shown, examples, part['laws'])
         body.append('**What you know now.** %s\n' % part['known'])
     row, last = tightening(files)
@@ -606,7 +637,7 @@ def page():
         if not re.search(r'^pub fn %s\(\)$' % function, read(CRATES / path), re.M):
             faults.append('docs/STATEMENT.md: there is no law %s in %s' % (function, path))
     table = ['| Part | Clauses | Definitions | Lines | Up to here | By itself |\n|---|---|---|---|---|---|'] + rows
-    text = '\n'.join([HEAD] + table + [COUNTED] + call + body).rstrip('\n') + '\n'
+    text = '\n'.join([HEAD] + table + [COUNTED] + body).rstrip('\n') + '\n'
     if text.count('\n') > MOST_LINES:
         faults.append('docs/STATEMENT.md has %d lines, more than %d' % (text.count('\n'), MOST_LINES))
     return text, faults, examples

@@ -36,7 +36,7 @@ use vipr_rules::{Profile, Rows};
 ///
 /// # Example
 ///
-/// ```rust crates/vipr_example/src/check.rt
+/// ```rust crates/vipr_check/src/in_memory.rt
 /// match check(alloc, Bytes::new(text)) {
 ///     Ok(Verdict::Verified(_)) => Ok(true),
 ///     Ok(Verdict::Refused(_)) => Ok(false),

@@ -1,27 +1,6 @@
 //! Checks bytes in memory, and prints what comes of it.
-ghost use Rattle.std.specs.Prelude.{◌≡◌, ◌↔◌, IfErr, IfOk, IsTrue};
-ghost use Rattle.vipr_example.specs.Promises.{SpellsProof, SpellsTruth};
-
 use std::alloc::{AllocError, Global};
-use vipr_lib::{Bytes, Explanation, Fault, Verdict, check, explain};
-
-/// Whether the bytes are a certificate that is a proof.
-///
-/// # Errors
-///
-/// `Fault::Memory` if a growth is refused. A slice never fails, so `Fault::Read` doesn't come.
-pub fn is_proof(alloc: Global, text: &[u8]) -> Result<bool, Fault>
-    ensures proof { IfOk result (λ verified. IsTrue verified ↔ SpellsProof text.now) }
-    ensures claim { IfOk result (λ verified. IsTrue verified → SpellsTruth text.now) }
-    ensures error { IfErr result (λ fault. fault ≡ Fault.Memory) }
-{
-    match check(alloc, Bytes::new(text)) {
-        Ok(Verdict::Verified(_)) => Ok(true),
-        Ok(Verdict::Refused(_)) => Ok(false),
-        Err(Fault::Memory) => Err(Fault::Memory),
-        Err(Fault::Read) => unreachable!(),
-    }
-}
+use vipr_lib::{Bytes, Explanation, Fault, check, explain};
 
 /// What a person reads of the bytes: the verdict, or why there is none.
 ///

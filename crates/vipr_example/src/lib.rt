@@ -7,7 +7,7 @@ mod items;
 mod text;
 mod tighten;
 
-pub use check::{explanation, is_proof, verdict_text};
+pub use check::{explanation, verdict_text};
 pub use items::{Counts, count_items};
 pub use text::canonical;
 pub use tighten::tightened;

@@ -2,6 +2,7 @@
 //!
 //! | To | Call |
 //! |---|---|
+//! | check bytes in memory, yes or no | [`is_verified`], [`is_proof`] |
 //! | check a certificate | [`check`], or [`check_in`] by the rules of a [`Profile`] |
 //! | see why it is refused | [`explain`], [`explain_in`]; an [`Explanation`] prints it |
 //! | keep what its proof needs | [`tighten`], [`tighten_in`] |
@@ -20,7 +21,7 @@ pub use vipr_cert::{
 };
 pub use vipr_check::{
     Checker, Detail, Explanation, Fault, Place, Refusal, Report, StepDetail, Stop, Verdict, cause,
-    check, check_in, explain, explain_in,
+    check, check_in, explain, explain_in, is_proof, is_verified,
 };
 pub use vipr_frac::{Frac, FracError, NumberError, Overflow};
 pub use vipr_linear::{Constraint, Ints, Row, RowError, Sense, Solution};

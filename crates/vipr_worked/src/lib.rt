@@ -10,4 +10,5 @@ pub mod kinds;
 pub mod numbers;
 pub mod points;
 pub mod reading;
+pub mod short;
 pub mod tokens;

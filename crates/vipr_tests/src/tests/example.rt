@@ -3,10 +3,8 @@ use super::check::INFEASIBLE;
 use super::same;
 use std::alloc::Global;
 use std::process::Abort;
-use vipr_check::{Place, Refusal};
-use vipr_example::{
-    Counts, canonical, count_items, explanation, is_proof, tightened, verdict_text,
-};
+use vipr_check::{Place, Refusal, is_proof, is_verified};
+use vipr_example::{Counts, canonical, count_items, explanation, tightened, verdict_text};
 use vipr_scan::TextError;
 
 // 2 times x >= 1, and -1 times x <= 0: the sum is x >= 2.
@@ -17,6 +15,7 @@ const NO_PROOF: &[u8] =
 fn bytes_in_memory_are_checked(rt: HostRuntime) {
     for (text, wanted) in [(INFEASIBLE, true), (NO_PROOF, false)] {
         same(&rt, is_proof(rt.alloc(), text), Ok(wanted));
+        same(&rt, is_verified(rt.alloc(), text), Ok(wanted));
     }
 }
 

@@ -1,7 +1,7 @@
 use Rattle.std.proofs.Common.{rules, ◌<◌, ◌^◌, length}
 use Rattle.vipr_check.specs.declared.verdict.Verdict.TheVariants.{Verified, Refused}
-use Rattle.vipr_example.proofs.Verdicts.{on, verified, true_claim, refused}
-use Rattle.vipr_example.proofs.check.is_proof.Goals as goal
+use Rattle.vipr_check.proofs.InMemory.{on, verified, true_claim, refused}
+use Rattle.vipr_check.proofs.in_memory.is_proof.Goals as goal
 
 pub returns-in-Ok-Verified-clause-proof : goal.returns-in-Ok-Verified-clause-proof
 returns-in-Ok-Verified-clause-proof c =

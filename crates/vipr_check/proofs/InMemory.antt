@@ -1,12 +1,17 @@
 -- What a verdict on bytes in memory says of them.
-use Rattle.std.proofs.Common.{◌≡◌, ◌<◌, ◌^◌, ℕ, List, length, Result, Ok, Some, false, refl, subst}
+use Rattle.std.proofs.Common.{◌≡◌, ◌↔◌, ◌<◌, ◌^◌, ℕ, List, length, Result, Ok, Err, Some, Bool, false}
+use Rattle.std.proofs.Common.{IfOk, IsTrue, refl, subst}
 use Rattle.vipr_check.specs.Checks.{Checks}
 use Rattle.vipr_check.specs.declared.verdict.Fault.{Fault}
 use Rattle.vipr_check.specs.declared.verdict.Refusal.{Refusal}
 use Rattle.vipr_check.specs.declared.verdict.Report.{Report}
 use Rattle.vipr_check.specs.declared.verdict.Verdict.{Verdict}
 use Rattle.vipr_check.specs.declared.verdict.Verdict.TheVariants.{Verified, Refused}
-use Rattle.vipr_example.specs.Promises.{SpellsProof, SpellsTruth}
+use Rattle.vipr_spec.specs.Constraint.{Profile, one}
+use Rattle.vipr_spec.specs.Certificate.{Certificate, IsProof}
+use Rattle.vipr_spec.specs.Grammar.{Spells}
+use Rattle.vipr_spec.specs.Short.{Means}
+use Rattle.vipr_check.specs.Promises.{SpellsProof, SpellsTruth}
 
 abbrev pub Answers : List ℕ → Result Verdict Fault → Type 0
 Answers bytes result = Checks (Some (record { bytes = bytes; fails = false })) result
@@ -31,3 +36,9 @@ true_claim bytes report short c = c.sound short refl
 pub refused : (bytes : List ℕ) (refusal : Refusal) → length bytes < 2 ^ 64
     → Answers bytes (Ok (Refused refusal)) → SpellsProof bytes → ⊥
 refused bytes refusal short c p = c.every short refl p.0 p.1 p.2
+
+pub meaning : {E : Type 0} (bytes : List ℕ) (r : Result Bool E)
+    → ((P : Profile) (bytes : List ℕ) (c : Certificate) → Spells bytes c → IsProof P c → Means bytes)
+    → IfOk r (λ v. IsTrue v ↔ SpellsProof bytes) → IfOk r (λ v. IsTrue v → Means bytes)
+meaning bytes (Ok v) mean h = λ t. let p = h.0 t in mean one bytes p.0 p.1 p.2
+meaning bytes (Err e) mean h = tt

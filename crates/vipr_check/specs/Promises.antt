@@ -1,4 +1,4 @@
--- What this caller promises of bytes in memory
+-- What is promised of bytes in memory
 use Rattle.std.specs.Prelude.{ℕ, List}
 use Rattle.vipr_spec.specs.Constraint.{one}
 use Rattle.vipr_spec.specs.Certificate.{Certificate, IsProof}
