@@ -22,7 +22,7 @@ TARGET, EXAMPLES = TOP / 'docs/STATEMENT.md', TOP / 'tests/statement_examples.md
 SPEC_CRATES = ['vipr_spec', 'vipr_bytes', 'vipr_cert', 'vipr_check', 'vipr_tighten']
 MOST_LINES = 1735
 # the columns of a line that is quoted with its comment, and of an item of examples
-WIDTH, ITEM = 122, 600
+WIDTH, ITEM = 122, 700
 
 
 # ---- what the page is made of
@@ -199,6 +199,9 @@ the parts behind it. The prover computes the examples that are terms; `apart`, `
 | `Option A`, `None`, `Some x`; `(x, y)`, `p.0`, `p.1` | a value of A, or none; a pair and its parts | the bound `-inf` is `None` |
 | `codes "VER"`; `IsNumeral 10 t`, `digits_value 10 t` | the bytes of a word; the bytes t are one or more decimal digits; the number that they write | `007` writes 7 |
 | `record`, `r.name`; `λ x. y` | fields with names, one of them; the function that gives y for x | `p.constraints` |
+| in parts 2 and 3 `FinMap`, `FinSet`, `from_entries`, `from_list`, `get`, `contains` | finite maps and sets; the map of pairs, the set of a list; the value at a key, if there is one; whether an element is in it | `contains (from_list (2 ∷ [])) 2` is true |
+| `slice_get xs i`, `slice_index_or xs i d`; `unwrap_or o d`, `MatchOption o N P` | element i, if there is one; the same, or else d; an option's value, or else d; N if it has none, else P holds for it | `unwrap_or None 7` is 7 |
+| `filter p xs`, `take_while p xs`, `count_by p xs`; `range_with_len a n`, `IsDistinct eq xs` | the elements that pass p, the first ones up to one that doesn't, how many pass; the n numbers from a on, no two are equal | `range_with_len 2 3` is 2, 3, 4 |
 | `ensures`, `requires`, `ghost` | what a call promises, what it asks of its caller, and a part of the code for contracts alone | |
 '''
 
