@@ -85,7 +85,10 @@ impl Assumptions {
     pub fn is_empty(&self) -> bool
         ensures { IsTrue result ↔ (self.now ≡ set.empty) }
     {
-        self.list.len() == 0
+        match &self.list {
+            IndexList::Nothing => true,
+            list => list.len() == 0,
+        }
     }
 
     /// Whether an index is in the set.
@@ -121,6 +124,9 @@ impl Assumptions {
         if !self.is_long() && !other.is_long() {
             return self.joined(alloc, other);
         }
+        if let Some(union) = self.joined_alike(alloc, other)? {
+            return Ok(union);
+        }
         if let Some(longer) = self.longer_by(alloc, other)? {
             return Ok(longer);
         }
@@ -141,6 +147,9 @@ impl Assumptions {
         if !self.contains(index) {
             return self.clone();
         }
+        if let Some(rest) = self.shortened(alloc, index)? {
+            return Ok(rest);
+        }
         let items = all_but(alloc, self.flat(alloc)?.as_slice(), index)?;
         Assumptions::of_rising(alloc, items)
     }
@@ -160,6 +169,21 @@ impl Assumptions {
             Some(items) => Assumptions::of_rising(alloc, items),
             None => self.union_of_rests(alloc, index, other, other_index),
         }
+    }
+
+    // The set without an index that only its short list has. Its other lists stay whole.
+    fn shortened(&self, alloc: Global, index: u32) -> Result<Option<Self>, AllocError>
+        ensures { IfOk result (λ o. IfSome o (λ s. s ≡ set.remove self.now index)) }
+    {
+        if is_in(self.list.first(), index) {
+            return Ok(None);
+        }
+        if is_in(self.list.second(), index) {
+            return Ok(None);
+        }
+        let more = all_but(alloc, self.list.more(), index)?;
+        let list = self.list.with_more(alloc, more)?;
+        Ok(Some(Assumptions { list }))
     }
 
     // Joins two sets, each without an index, by the set that is left of each.
@@ -191,6 +215,35 @@ impl Assumptions {
         self.list.is_one(&other.list)
     }
 
+    // The union of two sets whose first lists are one, so that only the others are joined.
+    fn joined_alike(&self, alloc: Global, other: &Assumptions) -> Result<Option<Self>, AllocError>
+        ensures { IfOk result (λ o. IfSome o (λ s. s ≡ set.union self.now other.now)) }
+    {
+        if !self.list.has_first_of(&other.list) {
+            return Ok(None);
+        }
+        let (ours, theirs) = (self.list.second(), other.list.second());
+        let more = join(alloc, self.list.more(), other.list.more())?;
+        if self.takes(more.len()) && has_all(ours, theirs) {
+            let list = self.list.with_more(alloc, more)?;
+            return Ok(Some(Assumptions { list }));
+        }
+        if self.takes(more.len()) && has_all(theirs, ours) {
+            let list = other.list.with_more(alloc, more)?;
+            return Ok(Some(Assumptions { list }));
+        }
+        let seconds = join(alloc, ours, theirs)?;
+        let second = join(alloc, &seconds, &more)?;
+        let list = self.list.with_second(alloc, second)?;
+        Ok(Some(Assumptions { list }))
+    }
+
+    // Whether a list of so many indices is short beside its first one.
+    fn takes(&self, count: usize) -> bool {
+        let len = self.list.first().len();
+        count == 0 || len / count >= count / 8
+    }
+
     // The union, if the other set is so short that a short list takes its indices. Lists that
     // aren't long stay whole.
     fn longer_by(&self, alloc: Global, other: &Assumptions) -> Result<Option<Self>, AllocError>
@@ -204,7 +257,7 @@ impl Assumptions {
             return Ok(None);
         };
         let count = self.list.more().len() + theirs.len();
-        if count == 0 || first.len() / count < count / 8 {
+        if count == 0 || !self.takes(count) {
             return Ok(None);
         }
         if self.has_each(theirs) {

@@ -1,6 +1,6 @@
 //! Lists of indices that their copies share.
 
-ghost use Rattle.std.specs.Prelude.{◌≡◌, length, IfOk, IfSome, IsTrue};
+ghost use Rattle.std.specs.Prelude.{◌≡◌, [], length, IfOk, IfSome, IsTrue};
 ghost use Rattle.vipr_table.specs.IndexList.{listed_items, listed_first, listed_second};
 ghost use Rattle.vipr_table.specs.IndexList.{listed_more, IsOneList, IsPairOf};
 
@@ -100,6 +100,27 @@ impl IndexList {
         }
     }
 
+    /// Whether the first lists of both are one. `true` says that they are equal.
+    pub(crate) fn has_first_of(&self, other: &IndexList) -> bool
+        ensures { IsTrue result → listed_first self.now ≡ listed_first other.now }
+    {
+        match (self.shared_first(), other.shared_first()) {
+            (Some(ours), Some(theirs)) => ours.is_one(theirs),
+            _ => false,
+        }
+    }
+
+    // The first list, if others may share it.
+    fn shared_first(&self) -> Option<&Shared<Vec<u32>>>
+        ensures { IfSome result (λ list. list.now.items ≡ listed_first self.now) }
+    {
+        match self {
+            IndexList::Many(items) => Some(items),
+            IndexList::Longer(lists) => Some(&lists.as_ref().first),
+            _ => None,
+        }
+    }
+
     /// A copy, which shares the lists.
     pub(crate) fn try_copy(&self) -> Result<IndexList, AllocError>
         ensures { IfOk result (λ copy. copy ≡ self.now) }
@@ -112,16 +133,37 @@ impl IndexList {
         }
     }
 
-    /// Both lists with these indices besides. A list of more than one index is shared.
+    /// Both lists with these indices besides, if there are any. A list of more than one index is
+    /// shared.
     pub(crate) fn with_more(&self, alloc: Global, more: Vec<u32>) -> Result<IndexList, AllocError>
         ensures { IfOk result (λ list. (listed_first list ≡ listed_first self.now)
             × (listed_second list ≡ listed_second self.now) × (listed_more list ≡ more.items)) }
     {
         let (first, second) = self.lists(alloc)?;
+        if second.as_ref().is_empty() && more.is_empty() {
+            return Ok(IndexList::Many(first));
+        }
         let lists = Longer {
             first,
             second,
             more,
+        };
+        Ok(IndexList::Longer(Shared::new(alloc, lists)?))
+    }
+
+    /// The first list and another second one. A first list of more than one index is shared.
+    pub(crate) fn with_second(
+        &self,
+        alloc: Global,
+        second: Vec<u32>,
+    ) -> Result<IndexList, AllocError>
+        ensures { IfOk result (λ list. (listed_first list ≡ listed_first self.now)
+            × (listed_second list ≡ second.items) × (listed_more list ≡ [])) }
+    {
+        let lists = Longer {
+            first: self.lists(alloc)?.0,
+            second: Shared::new(alloc, second)?,
+            more: Vec::new(alloc),
         };
         Ok(IndexList::Longer(Shared::new(alloc, lists)?))
     }

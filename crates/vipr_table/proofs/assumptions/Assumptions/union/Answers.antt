@@ -21,7 +21,7 @@ returns-then-is_one c =
     let same = union_same c.args.self.now ∙ ap (union c.args.self.now) (c.is_one.ensures c.if-is_one.true) in
     MatchResult-weaker c.clone-then-is_one.result c.clone-then-is_one.ensures.cases (λ s e. e ∙ same) (λ _ _. tt)
 
-pub returns-in-Some-2 : goal.returns-in-Some-2
-returns-in-Some-2 c =
-    let longer = rw c.in-Some-2.is at c.in_ok-longer-2.ensures in
+pub returns-in-Some-3 : goal.returns-in-Some-3
+returns-in-Some-3 c =
+    let longer = rw c.in-Some-3.is at c.in_ok-longer-2.ensures in
     longer ∙ union_turned c.args.other.now c.args.self.now
