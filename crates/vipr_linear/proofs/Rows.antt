@@ -315,6 +315,10 @@ same_known xs ys b r s h =
     let d = slice_eq-Decides same_entry xs ys b h in
     (λ t j. ap (λ es. at (from_sorted es) j) (d.0 t), λ e. d.1 (same_lists xs ys r s e))
 
+pub same_if_equal : (xs ys : List (ℕ × ℚ)) (b : Bool)
+    → b ≡ pointwise (λ (x y : ℕ × ℚ). nat_eq x.0 y.0 && eq_ℚ x.1 y.1) xs ys → b ≡ true → xs ≡ ys
+same_if_equal xs ys b h = (slice_eq-Decides same_entry xs ys b h).0
+
 -- the entries of a row make it again
 pub row_again : (m : Row) → from_sorted {R = nat_cmp} (entries m) ≡ m
 row_again m = same_entries_map _ m (entries-from_sorted nat_cmp (entries m) (entries_sorted m))

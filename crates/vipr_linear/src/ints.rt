@@ -90,12 +90,12 @@ impl Ints {
     }
 }
 
-// A mark at each variable up to the last, if there are at most eight times as many as these.
+// A mark at each variable up to the last, if there are at most 64 times as many as these.
 fn marks_of(alloc: Global, indices: &[u32]) -> Result<Vec<bool>, AllocError>
     ensures { IfOk result (λ marks. MarksEach indices.now marks.items) }
 {
     let places = match indices.last() {
-        Some(last) if *last as usize / 8 < indices.len() => *last as usize + 1,
+        Some(last) if *last as usize / 64 < indices.len() => *last as usize + 1,
         _ => 0,
     };
     let mut marks = vec![in alloc; false; places]?;

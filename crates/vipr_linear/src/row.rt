@@ -204,6 +204,18 @@ impl Row {
         self.is_one(other) || self.entries() == other.entries()
     }
 
+    /// Shares the entries of another row from now on, if both have the same ones.
+    pub fn share_with(&mut self, other: &Row) -> Result<(), AllocError>
+        ensures { self.new ≡ self.old }
+    {
+        let is_same = self.entries() == other.entries();
+        if !is_same {
+            return Ok(());
+        }
+        *self = other.clone()?;
+        Ok(())
+    }
+
     /// Whether it has no variable.
     pub fn is_empty(&self) -> bool
         ensures { IsTrue result ↔ ((j : ℕ) → at self.now j ≡ zero_ℚ) }

@@ -119,7 +119,7 @@ pub(crate) fn all<S: Scan, I: ItemKind>(
     let mut items = Vec::new(alloc);
     for _ in 0..count {
         let next = item.parse(parser, alloc, objective)?;
-        push_among(alloc, &mut items, next, count)?;
+        push_among(&mut items, next, count)?;
     }
     Ok(items)
 }

@@ -63,7 +63,6 @@ const FIRST_ROOM: usize = 64;
 /// holds, and for none that aren't to come, so that memory grows with what was read.
 #[inline(always)]
 pub(crate) fn push_among<T: Drop>(
-    alloc: Global,
     list: &mut Vec<T>,
     element: T,
     count: u32,
@@ -72,7 +71,7 @@ pub(crate) fn push_among<T: Drop>(
         ≡ (if is_ok result then list.old.items ++ element ∷ [] else list.old.items) }
 {
     if list.len() == list.capacity() {
-        widen(alloc, list, count)?;
+        widen(list, count)?;
     }
     match list.push(element) {
         Ok(()) => Ok(()),
@@ -80,16 +79,13 @@ pub(crate) fn push_among<T: Drop>(
     }
 }
 
-// Moves a list that is to have so many elements to where there is more room.
+// Makes more room for a list that is to have so many elements.
 #[inline(never)]
-fn widen<T: Drop>(alloc: Global, list: &mut Vec<T>, count: u32) -> Result<(), AllocError>
+fn widen<T: Drop>(list: &mut Vec<T>, count: u32) -> Result<(), AllocError>
     ensures { list.new.items ≡ list.old.items }
 {
     let room = list.len().saturating_mul(2).max(FIRST_ROOM);
-    let mut wider = Vec::with_capacity(alloc, room.min(count as usize))?;
-    wider.append(list)?;
-    *list = wider;
-    Ok(())
+    list.reserve_exact(room.min(count as usize).saturating_sub(list.len()))
 }
 
 /// So many parts in a row.
@@ -126,7 +122,7 @@ pub(crate) fn many_into<S: Scan, P: Part>(
 {
     for _ in 0..count {
         let next = part.parse(parser, alloc)?;
-        push_among(alloc, parts, next, count)?;
+        push_among(parts, next, count)?;
     }
     Ok(())
 }
