@@ -1,5 +1,5 @@
 -- A set in several lists.
-use Rattle.std.proofs.Common.{◌≡◌, ℕ, Bool, true, false, ◌||◌, List, [], ◌++◌, sym, ap, ◌∙◌, refl, arith}
+use Rattle.std.proofs.Common.{◌≡◌, ℕ, Bool, true, false, ◌||◌, List, [], ◌++◌, sym, ap, ◌∙◌, refl, arith, ◌⊎◌, inl, inr}
 use Rattle.std.proofs.Common.{ap₂, nat_eq, subst, not, filter, ◌&&◌}
 use Rattle.std.proofs.lemmas.Bool.Decides.{nat_tests}
 use Rattle.std.proofs.lemmas.List.{append-nil}
@@ -140,9 +140,15 @@ pub alike_seen : (list other both : IndexList) (zs : List ℕ) (s t : FinSet nat
     → from_list (listed_items both) ≡ union s t
 alike_seen list other both zs s t is also firsts within u a b c =
     both_seen list other both s t is also (λ q.
-        ap₂ (λ f m. f || m) (ap (λ l. has l q) a) (ap₂ (λ x m. x || m) (ap (λ l. has l q) b) (ap (λ l. has l q) c ∙ u.members q))
-        ∙ within_second (has (listed_first list) q) (has (listed_second list) q) (has (listed_second other) q) _ _ (within q)
-        ∙ ap (λ l. listed_has list q || (has l q || (has (listed_second other) q || has (listed_more other) q))) firsts)
+    ap₂ (λ f m. f || m) (ap (λ l. has l q) a) (ap₂ (λ x m. x || m) (ap (λ l. has l q) b) (ap (λ l. has l q) c ∙ u.members q))
+    ∙ within_second (has (listed_first list) q) (has (listed_second list) q) (has (listed_second other) q) _ _ (within q)
+    ∙ ap (λ l. listed_has list q || (has l q || (has (listed_second other) q || has (listed_more other) q))) firsts)
+
+pub second_within : (list other : IndexList)
+    → (listed_second other ≡ []) ⊎ (listed_second other ≡ listed_second list) → (q : ℕ)
+    → has (listed_second other) q ≡ true → has (listed_second list) q ≡ true
+second_within list other (inl e) q h = absurd (let none : has (listed_second other) q ≡ false = ap (λ l. has l q) e in cc)
+second_within list other (inr e) q h = sym (ap (λ l. has l q) e) ∙ h
 
 into_second : (f s t a b : Bool)
     → (f || (((s || t) || (a || b)) || false)) ≡ ((f || (s || a)) || (f || (t || b)))
@@ -163,9 +169,9 @@ pub seconds_seen : (list other both : IndexList) (xs ys zs : List ℕ) (s t : Fi
     → from_list (listed_items both) ≡ union s t
 seconds_seen list other both xs ys zs s t is also firsts u v w a b c =
     both_seen list other both s t is also (λ q.
-        ap₂ (λ f m. f || m) (ap (λ l. has l q) a) (ap₂ (λ x m. x || m) (ap (λ l. has l q) b ∙ w.members q ∙ ap₂ (λ x m. x || m) (u.members q) (v.members q)) (ap (λ l. has l q) c))
-        ∙ into_second (has (listed_first list) q) (has (listed_second list) q) (has (listed_second other) q) _ _
-        ∙ ap (λ l. listed_has list q || (has l q || (has (listed_second other) q || has (listed_more other) q))) firsts)
+    ap₂ (λ f m. f || m) (ap (λ l. has l q) a) (ap₂ (λ x m. x || m) (ap (λ l. has l q) b ∙ w.members q ∙ ap₂ (λ x m. x || m) (u.members q) (v.members q)) (ap (λ l. has l q) c))
+    ∙ into_second (has (listed_first list) q) (has (listed_second list) q) (has (listed_second other) q) _ _
+    ∙ ap (λ l. listed_has list q || (has l q || (has (listed_second other) q || has (listed_more other) q))) firsts)
 
 pub turned : (xs ys zs : List ℕ) → IsUnion xs ys zs → IsUnion ys xs zs
 turned xs ys zs u = record { rising = u.rising; members = λ q. u.members q ∙ or_turned (has xs q) (has ys q) }

@@ -224,11 +224,11 @@ impl Assumptions {
         }
         let (ours, theirs) = (self.list.second(), other.list.second());
         let more = join(alloc, self.list.more(), other.list.more())?;
-        if self.takes(more.len()) && has_all(ours, theirs) {
+        if self.takes(more.len()) && self.list.has_second_of(&other.list) {
             let list = self.list.with_more(alloc, more)?;
             return Ok(Some(Assumptions { list }));
         }
-        if self.takes(more.len()) && has_all(theirs, ours) {
+        if self.takes(more.len()) && other.list.has_second_of(&self.list) {
             let list = other.list.with_more(alloc, more)?;
             return Ok(Some(Assumptions { list }));
         }

@@ -1,6 +1,6 @@
 //! Lists of indices that their copies share.
 
-ghost use Rattle.std.specs.Prelude.{◌≡◌, [], length, IfOk, IfSome, IsTrue};
+ghost use Rattle.std.specs.Prelude.{◌≡◌, ◌⊎◌, [], length, IfOk, IfSome, IsTrue};
 ghost use Rattle.vipr_table.specs.IndexList.{listed_items, listed_first, listed_second};
 ghost use Rattle.vipr_table.specs.IndexList.{listed_more, IsOneList, IsPairOf};
 
@@ -106,6 +106,22 @@ impl IndexList {
     {
         match (self.shared_first(), other.shared_first()) {
             (Some(ours), Some(theirs)) => ours.is_one(theirs),
+            _ => false,
+        }
+    }
+
+    /// Whether the second list of another one has no index, or is this one's, too.
+    pub(crate) fn has_second_of(&self, other: &IndexList) -> bool
+        ensures { IsTrue result → (listed_second other.now ≡ [])
+            ⊎ (listed_second other.now ≡ listed_second self.now) }
+    {
+        if other.second().is_empty() {
+            return true;
+        }
+        match (self, other) {
+            (IndexList::Longer(ours), IndexList::Longer(theirs)) => {
+                ours.as_ref().second.is_one(&theirs.as_ref().second)
+            }
             _ => false,
         }
     }

@@ -1,18 +1,18 @@
 use Rattle.std.proofs.Common.{◌∙◌, sym}
-use Rattle.vipr_table.proofs.PartLemmas.{alike_seen, seconds_seen, turned, union_turned}
+use Rattle.vipr_table.proofs.PartLemmas.{alike_seen, second_within, seconds_seen, turned, union_turned}
 use Rattle.vipr_table.proofs.assumptions.Assumptions.joined_alike.Goals as goal
 
-pub returns-then-has_all : goal.returns-then-has_all
-returns-then-has_all c =
+pub returns-then-has_second_of : goal.returns-then-has_second_of
+returns-then-has_second_of c =
     let joined = rw (c.more.ensures, c.more-2.ensures) at c.in_ok-more.ensures in
-    let within = rw (c.second-ours.ensures, c.second-theirs.ensures) at c.has_all.ensures c.if-has_all.true in
+    let within = second_within c.self.inside.list c.other.inside.list (c.has_second_of.ensures c.if-has_second_of.true) in
     let made = c.in_ok-list.ensures in
     alike_seen c.self.inside.list c.other.inside.list c.in_ok-list.list _ _ _ c.self.view_is c.other.view_is (c.has_first_of.ensures c.if-not-has_first_of.false) within joined made.0 made.1 made.2
 
-pub returns-then-has_all-2 : goal.returns-then-has_all-2
-returns-then-has_all-2 c =
+pub returns-then-has_second_of-2 : goal.returns-then-has_second_of-2
+returns-then-has_second_of-2 c =
     let joined = rw (c.more.ensures, c.more-2.ensures) at c.in_ok-more.ensures in
-    let within = rw (c.second-ours.ensures, c.second-theirs.ensures) at c.has_all-then-takes-2.ensures c.if-has_all-2.true in
+    let within = second_within c.other.inside.list c.self.inside.list (c.has_second_of-then-takes-2.ensures c.if-has_second_of-2.true) in
     let made = c.in_ok-list-2.ensures in
     alike_seen c.other.inside.list c.self.inside.list c.in_ok-list-2.list _ _ _ c.other.view_is c.self.view_is (sym (c.has_first_of.ensures c.if-not-has_first_of.false)) within (turned _ _ _ joined) made.0 made.1 made.2
     ∙ union_turned c.args.other.now c.args.self.now
