@@ -7,7 +7,9 @@ Of each family of PRODUCTS and HOSTILE (bench/families.py) a text and one of fou
 written in the compact form; instructions and the peak of memory may grow by five times at most. Each command may have
 no more memory than MOST (or LESS) bytes for a byte of text, whatever it writes, beside what an empty run has and ROOM;
 that is tried with the families of KEPT, and with constraints written `OBJ`, which are much longer in the canonical
-text. Each family of STEPS may take no more than so many instructions.
+text. Each family of STEPS may take no more than so many instructions. What instructions hide is counted beside them, for the
+texts that programs write: divisions, each of which takes the time of twenty other steps, allocations, and steps that
+move bytes. So a division by 1 that comes back is a failure.
 
 `explain --long` is tried with texts of its own.
 
@@ -23,7 +25,7 @@ from concurrent.futures import ThreadPoolExecutor
 from pathlib import Path
 
 from sources import replaced
-from texts import GNU_TIME, TOP, VALGRIND, Checks, described, instructions, peak, program, run, spent, text_of
+from texts import GNU_TIME, OBJDUMP, TOP, VALGRIND, Checks, described, instructions, peak, program, run, spent, text_of
 import families
 
 # what doesn't meet its bound yet: pairs of a family's name and a command
@@ -45,6 +47,11 @@ LENGTH, LONG = 8_000, {'same_set': 400_000, 'alternating_sets': 400_000, 'nine_s
 MEMORY_LENGTH, KEPT_LENGTH, WRITTEN_LENGTH = 200_000, 500_000, 100_000
 # instructions that a text of this length may take whose steps have no shorter way
 STEPS_LENGTH, STEPS_MOST = 20_000, {'split_on_rows': 13_000_000, 'wide_divisors': 300_000_000}
+# divisions, allocations and steps that move bytes: how many a text of this length may take, by family
+HIDDEN_LENGTH, HIDDEN_MOST = 100_000, {
+    'chain': (50, 150, 130_000), 'tree': (50, 4_800, 300_000), 'cuts': (3_000, 1_350, 140_000),
+    'dense': (11_000, 350, 130_000), 'wide': (50, 2_900, 400_000), 'long': (50, 400, 130_000),
+    'held': (50, 2_300, 480_000), 'solutions': (50, 5_500, 220_000)}
 # processor time that a run may take, in seconds
 SECONDS = 10
 PAGE = TOP / 'docs/SECURITY.md'
@@ -140,6 +147,38 @@ def steps(pool):
         check(good, family.__name__, 'check', f'{found} instructions for {STEPS_LENGTH} bytes')
 
 
+def hidden(family):
+    """How many divisions, allocations and steps that move bytes a check takes."""
+    path, counts = f'{ROOM_FOR_FILES}/{family}.steps', Path(ROOM_FOR_FILES, f'{family}.counts')
+    Path(path).write_bytes(text_of(getattr(families, family), HIDDEN_LENGTH))
+    run([VALGRIND, '--tool=callgrind', '--dump-instr=yes', '--compress-pos=no', '--compress-strings=no',
+         f'--callgrind-out-file={counts}', PROGRAM, 'check', path], timeout=20 * SECONDS)
+    divisions = allocations = moves = 0
+    at, is_of_a_call = {}, False
+    for line in counts.read_text(encoding='utf-8').splitlines():
+        key, _, value = line.partition('=')
+        if key in ('ob', 'fn', 'cfn'):
+            at[key] = value
+        elif key == 'calls':
+            is_of_a_call = True
+            allocations += int(value.split()[0]) if at['cfn'] in ('malloc', 'calloc', 'realloc') else 0
+        elif line.startswith('0x') and is_of_a_call:
+            is_of_a_call = False
+        elif line.startswith('0x'):
+            place, _, times = line.split()
+            is_division = Path(at['ob']).name == Path(PROGRAM).name and int(place, 16) in DIVISIONS
+            divisions += int(times) if is_division else 0
+            moves += int(times) if MOVES.match(at['fn']) else 0
+    return divisions, allocations, moves
+
+
+def hidden_costs(pool):
+    """Checks what instructions hide."""
+    for family, found in zip(HIDDEN_MOST, pool.map(hidden, HIDDEN_MOST)):
+        for what, times, most in zip(('divisions', 'allocations', 'steps that move bytes'), found, HIDDEN_MOST[family]):
+            check(times <= most, family, 'check', f'{times} {what} for {HIDDEN_LENGTH} bytes')
+
+
 def beyond():
     """A sentence that names what doesn't meet its bound yet."""
     named = [f'`{command}` of {ABOUT[name]}' for name, command in sorted(OPEN)]
@@ -199,6 +238,8 @@ def long_growths(pool):
 def main():
     if not VALGRIND:
         CHECKS.skip('valgrind', 'no instructions are counted')
+    elif not OBJDUMP:
+        CHECKS.skip('objdump', 'no divisions are counted')
     if not GNU_TIME:
         CHECKS.skip('GNU time', 'no memory is measured')
     with ThreadPoolExecutor(os.cpu_count()) as pool:
@@ -207,6 +248,8 @@ def main():
         steps(pool)
         if VALGRIND:
             long_growths(pool)
+        if DIVISIONS:
+            hidden_costs(pool)
     if WRITES:
         text = PAGE.read_text(encoding='utf-8')
         PAGE.write_text(replaced(text, MARKS, table(first, second)), encoding='utf-8')
@@ -218,6 +261,10 @@ def main():
 WRITES = '--write' in sys.argv
 PROGRAM = program([word for word in sys.argv[1:] if word != '--write'])
 ABOUT = described(families)
+# where the program divides, and what moves bytes
+DIVISIONS = VALGRIND and OBJDUMP and {int(it, 16) for it in re.findall(
+    rb'^ *([0-9a-f]+):\t.*\ti?div[bwlq]? ', run([OBJDUMP, '-d', PROGRAM]).stdout, re.M)}
+MOVES = re.compile('_*mem(cpy|move|set)_')
 EMPTY = GNU_TIME and peak([PROGRAM, '--version'], SECONDS)
 with tempfile.TemporaryDirectory(prefix='vipr-costs-') as ROOM_FOR_FILES:
     STATUS = main()

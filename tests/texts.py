@@ -15,7 +15,7 @@ from pathlib import Path
 
 TOP = Path(__file__).resolve().parent.parent
 sys.path[:0] = [str(TOP / folder) for folder in ('bench', 'tools', 'conformance')]
-GNU_TIME, VALGRIND = shutil.which('time'), shutil.which('valgrind')
+GNU_TIME, VALGRIND, OBJDUMP = map(shutil.which, ('time', 'valgrind', 'objdump'))
 ENVIRONMENT = {'PATH': os.environ.get('PATH', '/usr/bin:/bin'), 'LC_ALL': 'C.UTF-8'}
 # a run that takes longer is ended, and its answer is none that is wanted
 SECONDS = 120
