@@ -64,6 +64,17 @@ impl<'a> Known<'a> {
         }
     }
 
+    /// Whether it rests on no assumption.
+    #[inline(always)]
+    pub(crate) fn rests_on_nothing(self) -> bool
+        ensures { IsTrue result → set_of self.entry ≡ set.empty }
+    {
+        match self {
+            Known::Given(_) => true,
+            Known::Derived(entry) => entry.assumptions.is_empty(),
+        }
+    }
+
     /// Adds the assumptions that it rests on to those of others.
     pub(crate) fn add_to(self, alloc: Global, others: &mut Union) -> Result<(), AllocError>
         ensures union { OnOk result

@@ -210,6 +210,9 @@ fn join(
         ≡ set.union (union_so_far assumptions.old) (set_of known.entry)) }
     ensures noted { OnOk result (NotesAtMost index assumptions.old assumptions.new) }
 {
+    if known.rests_on_nothing() {
+        return Ok(());
+    }
     if entries > FEW_ENTRIES {
         known.add_once_to(alloc, index, assumptions)
     } else {
