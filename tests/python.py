@@ -6,6 +6,7 @@ usage: tests/python.py [PROGRAM]     crates/vipr/out/vipr without it
 - The package is installed from a copy of python/ into a folder, without a network, if this Python has pip; else its commands
   are run from python/ itself, with a word.
 - The reader answers as `vipr show`: on the examples, on damaged texts, and on texts of 4 MB.
+- Texts in any buffer are taken; mypy and ruff find nothing, if they are installed.
 - The calls give what the program prints, if `make lib` built the library here; else they are left out, with a word.
 - compare-mps gives the lines of tests/mps_changes.py for changes of one MPS file and one certificate; it finds each example
   the same as an MPS file that is made of it; on random pairs it answers as a loop over all pairs of conditions does.
@@ -21,7 +22,7 @@ import gzip
 import hashlib
 import importlib.util
 import json
-import lzma
+import mmap
 import os
 import random
 import re
@@ -156,7 +157,8 @@ def calls(texts):
         check(vipr.digest(text) == hashlib.sha256(text).hexdigest(), f'the digest is {vipr.digest(text)}')
     check(vipr.version() in run([PROGRAM, '--version']).stdout.decode(), 'the versions differ')
     for wrong, error in ((lambda: vipr.check(b'', 3), vipr.BadProfile), (lambda: vipr.check('VER 1.0'), TypeError),
-                         (lambda: vipr.digest('VER 1.0'), TypeError)):
+                         (lambda: vipr.digest('VER 1.0'), TypeError), (lambda: vipr.check(b'', 2**32 + 1), vipr.BadProfile),
+                         (lambda: vipr.tighten(b'', '1'), vipr.BadProfile), (lambda: vipr.check_file('no/such.vipr'), OSError)):
         try:
             wrong()
             check(False, f'no {error.__name__}')
@@ -164,6 +166,53 @@ def calls(texts):
             check(True, '')
     claim = vipr.check(EXAMPLES[TOP / 'examples/problems/diet.vipr']).claim
     check(str(claim) == 'range 16/5 16/5' and claim.lower == claim.upper and claim.turned().lower == -claim.upper, claim)
+
+
+def inputs(room):
+    """A text in any buffer of bytes gives what its bytes give, and a string is a TypeError with a sentence."""
+    text = EXAMPLES[TOP / 'examples/plan.vipr']
+    path = room / 'plan.vipr'
+    path.write_bytes(text)
+    calls = [vipr.read, vipr.read_problem, *([vipr.check, vipr.digest] if library() else [])]
+    with open(path, 'rb') as file, mmap.mmap(file.fileno(), 0, access=mmap.ACCESS_READ) as mapped:
+        for call in calls:
+            for other in (bytearray(text), memoryview(text), mapped):
+                check(call(other) == call(text), f'{call.__name__} of {type(other).__name__} differs')
+    for call in calls:
+        for wrong in ('VER 1.0', 3, None, [1]):
+            try:
+                call(wrong)
+                check(False, f'{call.__name__} of {wrong!r}: no TypeError')
+            except TypeError as fault:
+                check('a certificate is bytes, not' in str(fault), fault)
+    if library():
+        packed = room / 'plan.vipr.gz'
+        packed.write_bytes(gzip.compress(text))
+        check(vipr.check_file(path) == vipr.check_file(str(packed)) == vipr.check(text), 'check_file differs')
+    project = (TOP / 'python/pyproject.toml').read_text()
+    check(f'version = "{vipr.__version__}"' in project, f'__version__ is {vipr.__version__}')
+
+
+CALLER = """
+import vipr
+verdict = vipr.check_file('a.vipr')
+print(verdict.claim.lower if verdict else verdict.refusal.cause.word)
+other: vipr.Verdict = vipr.check(memoryview(b''))
+proof = vipr.read(bytearray())
+"""
+
+
+def types(room):
+    """The package and a caller's code have no faults of types or style, if the tools are installed."""
+    caller = room / 'caller.py'
+    caller.write_text(CALLER)
+    for tool, words in (('mypy', ['--strict', f'--cache-dir={room}/mypy', TOP / 'python/vipr', caller]),
+                        ('ruff', ['check', '--no-cache', TOP / 'python'])):
+        if shutil.which(tool):
+            done = run([tool, *words], env={**os.environ, 'MYPYPATH': str(TOP / 'python')})
+            check(done.returncode == 0, done.stdout.decode())
+        else:
+            print(f'python: {tool} is not here, and the package is not looked at by it')
 
 
 def causes():
@@ -280,6 +329,44 @@ def comparisons(dice):
         check((status == 0) == same, f'{model.decode()}{text.decode()}{lines}')
 
 
+# a file of one column x: its row with right-hand side 5 (or none), what RANGES and BOUNDS have, the options; and the bounds and
+# the kind of x in a certificate that has the same problem, a piece of which makes another one
+SIDES = [
+    ('E', 'r 2', 'FR x', {}, '', 'G5 L7'), ('E', 'r -2', 'FR x', {}, '', 'G3 L5'), ('L', 'r 2', 'FR x', {}, '', 'G3 L5'),
+    ('L', 'r -2', 'FR x', {}, '', 'G3 L5'), ('G', 'r 2', 'FR x', {}, '', 'G5 L7'), ('G', 'r -2', 'FR x', {}, '', 'G5 L7'),
+    ('', '', 'BV x', {}, '0', 'G0 L1'), ('', '', 'UI x 3', {}, '0', 'G0 L3'), ('', '', 'LI x 2', {'integers': 'inf'}, '0', 'G2'),
+    ('', '', 'LI x 2', {'integers': 'one'}, '0', 'G2 L1'), ('', '', 'UI x 1e30', {'infinity': 10**30}, '0', 'G0'),
+    ('', '', 'UP x 1e31', {'infinity': 10**30}, '', 'G0'), ('', '', 'LO x -1e30', {'infinity': 10**30}, '', ''),
+    ('', '', 'UP x 1e25', {'infinity': 10**30}, '', f'G0 L{10**25}')]
+UNCLEAR_SIDES = [(' UP x -0.5\n', {}, 124), (' UI x 1e30\n', {}, 118), (' LO x 1e30\n', {'infinity': 10**30}, 118),
+                 (' FX x 1e30\n', {'infinity': 10**30}, 118), (' UP x -1e30\n', {'infinity': 10**30}, 118)]
+
+
+def one_column(kind, ranges, bounds):
+    row = [f' {kind} r', 'COLUMNS', ' x obj 1 r 1', 'RHS', ' r 5'] if kind else ['COLUMNS', ' x obj 1']
+    return '\n'.join(['NAME', 'ROWS', ' N obj', *row, 'RANGES', *([f' {ranges}'] if ranges else []), 'BOUNDS', f' {bounds}', 'ENDATA', '']).encode()
+
+
+def sides():
+    """What each kind of row, range and bound asks of a column."""
+    for kind, ranges, bounds, options, whole, wanted in SIDES:
+        file = one_column(kind, ranges, bounds)
+        def answer(conditions, integers):
+            rows = ' '.join(f'c {it[0]} {it[1:]} 1 0 1' for it in conditions)
+            return compare_mps.compared(file, (f'VER 1.0 VAR 1 x INT {f"1 {integers}" if integers else "0"} OBJ min 1 0 1 CON {len(conditions)} 0 '
+                                               f'{rows} RTP range -inf inf SOL 0 DER 0').encode(), **options)
+        all_of = wanted.split()
+        check(answer(all_of, whole)[0] == 0, f'{file} {options}: {answer(all_of, whole)}')
+        others = [[*all_of[:at], *all_of[at + 1:]] for at in range(len(all_of))]
+        others += [[*all_of[:at], f'{it[0]}{int(it[1:]) + 1}', *all_of[at + 1:]] for at, it in enumerate(all_of)] + [[*all_of, 'L2', 'G2']]
+        for other in others:
+            check(answer(other, whole)[0] == 1 or wanted == 'G2 L1', f'{file} {options} {other}: {answer(other, whole)}')
+        check(answer(all_of, '' if whole else '0')[0] == 1, f'{file} {options}: another kind of x')
+    for bounds, options, cause in UNCLEAR_SIDES:
+        status, lines = compare_mps.compared(one_column('', '', bounds.strip()), b'', **options)
+        check(status == 1 and lines[0].startswith(f'refused {cause} at line'), f'{bounds} {options}: {lines}')
+
+
 def figures():
     for path, text in {**EXAMPLES, 'no goal': NO_GOAL}.items():
         out, _, status = run([PROGRAM, 'explain'], text)
@@ -299,10 +386,27 @@ def figures():
           ({'asm': 2, 'lin': 1, 'rnd': 1, 'uns': 1, 'sol': 0}, 1, 3), found)
 
 
-def limited():
-    """Limits of a run over a hostile text: 10 seconds of the processor, and 500 MB."""
+def limited(megabytes=500):
+    """Limits of a run over a hostile text: 10 seconds of the processor, and so much memory."""
     resource.setrlimit(resource.RLIMIT_CPU, (10, 11))
-    resource.setrlimit(resource.RLIMIT_AS, (500 << 20, 500 << 20))
+    resource.setrlimit(resource.RLIMIT_AS, (megabytes << 20, megabytes << 20))
+
+
+def wide(path, model):
+    """Writes a certificate with 25,000 variables and 100,000 entries, and the MPS file of its problem."""
+    dice, rows = random.Random(4), [[] for _ in range(10_000)]
+    columns = []
+    for variable in range(25_000):
+        entries = [(at, dice.choice([1, -1, 2, 17, dice.randrange(1, 10**6)])) for at in sorted(dice.sample(range(len(rows)), 4))]
+        columns += [f' column{variable} obj {variable + 1}', *(f' column{variable} row{at} {value}' for at, value in entries)]
+        for at, value in entries:
+            rows[at].append(f'{variable} {value}')
+    count = 25_000
+    path.write_text('\n'.join([
+        f'VER 1.0 VAR {count}', *(f'column{at}' for at in range(count)), f'INT 0 OBJ min {count}', *(f'{at} {at + 1}' for at in range(count)),
+        f'CON {count + len(rows)} 0', *(f'b G 0 1 {at} 1' for at in range(count)), *(f'r G 0 {len(row)} {" ".join(row)}' for row in rows),
+        'RTP range -inf inf SOL 0 DER 0\n']))
+    model.write_text('\n'.join(['NAME', 'ROWS', ' N obj', *(f' G row{at}' for at in range(len(rows))), 'COLUMNS', *columns, 'ENDATA\n']))
 
 
 def hostile(room, words):
@@ -325,6 +429,9 @@ def hostile(room, words):
     for line in ([*words['stats'], path], [*words['picture'], path], [*words['compare-mps'], model, path]):
         out, fault, status = run(line, preexec_fn=limited)
         check(status == 0 and b'range -inf inf' in out, f'{line}: status {status}, {fault}')
+    wide(path, model)
+    out, fault, status = run([*words['compare-mps'], model, path], preexec_fn=functools.partial(limited, 95))
+    check((status, out) == (0, b'problem range -inf inf\n'), f'100,000 entries: status {status}, {fault}')
     path.write_text('\n'.join([*rows, f'1 d G 0 OBJ {{ lin {count}', *(f'{at} 1' for at in range(count)), '} -1\n']))
     out, fault, status = run([*words['stats'], path], preexec_fn=limited)
     check(status == 0 and b'too many steps' in out, f'stats of a long sum: status {status}, {out}, {fault}')
@@ -410,6 +517,11 @@ def commands(room, words):
         check(out in (b'0\n', b'3\n') and not fault, f'{name} into a pipe that ends: {out} {fault}')
     out, _, status = run([*words['compare-mps'], model, example])
     check((status, out) == (0, b'problem range 1 1\n'), out)
+    for flag, wanted in ((['--infinity', '1e30'], 0), (['--infinity=inf'], 2), (['--infinity', '5'], 2), (['--infinity', '1e50'], 2)):
+        status = run([*words['compare-mps'], *flag, model, example]).returncode
+        check(status == wanted, f'compare-mps {flag}: status {status}')
+    if library():
+        checked(room, words['compare-mps'])
     out, _, status = run([*words['stats'], '--json', example])
     check(json.loads(out)['goal'] == 6, out)
     _, fault, status = run([*words['picture'], example, '-o', room / 'no/picture.svg'])
@@ -417,6 +529,19 @@ def commands(room, words):
     (room / 'cut.mps.gz').write_bytes(model.read_bytes()[:60])
     _, fault, status = run([*words['compare-mps'], room / 'cut.mps.gz', example])
     check(status == 3 and b'not unpacked' in fault, fault)
+
+
+def checked(room, words):
+    """`--check` checks the proof of the same bytes by the profile that is asked for, and goes by its verdict."""
+    split = TOP / 'examples/covering_split.vipr'
+    model, bad = room / 'split.mps', room / 'bad.vipr'
+    model.write_bytes(written_mps(vipr.read_problem(EXAMPLES[split])))
+    bad.write_bytes(EXAMPLES[split].replace(b'RTP infeas', b'RTP range -inf 0'))
+    for flags, file, wanted in (([], split, b'refused 37'), (['--profile', '1'], split, b'refused 37'), (['--profile', '2'], split, b'verified'),
+                                (['--profile', '2'], bad, b'refused')):
+        out, fault, status = run([*words, '--check', '--integers=inf', *flags, model, file])
+        check(out.startswith(wanted) and (status == 0) == (wanted == b'verified') == (b'problem' in out),
+              f'compare-mps --check {flags}: {status} {out} {fault}')
 
 
 def large(room, words):
@@ -451,8 +576,11 @@ def main():
         texts = reader(dice)
         if library():
             calls(texts[::3])
+        inputs(room)
+        types(room)
         causes()
         comparisons(dice)
+        sides()
         figures()
         sets_of_assumptions(dice)
         pictures(texts)

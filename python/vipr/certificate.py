@@ -5,19 +5,23 @@ A number is an int if it is whole, and a Fraction otherwise.
 """
 from __future__ import annotations
 
+import mmap
 import re
 from dataclasses import dataclass
 from fractions import Fraction
-from typing import Callable, Dict, List, Optional, Set, Tuple, Union
+from typing import Callable, Dict, List, Optional, Set, Tuple, TypeVar, Union
 
 from .verdict import Cause, Claim, Place, Refusal
 
+Text = Union[bytes, bytearray, memoryview, mmap.mmap]
 Number = Union[int, Fraction]
 Row = Dict[int, Number]
+Part = TypeVar('Part')
 
 LARGEST = 2**127 - 1
 LARGEST_COUNT = 2**32 - 1
 LONGEST_TOKEN = 65535
+MOST_KNOWN, MOST_INDICES = 1 << 16, 1 << 18
 _COMMENTS = re.compile(rb'[\t-\r ]*(?:%[^\n]*(?:\n|$)[\t-\r ]*)*')
 _TOKEN = re.compile(rb'[^\t-\r ]+')
 _NUMBER = re.compile(rb'([+-]?)([0-9]+)(?:/([0-9]+))?')
@@ -26,6 +30,7 @@ _NUMBER = re.compile(rb'([+-]?)([0-9]+)(?:/([0-9]+))?')
 @dataclass(frozen=True)
 class Constraint:
     """A name, a sense (`G` at least, `L` at most, `E` equal), a right-hand side, and the nonzero coefficients by variable."""
+    __slots__ = 'name', 'sense', 'bound', 'row'
     name: bytes
     sense: str
     bound: Number
@@ -88,31 +93,33 @@ class _Fault(Exception):
 
 
 class _Reader:
-    """The tokens of a text, one after the other."""
+    """The tokens of a text, one after the other. Short tokens that spell the same number give one object."""
 
     def __init__(self, text: bytes):
         self.end = len(text)
         begin = _COMMENTS.match(text)
         self.matches = _TOKEN.finditer(text, begin.end() if begin else 0)
-        self.offset = 0
+        self.match: Optional[re.Match[bytes]] = None
+        self.known: Dict[bytes, Number] = {}
+        self.indices: Dict[bytes, int] = {}
         self.held: Optional[bytes] = None
 
     def next(self) -> bytes:
-        """The next token; its offset is kept for a fault."""
+        """The next token; its place is kept for a fault."""
         if self.held is not None:
             token, self.held = self.held, None
             return token
         match = next(self.matches, None)
         if match is None:
             raise _Fault(Cause.TRUNCATED, self.end)
-        token, self.offset = match[0], match.start()
+        self.match, token = match, match[0]
         if len(token) > LONGEST_TOKEN:
-            raise _Fault(Cause.TOKEN_TOO_LONG, self.offset)
+            raise self.fault(Cause.TOKEN_TOO_LONG)
         return token
 
     def fault(self, cause: Cause) -> _Fault:
         """A fault of the token that was read last."""
-        return _Fault(cause, self.offset)
+        return _Fault(cause, self.match.start() if self.match else 0)
 
     def word(self, wanted: Dict[bytes, str], cause: Cause) -> str:
         token = self.next()
@@ -140,7 +147,13 @@ class _Reader:
         return self.whole(self.next(), Cause.BAD_REFERENCE, Cause.BAD_REFERENCE)
 
     def number(self) -> Number:
-        return self.number_of(self.next())
+        token = self.next()
+        found = self.known.get(token)
+        if found is None:
+            found = self.number_of(token)
+            if len(self.known) < MOST_KNOWN and len(token) < 40:
+                self.known[token] = found
+        return found
 
     def number_of(self, token: bytes) -> Number:
         if len(token) < 39 and token.isdigit():
@@ -166,7 +179,12 @@ class _Reader:
     def vector(self, variables: int) -> Row:
         row: Row = {}
         for _ in range(self.count()):
-            index = self.whole(self.next(), Cause.BAD_INDEX, Cause.BAD_INDEX, variables - 1)
+            token = self.next()
+            index = self.indices.get(token)
+            if index is None:
+                index = self.whole(token, Cause.BAD_INDEX, Cause.BAD_INDEX, variables - 1)
+                if len(self.indices) < MOST_INDICES and len(token) < 10:
+                    self.indices[token] = index
             if index in row:
                 raise self.fault(Cause.REPEATED_INDEX)
             row[index] = self.number()
@@ -239,18 +257,27 @@ class _Reader:
         return Certificate(problem, solutions, derivations)
 
 
-def _read(text: bytes, part: Callable[[_Reader], object]) -> object:
+def as_bytes(text: Text) -> bytes:
+    """The bytes of a text. Raises TypeError for a string."""
+    if isinstance(text, bytes):
+        return text
+    if isinstance(text, (bytearray, memoryview, mmap.mmap)):
+        return bytes(text)
+    raise TypeError(f'a certificate is bytes, not {type(text).__name__}: open its file in the mode rb')
+
+
+def _read(text: Text, part: Callable[[_Reader], Part]) -> Union[Part, Refusal]:
     try:
-        return part(_Reader(text))
+        return part(_Reader(as_bytes(text)))
     except _Fault as fault:
         return fault.refusal
 
 
-def read(text: bytes) -> Certificate | Refusal:
+def read(text: Text) -> Union[Certificate, Refusal]:
     """The certificate that a text spells, or the refusal of a text that spells none."""
-    return _read(text, _Reader.certificate)  # type: ignore[return-value]
+    return _read(text, _Reader.certificate)
 
 
-def read_problem(text: bytes) -> Problem | Refusal:
+def read_problem(text: Text) -> Union[Problem, Refusal]:
     """The problem at the front of a certificate's text, or the refusal of its first fault. The rest isn't read."""
-    return _read(text, _Reader.problem)  # type: ignore[return-value]
+    return _read(text, _Reader.problem)

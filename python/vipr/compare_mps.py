@@ -21,64 +21,79 @@ understood, and 3 if a file can't be read.
 from __future__ import annotations
 
 import argparse
+import os
 import sys
+from itertools import chain, islice
 from typing import Dict, Iterator, List, Optional, Tuple
 
 from . import algebra, library
 from .certificate import Number, Problem, Row, read_problem
-from .files import FAILED, REFUSED, VERIFIED, printable, read_file, run
-from .mps import Cause, MpsFile, Refused, Sides, read_mps
+from .files import FAILED, REFUSED, VERIFIED, Parser, printable, read_file, run
+from .mps import Cause, MpsFile, Refused, Sides, decimal, read_mps
 from .proof import whole_row
 from .verdict import Claim, Refusal
 
+LEAST_INFINITY = 10**10
+Key = Tuple[Tuple[int, ...], Tuple[Number, ...]]
 
 
 class Rows:
-    """Numbers for rows: equal rows have one, and the empty row has EMPTY. Each is whole or not wherever the integer variables
-    are whole. The objective's row is looked at once, however often `OBJ` stands for it."""
+    """Numbers for rows, one for equal ones: that of a variable alone is the variable. Each row is whole or not wherever the
+    integer variables are. The objective's row is looked at once, however often `OBJ` stands for it."""
 
     def __init__(self, problem: Problem):
-        self.problem = problem
-        self.numbers: Dict[Tuple[Tuple[int, ...], Tuple[Number, ...]], int] = {}
-        self.rows: List[Row] = []
-        self.is_whole: List[bool] = []
-        self.number({})
+        self.problem, self.first = problem, len(problem.names)
+        self.numbers: Dict[Key, int] = {}
+        self.keys: List[Key] = []
+        self.wholes: List[bool] = []
+        self.empty = self.number({})
         self.objective = self.number(problem.objective)
 
     def number(self, row: Row) -> int:
         indices = tuple(sorted(row))
-        found = self.numbers.setdefault((indices, tuple(row[at] for at in indices)), len(self.rows))
-        if found == len(self.rows):
-            self.rows.append(row)
-            self.is_whole.append(bool(row) and whole_row(row, self.problem.integers))
+        if len(indices) == 1 and row[indices[0]] == 1:
+            return indices[0]
+        key = indices, tuple(map(row.__getitem__, indices))
+        found = self.numbers.setdefault(key, self.first + len(self.keys))
+        if found == self.first + len(self.keys):
+            self.keys.append(key)
+            self.wholes.append(bool(row) and whole_row(row, self.problem.integers))
         return found
 
     def of(self, row: Row) -> int:
         return self.objective if row is self.problem.objective else self.number(row)
 
+    def row(self, number: int) -> Row:
+        return {number: 1} if number < self.first else dict(zip(*self.keys[number - self.first]))
 
-EMPTY = 0
+    def is_whole(self, number: int) -> bool:
+        return number in self.problem.integers if number < self.first else self.wholes[number - self.first]
 
 
 class Side:
     """The conditions of one side, the file's or the certificate's: each row's tightest bounds. It is absurd if a condition
     is true nowhere."""
 
-    def __init__(self) -> None:
-        self.tightest: Dict[int, Sides] = {}
-        self.is_absurd = False
+    def __init__(self, empty: int) -> None:
+        self.empty, self.is_absurd = empty, False
+        self.lower: Dict[int, Number] = {}
+        self.upper: Dict[int, Number] = {}
 
     def add(self, row: int, sides: Sides) -> None:
         lower, upper = sides
-        low, up = self.tightest.get(row, (None, None))
-        self.tightest[row] = (low if lower is None or (low is not None and low >= lower) else lower,
-                              up if upper is None or (up is not None and up <= upper) else upper)
-        self.is_absurd = self.is_absurd or (row == EMPTY and not is_void(sides))
+        if lower is not None and (row not in self.lower or lower > self.lower[row]):
+            self.lower[row] = lower
+        if upper is not None and (row not in self.upper or upper < self.upper[row]):
+            self.upper[row] = upper
+        self.is_absurd = self.is_absurd or (row == self.empty and not is_void(sides))
+
+    def tightest(self, row: int) -> Sides:
+        return self.lower.get(row), self.upper.get(row)
 
     def says(self, row: int, sides: Sides) -> bool:
         """Whether it asks as much of a point as these sides of a row do."""
-        low, up = self.tightest.get(row, (None, None))
-        return (self.is_absurd or (row == EMPTY and is_void(sides))
+        low, up = self.tightest(row)
+        return (self.is_absurd or (row == self.empty and is_void(sides))
                 or ((sides[0] is None or (low is not None and low >= sides[0]))
                     and (sides[1] is None or (up is not None and up <= sides[1]))))
 
@@ -93,11 +108,17 @@ class Comparison:
 
     def __init__(self, file: MpsFile, problem: Problem):
         self.file, self.problem = file, problem
-        self.names = [printable(name) for name in problem.names]
         self.index = self.indices()
-        self.entries = {name: {self.index[column]: value for column, value in row.items()}
-                        for name, row in file.entries().items()}
+        self.variables = [self.index[name] for name in file.columns]
         self.rows = Rows(problem)
+        self.objective = self.row(file.objective or b'')
+
+    def row(self, name: bytes) -> Row:
+        """The coefficients of a row of the file, by variable. They are taken out of the file, since they need much memory."""
+        return {self.variables[at]: value for at, value in self.file.entries.pop(name).items() if value}
+
+    def name(self, at: int) -> str:
+        return printable(self.problem.names[at])
 
     def indices(self) -> Dict[bytes, int]:
         """The variable of each name. Each is a column, and each column is one."""
@@ -105,12 +126,12 @@ class Comparison:
         for at, name in enumerate(self.problem.names):
             if name in found:
                 raise Refused(Cause.NAMES_REPEAT, f'VAR {at}', f'cause {Cause.NAMES_REPEAT.word}',
-                              f'variable {at} {self.names[at]}', f'variable {found[name]} {self.names[at]}')
+                              f'variable {at} {self.name(at)}', f'variable {found[name]} {self.name(at)}')
             found[name] = at
         for at, name in enumerate(self.problem.names):
             if name not in self.file.columns:
                 raise Refused(Cause.NOT_A_COLUMN, f'VAR {at}', f'cause {Cause.NOT_A_COLUMN.word}',
-                              f'variable {at} {self.names[at]}')
+                              f'variable {at} {self.name(at)}')
         for name, column in self.file.columns.items():
             if name not in found:
                 raise Refused(Cause.NOT_A_VARIABLE, f'line {column.line}', f'cause {Cause.NOT_A_VARIABLE.word}',
@@ -122,12 +143,12 @@ class Comparison:
             is_whole = at in self.problem.integers
             if self.file.columns[name].is_whole != is_whole:
                 raise Refused(Cause.WHOLE_DIFFERS, f'VAR {at}', f'cause {Cause.WHOLE_DIFFERS.word}',
-                              f'variable {at} {self.names[at]}', f'certificate {"whole" if is_whole else "any"}',
+                              f'variable {at} {self.name(at)}', f'certificate {"whole" if is_whole else "any"}',
                               f'file {"any" if is_whole else "whole"}')
 
     def is_turned(self) -> bool:
         """Whether the certificate has the negative objective in the other direction."""
-        wanted, stated = self.entries[self.file.objective or b''], self.problem.objective
+        wanted, stated = self.objective, self.problem.objective
         turned = self.file.maximizes != self.problem.maximizes
         if turned and wanted == stated:
             words = ['min', 'max']
@@ -138,37 +159,47 @@ class Comparison:
         if wanted != stated:
             at = min(it for it in {*wanted, *stated} if wanted.get(it) != stated.get(it))
             raise Refused(Cause.OBJECTIVE_DIFFERS, 'OBJ', f'cause {Cause.OBJECTIVE_DIFFERS.word}',
-                          f'variable {at} {self.names[at]}', f'certificate {stated.get(at, 0)}',
+                          f'variable {at} {self.name(at)}', f'certificate {stated.get(at, 0)}',
                           f'file {wanted.get(at, 0)}{", turned" if turned else ""}')
         return turned
 
-    def rounded(self, row: Row, sides: Sides) -> Tuple[int, Sides]:
-        """The row's number, and its sides: rounded, if the row is whole at every point in question."""
-        number, (lower, upper) = self.rows.of(row), sides
-        if self.rows.is_whole[number]:
-            lower = None if lower is None else -(-lower.numerator // lower.denominator)
-            upper = None if upper is None else upper.numerator // upper.denominator
-        return number, (lower, upper)
+    def rounded(self, number: int, sides: Sides) -> Sides:
+        """The sides of a row: rounded, if the row is whole at every point in question."""
+        if not self.rows.is_whole(number):
+            return sides
+        lower, upper = sides
+        return (None if lower is None else -(-lower.numerator // lower.denominator),
+                None if upper is None else upper.numerator // upper.denominator)
 
-    def of_file(self) -> Iterator[Tuple[int, Sides, int, str]]:
-        """The conditions of the file, each with its line and its name."""
-        for name, (_, line) in self.file.rows.items():
-            yield *self.rounded(self.entries[name], self.file.sides(name)), line, f'row {printable(name)}'
-        for name, column in self.file.columns.items():
-            line = max([it[1] for it in column.set_sides if it] or [column.line])
-            yield *self.rounded({self.index[name]: 1}, column.sides()), line, f'column {printable(name)}'
+    def numbers(self) -> Tuple[List[int], List[int]]:
+        """The rows of the file's conditions, and those of the certificate's."""
+        file = [self.rows.number(self.objective if name == self.file.objective else self.row(name)) for name in self.file.rows]
+        file += [self.rows.number({self.index[name]: 1}) for name in self.file.columns]
+        return file, [self.rows.of(it.row) for it in self.problem.constraints]
 
-    def of_certificate(self) -> Iterator[Tuple[int, Sides, int, str]]:
-        """The conditions of the certificate, each with its index and its name."""
-        for at, it in enumerate(self.problem.constraints):
-            sides = (it.bound if it.sense in 'GE' else None), (it.bound if it.sense in 'LE' else None)
-            yield *self.rounded(it.row, sides), at, f'constraint {at} {printable(it.name)}'
+    def of_file(self, numbers: List[int]) -> Iterator[Tuple[int, Sides]]:
+        """The conditions of the file: its rows, and its columns."""
+        sides = chain(map(self.file.sides, self.file.rows), (it.sides() for it in self.file.columns.values()))
+        return ((number, self.rounded(number, it)) for number, it in zip(numbers, sides))
+
+    def of_certificate(self, numbers: List[int]) -> Iterator[Tuple[int, Sides]]:
+        """The conditions of the certificate."""
+        for number, it in zip(numbers, self.problem.constraints):
+            yield number, self.rounded(number, ((it.bound if it.sense in 'GE' else None), (it.bound if it.sense in 'LE' else None)))
+
+    def named(self, at: int) -> Tuple[int, str]:
+        """The line and the name of a condition of the file."""
+        if at < len(self.file.rows):
+            name, (_, line) = next(islice(self.file.rows.items(), at, None))
+            return line, f'row {printable(name)}'
+        name, column = next(islice(self.file.columns.items(), at - len(self.file.rows), None))
+        return column.last_line(), f'column {printable(name)}'
 
     def shown(self, side: str, number: int, sides: Sides) -> str:
         """What a side says of a row, between its bounds."""
         if sides == (None, None):
             return f'{side} none'
-        row = algebra.row_text(self.rows.rows[number], self.problem.names, 12)
+        row = algebra.row_text(self.rows.row(number), self.problem.names, 12)
         lower, upper = sides
         if lower is not None and lower == upper:
             return f'{side} {row} = {lower}'
@@ -176,20 +207,24 @@ class Comparison:
 
     def check_conditions(self) -> None:
         """Each side asks as much as the other."""
-        file, certificate = Side(), Side()
-        for side, conditions in (file, self.of_file()), (certificate, self.of_certificate()):
-            for row, sides, _, _ in conditions:
-                side.add(row, sides)
-        for row, sides, at, name in self.of_certificate():
+        file, certificate = Side(self.rows.empty), Side(self.rows.empty)
+        of_file, of_certificate = self.numbers()
+        for row, sides in self.of_file(of_file):
+            file.add(row, sides)
+        for row, sides in self.of_certificate(of_certificate):
+            certificate.add(row, sides)
+        for at, (row, sides) in enumerate(self.of_certificate(of_certificate)):
             if not file.says(row, sides):
-                raise Refused(Cause.NOT_IN_FILE, f'CON {at}', f'cause {Cause.NOT_IN_FILE.word}', name,
+                raise Refused(Cause.NOT_IN_FILE, f'CON {at}', f'cause {Cause.NOT_IN_FILE.word}',
+                              f'constraint {at} {printable(self.problem.constraints[at].name)}',
                               self.shown('certificate', row, sides),
-                              self.shown('file', row, file.tightest.get(row, (None, None))))
-        for row, sides, line, name in self.of_file():
+                              self.shown('file', row, file.tightest(row)))
+        for at, (row, sides) in enumerate(self.of_file(of_file)):
             if not certificate.says(row, sides):
+                line, name = self.named(at)
                 raise Refused(Cause.NOT_IN_CERTIFICATE, f'line {line}', f'cause {Cause.NOT_IN_CERTIFICATE.word}', name,
                               self.shown('file', row, sides),
-                              self.shown('certificate', row, certificate.tightest.get(row, (None, None))))
+                              self.shown('certificate', row, certificate.tightest(row)))
 
     def claim(self) -> Claim:
         """The claim as one of the file's problem. Raises Refused if the problems differ."""
@@ -199,11 +234,16 @@ class Comparison:
         return self.problem.claim.turned() if turned else self.problem.claim
 
 
-def compared(model: bytes, text: bytes, integers: Optional[str] = None, maximize: bool = False) -> Tuple[int, List[str]]:
+def compared(model: bytes, text: bytes, integers: Optional[str] = None, maximize: bool = False,
+             infinity: Number = 0) -> Tuple[int, List[str]]:
     """The status of a file and a certificate, and the lines to print."""
     try:
-        file = read_mps(model, integers, maximize)
+        file = read_mps(model, integers, maximize, infinity)
+        del model
+        alive('the file is read')
         problem = read_problem(text)
+        del text
+        alive('the certificate is read')
         if isinstance(problem, Refusal):
             return REFUSED, [str(problem), f'cause {problem.cause.word}']
         claim = Comparison(file, problem).claim()
@@ -213,30 +253,49 @@ def compared(model: bytes, text: bytes, integers: Optional[str] = None, maximize
     return VERIFIED, [f'problem {claim}', *([f'constant {constant}'] if constant and not claim.infeasible else [])]
 
 
+def alive(words: str) -> None:
+    """Says on a terminal how far it is."""
+    if sys.stderr.isatty():
+        print(f'{words} ..', file=sys.stderr)
+
+
+def infinity(word: str) -> Number:
+    """The number of --infinity. A small one would take bounds away."""
+    try:
+        value = decimal(os.fsencode(word)) or 0
+    except OverflowError:
+        value = 0
+    if value < LEAST_INFINITY:
+        raise argparse.ArgumentTypeError(f'{word} is no number from 1e10 to 1e38')
+    return value
+
+
 def command(words: argparse.Namespace) -> int:
-    model, text = read_file(words.model), read_file(words.certificate)
+    # (each text is let go once it is read)
+    texts = [read_file(words.certificate), read_file(words.model)]
     if words.check:
         try:
-            verdict = library.check(text, words.profile)
+            verdict = library.check(texts[0], words.profile)
         except library.Error as fault:
             print(fault, file=sys.stderr)
             return FAILED
         print(verdict)
         if not verdict:
             return REFUSED
-    status, lines = compared(model, text, words.integers, words.maximize)
+    status, lines = compared(texts.pop(), texts.pop(), words.integers, words.maximize, words.infinity)
     print(*lines, sep='\n')
     return status
 
 
 def parser() -> argparse.ArgumentParser:
-    made = argparse.ArgumentParser(prog='vipr-compare-mps', description=__doc__,
-                                   formatter_class=argparse.RawDescriptionHelpFormatter)
+    made = Parser('compare-mps', __doc__)
     made.add_argument('model', metavar='MODEL.mps', help='an MPS file; .gz, .xz, .bz2 and .zst are unpacked; - is standard input')
     made.add_argument('certificate', metavar='CERT', help='a certificate, or - for standard input')
     made.add_argument('--maximize', action='store_true', help='the file gives no direction, and is to be maximized')
     made.add_argument('--integers', choices=['one', 'inf'],
                       help='the upper bound of an integer column that no line gives one; without it such a file is refused')
+    made.add_argument('--infinity', type=infinity, default=0, metavar='NUMBER',
+                      help='bounds of this size or more are infinite, and smaller ones are numbers; without it 1e20 or more is refused')
     made.add_argument('--check', action='store_true', help='check the proof as well, by the library')
     made.add_argument('--profile', type=int, choices=[1, 2], default=1, help='the rules that --check goes by')
     return made

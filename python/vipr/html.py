@@ -21,7 +21,7 @@ from typing import Any, Dict, List, Optional, Tuple
 from . import proof as structure
 from .algebra import row_text
 from .certificate import Certificate, read
-from .files import REFUSED, VERIFIED, printable, read_file, run
+from .files import REFUSED, VERIFIED, Parser, printable, read_file, run
 from .library import LibraryMissing, check, explain_long
 from .picture import Picture
 from .verdict import Place, Refusal, Verdict
@@ -76,9 +76,9 @@ class Page:
             inner = level + self.picture.is_split(index)
             open_ones.extend((it, inner, at) for it in reversed(children[index]))
         for row in reversed(rows):
-            parent = row['parent']
-            if parent is not None and parent >= 0:
-                rows[parent]['below'] = (rows[parent]['below'] or 0) + (row['below'] or 0) + 1
+            above = row['parent']
+            if above is not None and above >= 0:
+                rows[above]['below'] = (rows[above]['below'] or 0) + (row['below'] or 0) + 1
         return rows
 
     def html(self, name: str, verdict: Optional[Verdict], page: str) -> str:
@@ -129,7 +129,7 @@ def command(words: argparse.Namespace) -> int:
 
 
 def main() -> int:
-    made = argparse.ArgumentParser(prog='vipr-html', description=__doc__, formatter_class=argparse.RawDescriptionHelpFormatter)
+    made = Parser('html', __doc__)
     made.add_argument('certificate', metavar='CERT', help='a certificate, also .gz, .xz, .bz2 or .zst; - is standard input')
     made.add_argument('-o', '--out', metavar='FILE', help='where the page is written; standard output without it')
     made.add_argument('--profile', type=int, choices=(1, 2), default=1, help='by which profile of the rules; 1 without it')

@@ -11,9 +11,11 @@ import functools
 import os
 from dataclasses import dataclass, replace
 from pathlib import Path
-from typing import Tuple
+from typing import Any, List, Tuple, Union
 
-from .verdict import Cause, Place, Refusal, Verdict
+from .certificate import Text, as_bytes
+from .files import read_file
+from .verdict import Cause, Place, Refusal, Refused, Verdict, Verified
 
 ROOM = 4096  # how many bytes a call is offered at first
 _SIZE, _NUMBER, _TEXT = ctypes.c_size_t, ctypes.c_uint32, ctypes.c_char_p
@@ -64,7 +66,8 @@ def _library() -> ctypes.CDLL:
     name = os.environ.get('VIPR_LIBRARY') or (str(own) if own.is_file() else ctypes.util.find_library('vipr'))
     if not name:
         raise LibraryMissing('the library vipr is not installed: make install-lib, or set VIPR_LIBRARY to its file')
-    text, buffer = [_TEXT, _SIZE], [_TEXT, _SIZE, ctypes.POINTER(_SIZE)]
+    text: List[Any] = [_TEXT, _SIZE]
+    buffer: List[Any] = [_TEXT, _SIZE, ctypes.POINTER(_SIZE)]
     try:
         library = ctypes.CDLL(name)
         library.vipr_report.argtypes = [_NUMBER, *text, *buffer, ctypes.POINTER(_Answer)]
@@ -79,20 +82,14 @@ def _library() -> ctypes.CDLL:
     return library
 
 
-def _only_bytes(text: bytes) -> bytes:
-    if not isinstance(text, bytes):
-        raise TypeError(f'a certificate is bytes, not {type(text).__name__}')
-    return text
-
-
-def _call(name: str, options: Tuple[int | bytes, ...], text: bytes, *behind: ctypes.Structure) -> Tuple[bool, bytes]:
+def _call(name: str, options: Tuple[Union[int, bytes], ...], text: Text, *behind: ctypes.Structure) -> Tuple[bool, bytes]:
     """Whether the status is 0, and the text of a call, which is made again if its text needs more room."""
-    size = len(_only_bytes(text))
+    whole = as_bytes(text)
     call, length = getattr(_library(), name), _SIZE(ROOM)
     while True:
         room = length.value
         buffer = ctypes.create_string_buffer(max(1, room))
-        status = call(*options, text, size, buffer, room, ctypes.byref(length), *map(ctypes.byref, behind))
+        status = call(*options, whole, len(whole), buffer, room, ctypes.byref(length), *map(ctypes.byref, behind))
         if status == 2:
             raise BadProfile('the profiles are 1 and 2')
         if status == 3:
@@ -101,38 +98,52 @@ def _call(name: str, options: Tuple[int | bytes, ...], text: bytes, *behind: cty
             return status == 0, buffer.raw[:length.value]
 
 
-def _refusal(answer: ctypes.Structure) -> Refusal:
+def _refusal(answer: Union[_Answer, _Figures]) -> Refusal:
     return Refusal(Cause(answer.cause), list(Place)[answer.place - 1], answer.number)
 
 
-def check(text: bytes, profile: int = 1) -> Verdict:
+def _profile(profile: int) -> int:
+    if profile not in (1, 2):
+        raise BadProfile('the profiles are 1 and 2')
+    return int(profile)
+
+
+def check(text: Text, profile: int = 1) -> Union[Verified, Refused]:
     """The verdict on a certificate's text, by profile 1 or 2 of the rules.
 
     Raises BadProfile for another profile, OutOfMemory if memory was refused, and LibraryMissing.
     """
     answer = _Answer()
-    verdict = Verdict.parse(_call('vipr_report', (profile,), text, answer)[1].decode())
-    return replace(verdict, goal=answer.goal) if answer.has_goal else verdict
+    verdict = Verdict.parse(_call('vipr_report', (_profile(profile),), text, answer)[1].decode())
+    return replace(verdict, goal=answer.goal) if verdict and answer.has_goal else verdict
 
 
-def explain(text: bytes, profile: int = 1) -> bytes:
+def check_file(path: Union[str, os.PathLike[str]], profile: int = 1) -> Union[Verified, Refused]:
+    """The verdict on the certificate in a file, which is unpacked if it is a .gz, .xz, .bz2 or .zst.
+
+    Raises what `check` raises, and OSError if the file can't be read or unpacked.
+    """
+    return check(read_file(os.path.join(os.curdir, path)), profile)
+
+
+def explain(text: Text, profile: int = 1) -> bytes:
     """What `vipr explain` prints: the verdict and what shows it, in bytes, since names may be in any encoding.
 
     Raises what `check` raises.
     """
-    return _call('vipr_explain', (profile,), text)[1]
+    return _call('vipr_explain', (_profile(profile),), text)[1]
 
 
-def explain_long(text: bytes, name: str = 'the text', profile: int = 1) -> bytes:
+def explain_long(text: Text, name: str = 'the text', profile: int = 1) -> bytes:
     """What `vipr explain --long` prints of a file of this name: a page for people behind what `explain` gives.
 
     Raises what `check` raises.
     """
     shown = os.fsencode(name)
-    return _call('vipr_explain_long', (profile, shown, len(shown)), text)[1]
+    return _call('vipr_explain_long', (_profile(profile), shown, len(shown)), text)[1]
 
 
-def show(text: bytes, compact: bool = False) -> bytes | Refusal:
+def show(text: Text, compact: bool = False) -> Union[bytes, Refusal]:
     """The one canonical text of a certificate, or the refusal of a text that spells none. The proof is not checked.
 
     Raises OutOfMemory and LibraryMissing.
@@ -142,28 +153,29 @@ def show(text: bytes, compact: bool = False) -> bytes | Refusal:
     return shown if good else _refusal(answer)
 
 
-def tighten(text: bytes, profile: int = 1, compact: bool = False) -> Tightened | Refusal:
+def tighten(text: Text, profile: int = 1, compact: bool = False) -> Union[Tightened, Refusal]:
     """A certificate without what its proof doesn't need, or the refusal of a text that is no proof.
 
     Raises what `check` raises.
     """
     figures = _Figures()
-    good, shown = _call('vipr_tighten', (profile, compact), text, figures)
+    good, shown = _call('vipr_tighten', (_profile(profile), compact), text, figures)
     if not good:
         return _refusal(figures)
     return Tightened(shown, figures.kept, figures.removed, figures.peak_before, figures.peak_after)
 
 
-def _word(name: str, *text: bytes | int) -> str:
+def _word(name: str, *text: Union[bytes, int]) -> str:
     """The word that a call writes, which has at most 64 bytes."""
     buffer = ctypes.create_string_buffer(65)
     getattr(_library(), name)(*text, buffer, len(buffer))
     return buffer.value.decode()
 
 
-def digest(text: bytes) -> str:
+def digest(text: Text) -> str:
     """The SHA-256 of a text in hex digits, as `vipr check --sum` prints it. Raises LibraryMissing."""
-    return _word('vipr_digest', _only_bytes(text), len(text))
+    whole = as_bytes(text)
+    return _word('vipr_digest', whole, len(whole))
 
 
 def version() -> str:

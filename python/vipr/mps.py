@@ -8,11 +8,14 @@ A point gives each column a value. A row's sides are its least and its greatest 
 from __future__ import annotations
 
 import enum
+import functools
+import io
 import re
 from dataclasses import dataclass, field
-from typing import Callable, Dict, List, Optional, Tuple
+from fractions import Fraction
+from typing import Callable, Dict, Iterator, List, Optional, Set, Tuple
 
-from .certificate import LARGEST, Fraction, Number
+from .certificate import LARGEST, Number, Row
 from .files import printable
 
 Sides = Tuple[Optional[Number], Optional[Number]]
@@ -78,31 +81,44 @@ class Refused(Exception):
 
 @dataclass
 class Column:
-    """A column: the line that it begins at, whether it is whole, its entries by row, and what lines of BOUNDS set."""
+    """A column: its number, the line that it begins at, whether it is whole, and what lines of BOUNDS set."""
+    __slots__ = 'number', 'line', 'is_whole', 'lower', 'upper'
+    number: int
     line: int
     is_whole: bool
-    entries: Dict[bytes, Number] = field(default_factory=dict)
-    set_sides: List[Optional[Tuple[Optional[Number], int]]] = field(default_factory=lambda: [None, None])
+    lower: Optional[Tuple[Optional[Number], int]]
+    upper: Optional[Tuple[Optional[Number], int]]
 
     def sides(self) -> Sides:
         """Its bounds: from 0 on, if no line says otherwise."""
-        lower, upper = self.set_sides
-        return (0 if lower is None else lower[0]), (None if upper is None else upper[0])
+        return (0 if self.lower is None else self.lower[0]), (None if self.upper is None else self.upper[0])
+
+    def last_line(self) -> int:
+        """The last line of BOUNDS that sets a side, or else the line that it begins at."""
+        return max((it[1] for it in (self.lower, self.upper) if it), default=self.line)
 
 
 @dataclass
 class MpsFile:
-    """What a file says. `objective` is the name of its first row of type N."""
+    """What a file says. `objective` is the name of its first row of type N, and `entries` has for each row the coefficients that
+    are written, by the number of the column."""
     maximizes: bool = False
+    has_direction: bool = False
     objective: Optional[bytes] = None
     rows: Dict[bytes, Tuple[str, int]] = field(default_factory=dict)
+    entries: Dict[bytes, Row] = field(default_factory=dict)
     columns: Dict[bytes, Column] = field(default_factory=dict)
     right_sides: Dict[bytes, Tuple[Number, int]] = field(default_factory=dict)
     ranges: Dict[bytes, Tuple[Number, int]] = field(default_factory=dict)
 
+    def right_side(self, name: bytes) -> Number:
+        """The number that RHS gives a row, 0 without one."""
+        found = self.right_sides.get(name)
+        return found[0] if found else 0
+
     def sides(self, name: bytes) -> Sides:
         """The sides of a row."""
-        kind, right = self.rows[name][0], self.right_sides.get(name, (0, 0))[0]
+        kind, right = self.rows[name][0], self.right_side(name)
         if kind == 'N':
             return None, None
         if name not in self.ranges:
@@ -110,22 +126,18 @@ class MpsFile:
         size = self.ranges[name][0]
         if kind == 'E':
             return min(right, right + size), max(right, right + size)
-        return (right - abs(size), right) if kind == 'L' else (right, right + abs(size))
-
-    def entries(self) -> Dict[bytes, Dict[bytes, Number]]:
-        """The nonzero coefficients of each row, by column."""
-        rows: Dict[bytes, Dict[bytes, Number]] = {name: {} for name in self.rows}
-        for name, column in self.columns.items():
-            for row, value in column.entries.items():
-                if value:
-                    rows[row][name] = value
-        return rows
+        return (right - magnitude(size), right) if kind == 'L' else (right, right + magnitude(size))
 
     def constant(self) -> Number:
         """The number that RHS gives the objective's row. Tools add it, subtract it or ignore it; the row has none."""
-        return self.right_sides.get(self.objective or b'', (0, 0))[0]
+        return self.right_side(self.objective or b'')
 
 
+def magnitude(value: Number) -> Number:
+    return -value if value < 0 else value
+
+
+@functools.lru_cache(maxsize=1 << 16)
 def decimal(token: bytes) -> Optional[Number]:
     """The exact value of a decimal, or None if the token is none. Raises OverflowError past the limit."""
     match = _DECIMAL.fullmatch(token)
@@ -143,7 +155,7 @@ def decimal(token: bytes) -> Optional[Number]:
     if len(short) > 39 or not -38 <= exponent <= 38 or int(short) > LARGEST:
         raise OverflowError
     value: Number = int(short) * 10**exponent if exponent >= 0 else Fraction(int(short), 10**-exponent)
-    if abs(value) > LARGEST:
+    if magnitude(value) > LARGEST:
         raise OverflowError
     return -value if sign == b'-' else value
 
@@ -151,11 +163,14 @@ def decimal(token: bytes) -> Optional[Number]:
 class _Reader:
     """A file that is being read, line by line."""
 
-    def __init__(self) -> None:
+    def __init__(self, infinity: Number) -> None:
         self.file = MpsFile()
-        self.section, self.seen = b'', set()
+        self.infinity = infinity
+        self.unclear: Number = infinity if infinity else UNCLEAR
+        self.section = b''
+        self.seen: Set[bytes] = set()
         self.line = 0
-        self.has_direction = self.is_marked = False
+        self.is_marked = False
         self.column: Optional[bytes] = None
         self.sets: Dict[bytes, Optional[bytes]] = {}
         self.read: Dict[bytes, Callable[[List[bytes]], None]] = {
@@ -165,24 +180,25 @@ class _Reader:
         return Refused(cause, f'line {self.line}', f'cause {cause.word}', *(f'field {printable(it)}' for it in tokens))
 
     def lines(self, text: bytes) -> None:
-        for self.line, line in enumerate(text.split(b'\n')[:None if text[-1:] not in (b'\n', b'') else -1], 1):
-            if line[:1] == b'*' or not line.strip(WHITE):
+        for self.line, line in enumerate(io.BytesIO(text), 1):
+            fields = line.split()
+            if not fields or line[:1] == b'*':
                 continue
             if self.section == b'ENDATA':
                 raise self.fault(Cause.TEXT_BEHIND)
-            fields = line.split()
-            if line[:1] not in (b' ', b'\t', b'\r', b'\v', b'\f'):
+            if line[0] not in WHITE:
                 self.open(fields)
                 continue
             if self.section in (b'', b'NAME'):
                 raise self.fault(Cause.SECTION_ORDER)
             if self.section == b'OBJSENSE':
-                if self.has_direction or len(fields) != 1:
+                if self.file.has_direction or len(fields) != 1:
                     raise self.fault(Cause.FIELD_COUNT)
                 self.direction(fields[0])
                 continue
-            comment = next((at for at, word in enumerate(fields) if at and word[:1] == b'$'), None)
-            self.read[self.section](fields[:comment])
+            if b'$' in line:
+                fields = fields[:next((at for at, word in enumerate(fields) if at and word[:1] == b'$'), None)]
+            self.read[self.section](fields)
         if self.section != b'ENDATA':
             self.line += 1
             raise self.fault(Cause.PROBLEM_ENDS)
@@ -195,7 +211,7 @@ class _Reader:
         skipped = SECTIONS[:SECTIONS.index(word)]
         if any(it not in skipped for it in self.seen) or any(it in REQUIRED and it not in self.seen for it in skipped):
             raise self.fault(Cause.SECTION_ORDER, word)
-        if self.section == b'OBJSENSE' and not self.has_direction:
+        if self.section == b'OBJSENSE' and not self.file.has_direction:
             raise self.fault(Cause.BAD_DIRECTION)
         if self.section == b'ROWS' and self.file.objective is None:
             raise self.fault(Cause.NO_OBJECTIVE)
@@ -209,7 +225,7 @@ class _Reader:
     def direction(self, word: bytes) -> None:
         if word not in MAXIMIZE + MINIMIZE:
             raise self.fault(Cause.BAD_DIRECTION, word)
-        self.file.maximizes, self.has_direction = word in MAXIMIZE, True
+        self.file.maximizes, self.file.has_direction = word in MAXIMIZE, True
 
     def row(self, fields: List[bytes]) -> None:
         if len(fields) != 2:
@@ -219,7 +235,7 @@ class _Reader:
             raise self.fault(Cause.BAD_ROW_TYPE, kind)
         if name in self.file.rows:
             raise self.fault(Cause.REPEATED_ROW, name)
-        self.file.rows[name] = kind.decode(), self.line
+        self.file.rows[name], self.file.entries[name] = (kind.decode(), self.line), {}
         if kind == b'N' and self.file.objective is None:
             self.file.objective = name
 
@@ -238,13 +254,19 @@ class _Reader:
         if name != self.column:
             if name in self.file.columns:
                 raise self.fault(Cause.REPEATED_COLUMN, name)
-            self.file.columns[name] = Column(self.line, self.is_marked)
+            self.file.columns[name] = Column(len(self.file.columns), self.line, self.is_marked, None, None)
             self.column = name
-        entries = self.file.columns[name].entries
-        for row, value in self.pairs(fields[1:], entries):
-            entries[row] = value
+        column = self.file.columns[name].number
+        for at in range(1, len(fields), 2):
+            row = self.file.entries.get(fields[at])
+            if row is None:
+                raise self.fault(Cause.UNKNOWN_ROW, fields[at])
+            value = self.number(fields[at + 1])
+            if column in row:
+                raise self.fault(Cause.REPEATED_ENTRY, fields[at])
+            row[column] = value
 
-    def pairs(self, fields: List[bytes], before: Dict[bytes, object]):
+    def pairs(self, fields: List[bytes], before: Dict[bytes, Tuple[Number, int]]) -> Iterator[Tuple[bytes, Number]]:
         """Pairs of a row and a number; no row comes twice."""
         for row, token in zip(fields[::2], fields[1::2]):
             if row not in self.file.rows:
@@ -252,7 +274,7 @@ class _Reader:
             if self.section == b'RANGES' and self.file.rows[row][0] == 'N':
                 raise self.fault(Cause.RANGE_OF_FREE_ROW, row)
             value = self.number(token)
-            if self.section != b'COLUMNS' and abs(value) >= UNCLEAR:
+            if magnitude(value) >= self.unclear:
                 raise self.fault(Cause.UNCLEAR_INFINITY, token)
             if row in before:
                 raise self.fault(Cause.REPEATED_ENTRY, row)
@@ -308,18 +330,19 @@ class _Reader:
         if name not in file.columns:
             raise self.fault(Cause.UNKNOWN_COLUMN, name)
         column = file.columns[name]
+        lower = upper = None
         if kind in (b'UP', b'UI'):
-            sides = {1: self.side(token, True)}
+            upper = self.side(token, True), self.line
         elif kind in (b'LO', b'LI'):
-            sides = {0: self.side(token, False)}
+            lower = self.side(token, False), self.line
         elif kind == b'FX':
-            sides = dict.fromkeys((0, 1), self.side(token, None))
+            lower = upper = self.side(token, None), self.line
         else:
-            sides = {b'FR': {0: None, 1: None}, b'MI': {0: None}, b'PL': {1: None}, b'BV': {0: 0, 1: 1}}[kind]
-        for at, value in sides.items():
-            if column.set_sides[at] is not None:
-                raise self.fault(Cause.REPEATED_BOUND, name)
-            column.set_sides[at] = value, self.line
+            lower = {b'FR': (None, self.line), b'MI': (None, self.line), b'BV': (0, self.line)}.get(kind)
+            upper = {b'FR': (None, self.line), b'PL': (None, self.line), b'BV': (1, self.line)}.get(kind)
+        if (lower and column.lower) or (upper and column.upper):
+            raise self.fault(Cause.REPEATED_BOUND, name)
+        column.lower, column.upper = lower or column.lower, upper or column.upper
         column.is_whole = column.is_whole or kind in (b'BV', b'LI', b'UI')
 
     def infinite_or_number(self, token: bytes) -> None:
@@ -337,40 +360,43 @@ class _Reader:
                 raise self.fault(Cause.UNCLEAR_INFINITY, token)
             return None
         value = self.number(token)
-        if abs(value) >= UNCLEAR:
-            raise self.fault(Cause.UNCLEAR_INFINITY, token)
+        if magnitude(value) >= self.unclear:
+            if not self.infinity or (value > 0) is not infinite:
+                raise self.fault(Cause.UNCLEAR_INFINITY, token)
+            return None
         return value
 
     def whole(self, integers: Optional[str]) -> None:
         """What only the whole file shows: an upper bound below 0 alone, an integer column without an upper bound, and a range
         past the limit."""
         for name, column in self.file.columns.items():
-            lower, upper = column.set_sides
-            if lower is None and upper is not None and upper[0] is not None and upper[0] < 0:
+            upper = column.upper
+            if column.lower is None and upper is not None and upper[0] is not None and upper[0] < 0:
                 self.line = upper[1]
                 raise self.fault(Cause.UNCLEAR_LOWER, name)
             if column.is_whole and upper is None:
                 if integers is None:
                     self.line = column.line
                     raise self.fault(Cause.UNCLEAR_INTEGER, name)
-                column.set_sides[1] = (1 if integers == 'one' else None), column.line
+                column.upper = (1 if integers == 'one' else None), column.line
         for name, (_, line) in self.file.ranges.items():
             if any(it is not None and max(abs(it.numerator), it.denominator) > LARGEST for it in self.file.sides(name)):
                 self.line = line
                 raise self.fault(Cause.RANGE_TOO_LARGE, name)
 
 
-def read_mps(text: bytes, integers: Optional[str] = None, maximize: bool = False) -> MpsFile:
+def read_mps(text: bytes, integers: Optional[str] = None, maximize: bool = False, infinity: Number = 0) -> MpsFile:
     """The file that a text spells. Raises Refused.
 
     `integers` is the upper bound of an integer column that no line gives one: 'one' or 'inf'; without it such a file is
-    refused. With `maximize` a file without a direction is to be maximized, and one with a direction is refused.
+    refused. With `maximize` a file without a direction is to be maximized, and one with a direction is refused. A bound of
+    `infinity` or more is infinite, and all smaller ones are numbers; without it a bound of 1e20 or more is refused.
     """
-    reader = _Reader()
+    reader = _Reader(infinity)
     reader.lines(text)
     reader.whole(integers)
     if maximize:
-        if reader.has_direction:
+        if reader.file.has_direction:
             reader.line = 1
             raise reader.fault(Cause.BAD_DIRECTION)
         reader.file.maximizes = True

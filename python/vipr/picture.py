@@ -25,7 +25,7 @@ from xml.sax.saxutils import escape
 from . import proof as structure
 from .algebra import SIGNS, constraint_text, row_text, term
 from .certificate import Certificate, Constraint, read
-from .files import REFUSED, VERIFIED, printable, read_file, run
+from .files import REFUSED, VERIFIED, Parser, number, printable, read_file, run
 from .verdict import Refusal
 
 MOST_BOXES, MOST_SPLITS = 300, 40
@@ -333,13 +333,12 @@ def command(words: argparse.Namespace) -> int:
 
 
 def main() -> int:
-    made = argparse.ArgumentParser(prog='vipr-picture', description=__doc__,
-                                   formatter_class=argparse.RawDescriptionHelpFormatter)
+    made = Parser('picture', __doc__)
     made.add_argument('certificate', metavar='CERT', help='a certificate, also .gz, .xz, .bz2 or .zst; - is standard input')
     made.add_argument('-o', '--out', metavar='FILE', help='where the picture is written; standard output without it')
-    made.add_argument('--boxes', type=int, default=MOST_BOXES, metavar='N',
+    made.add_argument('--boxes', type=number, default=MOST_BOXES, metavar='N',
                       help=f'up to how many derivations have a box each; {MOST_BOXES} without it')
-    made.add_argument('--splits', type=int, default=MOST_SPLITS, metavar='N',
+    made.add_argument('--splits', type=number, default=MOST_SPLITS, metavar='N',
                       help=f'how many splits of a larger certificate are opened; {MOST_SPLITS} without it')
     words = made.parse_args()
     return run(lambda: command(words))

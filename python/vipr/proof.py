@@ -15,6 +15,7 @@ class Assumptions:
     """A set of indices. It shares its parts with other sets: a part covers `width` indices from `start` on, by bits if there
     are RANGE of them, and else by two parts that cover a half each and aren't empty."""
     __slots__ = 'start', 'width', 'bits', 'halves', 'size'
+    size: int
 
     def __init__(self, start: int, width: int, bits: int, halves: Tuple[Assumptions, ...]):
         self.start, self.width, self.bits, self.halves = start, width, bits, halves
@@ -22,7 +23,8 @@ class Assumptions:
 
     def indices(self) -> List[int]:
         """Its indices in ascending order."""
-        found, parts = [], [self]
+        found: List[int] = []
+        parts = [self]
         while parts:
             it = parts.pop()
             parts.extend(reversed(it.halves))
@@ -148,7 +150,7 @@ def goal(proof: Certificate, sets: List[Assumptions]) -> Optional[int]:
     """The first constraint that proves the claim's dual side: by the first profile of the rules, or else by the second, which
     rounds a bound of an objective that is whole. None if there is none, or if nothing has to be proved."""
     problem, first = proof.problem, len(proof.problem.constraints)
-    resting_on_nothing = [*range(first), *(first + at for at, it in enumerate(sets) if not it.size)]
+    resting_on_nothing: List[int] = [*range(first), *(first + at for at, it in enumerate(sets) if not it.size)]
     for rounds in (False, *([True] if whole_row(problem.objective, problem.integers) else [])):
         for index in resting_on_nothing:
             if proves_dual_side(problem, proof.constraint(index), rounds):

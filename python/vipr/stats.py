@@ -15,7 +15,7 @@ from typing import Dict, Iterable, List, Tuple, Union
 
 from . import proof as structure
 from .certificate import Certificate, read
-from .files import REFUSED, VERIFIED, read_file, run
+from .files import REFUSED, VERIFIED, Parser, read_file, run
 from .verdict import Refusal
 
 STEPS, LEAST_STEPS = 100, 1_000_000  # of sums that are added up: for each number that is written, and in any case
@@ -30,7 +30,7 @@ def by_reason(proof: Certificate, indices: Iterable[int]) -> Dict[str, int]:
     return {word: counts[word] for word in REASONS}
 
 
-def figures(proof: Certificate) -> Dict[str, Figure | Dict[str, int]]:
+def figures(proof: Certificate) -> Dict[str, Union[Figure, Dict[str, int]]]:
     """All figures by their names, as --json prints them."""
     problem, derivations = proof.problem, proof.derivations
     first = len(problem.constraints)
@@ -46,8 +46,8 @@ def figures(proof: Certificate) -> Dict[str, Figure | Dict[str, int]]:
         widths.see(it.bound, *(() if it.row is problem.objective else it.row.values()))
     for solution in proof.solutions:
         widths.see(*solution.values.values())
-    for index, it in zip(derived, derivations):
-        widths.see(*(multiplier for _, multiplier in it.entries))
+    for index, derivation in zip(derived, derivations):
+        widths.see(*(multiplier for _, multiplier in derivation.entries))
         widths.combine(proof, index)
     needed_derived = sum(index >= first for index in needed)
     return {
@@ -85,7 +85,7 @@ ROWS = [
 NONE = {'computed_bits': 'too many steps to compute it'}
 
 
-def table(found: Dict[str, Figure | Dict[str, int]]) -> List[Tuple[str, Figure]]:
+def table(found: Dict[str, Union[Figure, Dict[str, int]]]) -> List[Tuple[str, Figure]]:
     """The rows of the table: a label and a figure."""
     rows: List[Tuple[str, Figure]] = []
     for key, label in ROWS:
@@ -111,8 +111,7 @@ def command(words: argparse.Namespace) -> int:
 
 
 def main() -> int:
-    made = argparse.ArgumentParser(prog='vipr-stats', description=__doc__,
-                                   formatter_class=argparse.RawDescriptionHelpFormatter)
+    made = Parser('stats', __doc__)
     made.add_argument('certificate', metavar='CERT', help='a certificate, also .gz, .xz, .bz2 or .zst; - is standard input')
     made.add_argument('--json', action='store_true', help='one JSON object')
     words = made.parse_args()

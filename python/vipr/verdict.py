@@ -5,7 +5,7 @@ import enum
 import re
 from dataclasses import dataclass
 from fractions import Fraction
-from typing import Optional
+from typing import Literal, Optional, Union
 
 
 class Cause(enum.IntEnum):
@@ -105,37 +105,60 @@ class Claim:
         return cls(False, *(None if word in ('-inf', 'inf') else Fraction(word) for word in words[1:]))
 
 
-@dataclass(frozen=True)
 class Verdict:
-    """The answer on a text. It is true in a condition if the text is verified.
-
-    A verified text has a claim, which is true of the problem in it, and counts: its solutions, its derivations, and how
-    many derived constraints had to be held at once. `goal` is the constraint that proves the claim's dual side, None if
-    nothing has to be proved. Any other text has a refusal, and its counts are 0.
-    """
+    """The answer on a text, a Verified or a Refused. It is true in a condition if the text is verified."""
     claim: Optional[Claim]
     refusal: Optional[Refusal]
-    solutions: int = 0
-    derived: int = 0
-    peak: int = 0
-    goal: Optional[int] = None
+    solutions: int
+    derived: int
+    peak: int
+    goal: Optional[int]
 
-    def __bool__(self) -> bool:
-        return self.claim is not None
-
-    def __str__(self) -> str:
-        """The lines of `vipr check`."""
-        if self.claim is None:
-            return str(self.refusal)
-        return f'verified {self.claim}\nsolutions {self.solutions} derived {self.derived} peak {self.peak}'
-
-    @classmethod
-    def parse(cls, lines: str) -> Verdict:
+    @staticmethod
+    def parse(lines: str) -> Union[Verified, Refused]:
         """The verdict of what `vipr check` printed."""
         first, *rest = lines.rstrip('\n').split('\n')
         if not first.startswith('verified '):
-            return cls(None, Refusal.parse(first))
+            return Refused(Refusal.parse(first))
         counts = re.fullmatch(r'solutions (\d+) derived (\d+) peak (\d+)', ''.join(rest))
         if not counts:
             raise ValueError(f'no counts: {rest}')
-        return cls(Claim.parse(first[len('verified '):]), None, *map(int, counts.groups()))
+        return Verified(Claim.parse(first[len('verified '):]), int(counts[1]), int(counts[2]), int(counts[3]))
+
+
+@dataclass(frozen=True)
+class Verified(Verdict):
+    """A claim, which is true of the problem in the text, and counts: its solutions, its derivations, and how many derived
+    constraints had to be held at once. `goal` is the constraint that proves the claim's dual side, None if nothing has to be
+    proved."""
+    claim: Claim
+    solutions: int
+    derived: int
+    peak: int
+    goal: Optional[int] = None
+    refusal: None = None
+
+    def __bool__(self) -> Literal[True]:
+        return True
+
+    def __str__(self) -> str:
+        """The lines of `vipr check`."""
+        return f'verified {self.claim}\nsolutions {self.solutions} derived {self.derived} peak {self.peak}'
+
+
+@dataclass(frozen=True)
+class Refused(Verdict):
+    """A refusal. It has no claim, and its counts are 0."""
+    refusal: Refusal
+    claim: None = None
+    solutions: int = 0
+    derived: int = 0
+    peak: int = 0
+    goal: None = None
+
+    def __bool__(self) -> Literal[False]:
+        return False
+
+    def __str__(self) -> str:
+        """The line of `vipr check`."""
+        return str(self.refusal)

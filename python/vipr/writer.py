@@ -206,5 +206,5 @@ class Writer:
         for line in [*self._head(self.constraints, self.claimed, self.solutions), f'DER {len(self.lasts)}']:
             yield f'{line}\n'.encode()
         self.derived.seek(0)
-        for line, last in zip(self.derived, self.lasts):
-            yield b'%s %d\n' % (line[:-1], last)
+        for written, last in zip(self.derived, self.lasts):
+            yield b'%s %d\n' % (written[:-1], last)
