@@ -184,6 +184,12 @@ def tried_wheel(folder):
     check(run('vipr', 'check', example) == (0, VERDICT, ''), f'the wheel has another program: {run("vipr", "check", example)}')
     status, out, fault = run('vipr-html', example)
     check(status == 0 and ': verified' in out, f'vipr-html of the wheel: {out:.300}{fault}')
+    page = re.search(r'\$ vipr-audit (\S+) (\S+)\n((?:.+\n)*?)program ', (TOP / 'docs/REFEREE.md').read_text())
+    status, out, fault = run('vipr-audit', *(TOP / page[at] for at in (1, 2)))
+    report = out.replace(f'{TOP}/', '').partition('program ')
+    check((status, report[0]) == (0, page[3]) and 'commit ' in report[2] and 'kit ' in report[2], f'vipr-audit of the wheel: {out}{fault}')
+    status, out, fault = run('vipr-audit', TOP / page[1], example)
+    check(status == 1 and 'nothing is proved of this model' in out, f'vipr-audit of another model: {out}{fault}')
     status, out, fault = run('vipr-check-all', example)
     check(status == 0 and 'verified' in out + fault, f'vipr-check-all of the wheel: {out}{fault}')
     code = 'import sys, vipr; print(vipr.check(open(sys.argv[1], "rb").read()))'

@@ -55,7 +55,7 @@ TUTORIAL = 'docs/TUTORIAL.md'
 RUN = ['README.md', 'docs/USE.md', 'docs/LIBRARY.md', 'docs/BENCHMARKS.md', 'CONTRIBUTING.md']
 # what may stand in a block marked `sh`
 KNOWN = {'git', 'cd', 'make', 'man', 'vipr', 'rt', 'python3', 'source', 'parallel', 'sbatch', 'export', 'sudo', 'pv', 'cc', 'g++',
-         './gmp_check', '$work/check', '~/vipr/bin/pip', 'vipr-html', 'vipr-picture', './run.py'}
+         './gmp_check', '$work/check', '~/vipr/bin/pip', 'vipr-audit', 'vipr-html', 'vipr-picture', './run.py'}
 # public calls whose documentation shows an example
 DOCUMENTED = ['check', 'explain', 'read_certificate', 'tighten', 'write_certificate']
 COMMENT = re.compile(r'(?:^ *//[/!][^\n]*\n)+', re.M)

@@ -56,6 +56,13 @@ def said(*words):
     return done.stdout.strip() if done.returncode == 0 else ''
 
 
+def build_of(version):
+    """What BUILD says: the version, the commit and the kit."""
+    commit, changed = said('git', 'rev-parse', 'HEAD'), said('git', 'status', '--porcelain', '-uno')
+    return (f'version: {version}\ncommit: {commit or "none"}{" with changes" * bool(changed)}\n'
+            f'kit: {said(os.environ.get("RT", "rt"), "version")}\n')
+
+
 def lay_out(tree, version):
     """Puts the files into a folder."""
     built = [word for file in ('crates/vipr/out/vipr', 'crates/vipr_c/out/libvipr.a') for word in ('-o', file)]
@@ -67,10 +74,8 @@ def lay_out(tree, version):
                             for it in pc.read_text().split('\n')))
     for name in ('python', 'debian'):
         shutil.copytree(TOP / name, tree / name, ignore=shutil.ignore_patterns('__pycache__', 'build', '*.egg-info'))
-    commit, day = said('git', 'rev-parse', 'HEAD'), int(said('git', 'log', '-1', '--format=%ct') or 0)
-    changed = ' with changes' if said('git', 'status', '--porcelain', '-uno') else ''
-    build = f'version: {version}\ncommit: {commit or "none"}{changed}\nkit: {said(os.environ.get("RT", "rt"), "version")}\n'
-    (tree / 'BUILD').write_text(build)
+    day = int(said('git', 'log', '-1', '--format=%ct') or 0)
+    (tree / 'BUILD').write_text(build_of(version))
     (tree / 'INSTALL').write_text(INSTALL.format(version=version))
     maintainer = next(it[len('Maintainer: '):] for it in (tree / 'debian/control').read_text().split('\n')
                       if it.startswith('Maintainer: '))
@@ -107,7 +112,8 @@ def write_wheel(folder, version):
     sys.path.insert(0, str(TOP / 'python'))
     import build_package
     built = {'vipr/libvipr.so': f'crates/vipr_c/out/libvipr.so.{version}', f'{build_package.NAME}.data/scripts/vipr': 'crates/vipr/out/vipr'}
-    return build_package.write_wheel(folder, WHEEL_TAG, {name: (TOP / file).read_bytes() for name, file in built.items()})
+    files = {name: (TOP / file).read_bytes() for name, file in built.items()}
+    return build_package.write_wheel(folder, WHEEL_TAG, files | {'vipr/BUILD': build_of(version).encode()})
 
 
 def main():

@@ -11,7 +11,7 @@ import functools
 import os
 from dataclasses import dataclass, replace
 from pathlib import Path
-from typing import Any, List, Tuple, Union
+from typing import Any, List, Optional, Tuple, Union
 
 from .certificate import Text, as_bytes
 from .files import read_file
@@ -176,6 +176,14 @@ def digest(text: Text) -> str:
     """The SHA-256 of a text in hex digits, as `vipr check --sum` prints it. Raises LibraryMissing."""
     whole = as_bytes(text)
     return _word('vipr_digest', whole, len(whole))
+
+
+def file() -> Optional[Path]:
+    """The file from which the library was loaded, if the system says so. Raises LibraryMissing."""
+    _library()
+    maps = Path('/proc/self/maps')
+    rows = maps.read_text().split('\n') if maps.is_file() else []
+    return next((Path(row.split(maxsplit=5)[5]) for row in rows if 'libvipr' in row), None)
 
 
 def version() -> str:
