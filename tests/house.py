@@ -18,6 +18,7 @@ ROOT = os.path.dirname(os.path.dirname(os.path.abspath(__file__)))
 CRATES = os.path.join(ROOT, 'crates')
 sys.path.insert(0, os.path.join(ROOT, 'tools'))
 import wrong  # noqa: E402
+import literals  # noqa: E402
 import statement  # noqa: E402
 from sources import crates, levels, read, replaced  # noqa: E402
 
@@ -449,9 +450,14 @@ def formatted():
             yield line.removeprefix(ROOT + os.sep)
 
 
+def numbers_have_reasons():
+    """Each number above 64 in the code, and each shift by a number, has a row in docs/ARCHITECTURE.md that says why."""
+    return literals.faults()
+
+
 CHECKS = [foreign_proofs, private_lemmas, names_twice, types_twice, growing_types, plain_words, comments_stand_alone, unused_imports, dead_lemmas, dead_calls, laws_are_named, proofs_in_specs, long_lines, long_files, crates_are_there, graph_is_current,
           statement_is_current, examples_are_there, causes_agree, edits_stand, samples_go_round, versions_agree, named_files_are_there,
-          formatted]
+          numbers_have_reasons, formatted]
 
 
 def write():

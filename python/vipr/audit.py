@@ -26,7 +26,7 @@ from typing import Dict, List, Optional
 
 from . import library
 from .compare_mps import compared
-from .files import FAILED, REFUSED, VERIFIED, printable, read_file, run
+from .files import FAILED, REFUSED, VERIFIED, Parser, printable, read_file, run
 from .verdict import Claim, Verdict
 
 PLACES = 6
@@ -115,7 +115,7 @@ def command(words: argparse.Namespace) -> int:
 
 
 def main() -> int:
-    made = argparse.ArgumentParser(prog='vipr-audit', description=__doc__, formatter_class=argparse.RawDescriptionHelpFormatter)
+    made = Parser('audit', __doc__)
     made.add_argument('model', metavar='MODEL.mps', help='the MPS file, also .gz, .xz, .bz2 or .zst')
     made.add_argument('certificate', metavar='CERT', help='the certificate, likewise')
     made.add_argument('--json', action='store_true', help='one object in place of the lines')
