@@ -3,8 +3,8 @@
 
 usage: tools/axioms.py [CRATES]
 
-Checks the program and the library for C once more, with `--list-axioms`, over the libraries that are built in the folder
-CRATES, that of this checkout if none is named. Nothing else is written. The exit status is 1 if one isn't proved.
+Checks the program once more, with `--list-axioms`, over the libraries that are built in the folder CRATES, that of this
+checkout if none is named. Nothing else is written. The exit status is 1 if it isn't proved.
 """
 import os
 import re
@@ -32,25 +32,23 @@ def check(folder, crate, root):
     words += [word for it in libraries for word in ('--extern', it)]
     words += [word for it in [KIT / 'rlibs', *built] for word in ('-L', f'dependency={it}')]
     words += ['--antt-project', KIT / 'rattle/logic/antt-project.json', '--logic-built', KIT / 'logic_built', '--list-axioms']
-    return subprocess.run([*words, *sys.argv[2:]], stdout=subprocess.PIPE, stderr=subprocess.STDOUT, text=True).stdout
+    return subprocess.run(words, stdout=subprocess.PIPE, stderr=subprocess.STDOUT, text=True).stdout
 
 
 def main():
-    folder, said = Path(sys.argv[1] if len(sys.argv) > 1 else TOP / 'crates').resolve(), []
-    for crate, root, what in (('vipr', 'src/main.rt', 'The program'), ('vipr_c', 'src/lib.rt', 'The library for C')):
-        out = check(folder, crate, root)
-        last = out.rstrip().split('\n')[-1]
-        if not last.startswith('logic=proved'):
-            print(out[-3000:])
-            return 1
-        names = {}
-        for of, name in REACHED.findall(out):
-            names.setdefault(of, []).append(name)
-        count = re.search(r'axioms=(\d+)', last)
-        of = '; '.join('%d of `%s`: %s' % (len(some), it, ', '.join('`%s`' % n for n in some)) for it, some in names.items())
-        said.append('- %s: %s. %s' % (what, count[1] if count else 'none', of))
-        print(crate, last)
-    PAGE.write_text(replaced(PAGE.read_text(encoding='utf-8'), MARKS, '\n'.join([MARKS[0], *said, MARKS[1]])), encoding='utf-8')
+    folder = Path(sys.argv[1] if len(sys.argv) > 1 else TOP / 'crates').resolve()
+    out = check(folder, 'vipr', 'src/main.rt')
+    last, names = out.rstrip().split('\n')[-1], {}
+    count = re.match(r'logic=proved .*axioms=(\d+)', last)
+    for of, name in REACHED.findall(out):
+        names.setdefault(of, []).append(name)
+    if not count or int(count[1]) != sum(map(len, names.values())):
+        print(out[-3000:])
+        return 1
+    of = '; '.join('%d of `%s`: %s' % (len(some), it, ', '.join('`%s`' % n for n in some)) for it, some in names.items())
+    made = '%s for `vipr`: %s.' % (count[1], of)
+    PAGE.write_text(replaced(PAGE.read_text(encoding='utf-8'), MARKS, '\n'.join([MARKS[0], made, MARKS[1]])), encoding='utf-8')
+    print(last)
     return 0
 
 
