@@ -24,7 +24,7 @@ HEAD = '''# The kit's crates, from their sources
 
 <!-- the table is written by tools/kit_crates.py -->
 
-The program stands on crates of the Rattle kit. A check takes them as they were proved when the kit was built \
+The program uses crates of the Rattle kit. A check takes them as they were proved when the kit was built \
 (`libraries-built=trusted`). `tools/kit_crates.py CRATE ..` proves a crate anew, from its source, over the kit's libraries \
 below it: the command is `rattle check --crate-name CRATE KIT/rattle/CRATE/src/lib.rt`, with `--extern` for each library \
 that it uses. A crate that isn't in the table wasn't checked so.
