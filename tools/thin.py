@@ -6,7 +6,7 @@ usage: tools/thin.py [--minutes N] [--least N] [--seconds N] CRATE ..
 Code, definitions and the kit change, and what once needed an answer may not any more. One function of a crate after the
 other, the longest file of answers first, is proved without its answers, with half of the prover's counts, as the kit asks
 of whoever thins a proof. Answers of goals that stay open are put back, with the lemmas and imports that they cite. The
-shorter file is kept if the function is proved with it, in at most twice the time.
+shorter file is kept if the function is proved with it, by half of the counts and by all of them, in at most twice the time.
 
 All that is tried on a copy, over what the crate's last check kept, so the crate's files are whole at any time. What was
 tried is noted below the crate's `out`: a later run goes on behind it, and tries again what changed since.
@@ -134,7 +134,7 @@ def is_of(answer, goals):
 def thinned(copy, function, start, seconds):
     """The file's text without the answers that nobody needs, and why it stays as it is if it does."""
     copy.put(function.file, '')
-    ran, took = copy.check(function.name, seconds, '--margin')
+    ran, _ = copy.check(function.name, seconds, '--margin')
     if ran.returncode not in (0, 1):
         return None, 'the search is too long' if ran.returncode < 0 else ran.stdout.strip().split('\n')[-1][:120]
     needed = {it for it in function.answers() if is_of(it, OPEN.findall(ran.stdout))}
@@ -143,10 +143,14 @@ def thinned(copy, function, start, seconds):
     text = function.only(needed)
     if text:
         copy.put(function.file, text)
-        ran, took = copy.check(function.name, seconds, '--margin')
+        ran, _ = copy.check(function.name, seconds, '--margin')
         if ran.returncode:
             return None, 'not proved with what is needed'
-    # (with another text the kept proof isn't taken)
+    # (half of the counts isn't always the harder test, and with another text the kept proof isn't taken)
+    copy.put(function.file, f'{text}\n-- anew\n')
+    ran, took = copy.check(function.name, seconds)
+    if ran.returncode:
+        return None, 'not proved with the whole counts'
     copy.put(function.file, f'{function.text}\n-- anew\n')
     ran, before = copy.check(function.name, seconds)
     if ran.returncode:
