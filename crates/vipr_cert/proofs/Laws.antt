@@ -1,6 +1,4 @@
 -- Laws: the lemmas that other crates may cite, by the file that proves them
 
--- A rising list of numbers is the members of its set, in order
-pub use Rattle.vipr_cert.proofs.Members.{members_are}
 -- Items that keep the limits, as they are tested and as the definitions see them
 pub use Rattle.vipr_cert.proofs.Within.{each_from}

@@ -1,14 +1,9 @@
 -- What is so of the items of a list that were seen so far
-use Rattle.std.proofs.Common.{◌≡◌, ℕ, ◌+◌, ◌<◌, ◌≤◌, List, length, All, get_or, subst, sym, ◌∙◌}
+use Rattle.std.proofs.Common.{◌≡◌, ℕ, ◌<◌, ◌≤◌, List, length, All, get_or, subst, sym}
 use Rattle.std.specs.List.{AllWithin}
-use Rattle.std.proofs.lemmas.List.{get_or_default}
-use Rattle.std.proofs.lemmas.List.Elements.{AllWithin-more, AllWithin-upto}
-use Rattle.std.proofs.lemmas.List.Elements.{All-from_all_within}
+use Rattle.std.proofs.lemmas.List.Elements.{AllWithin-upto, All-from_all_within}
 
 module _ {A : Type 0} (P : A → Type 0) (xs : List A) where
-  pub one_more : (i : ℕ) (x : A) → i < length xs → x ≡ get_or xs i x → P x → AllWithin P xs 0 i → AllWithin P xs 0 (i + 1)
-  one_more i x l is p before = AllWithin-more P xs 0 i before (λ d. subst P (is ∙ get_or_default xs i x d l) p)
-
   pub all_seen : (i : ℕ) → length xs ≤ i → AllWithin P xs 0 i → All P xs
   all_seen i l seen = All-from_all_within P xs (AllWithin-upto P xs 0 i (length xs) l seen)
 
