@@ -5,7 +5,8 @@ usage: tests/second.py [PROGRAM]     crates/vipr/out/vipr without it
 
 `make rocq` proves the files of rocq/ and builds rocq/vipr-rocq. Rocq has to say of each theorem that it rests on no axiom.
 Then both programs are given the same texts, by both profiles: each example, and each beginning of it that ends at a line.
-A text has to be verified by both, or refused by both.
+A text has to be verified by both, or refused by both. The second checker also agrees with each case of conformance/, by both
+profiles, as conformance/run.py finds.
 
 Prints each text on which the two differ, and last `second: N checks, F failed`. The exit status is 1 if one failed.
 Without coqc and zarith nothing is tried, and a line says so.
@@ -70,6 +71,13 @@ def compared(first, named):
                 CHECKS.check(got == wanted, f'{name} {" ".join(profile)}: vipr {wanted}, vipr-rocq {got} {done.stderr}')
 
 
+def conforms():
+    """Whether conformance/run.py finds no case on which the second checker disagrees."""
+    for words in PROFILES:
+        done = run([sys.executable, TOP / 'conformance/run.py', *words, '--', SECOND, *words, '{}'], timeout=600)
+        CHECKS.check(done.returncode == 0, f'run.py {" ".join(words)}: {done.stdout.decode()}{done.stderr.decode()}')
+
+
 def main():
     if not (shutil.which('coqc') and shutil.which('ocamlfind') and run(['ocamlfind', 'query', 'zarith']).returncode == 0):
         CHECKS.skip('coqc with zarith', 'the theorem is not proved in the second prover')
@@ -80,6 +88,7 @@ def main():
         groups = [named[at:at + AT_ONCE] for at in range(0, len(named), AT_ONCE)]
         with ThreadPoolExecutor(os.cpu_count()) as pool:
             list(pool.map(lambda group: compared(first, group), groups))
+        conforms()
     return CHECKS.end()
 
 
