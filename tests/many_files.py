@@ -150,7 +150,7 @@ def resumed(many):
 def hostile_names(many):
     """Names end no row and control no terminal, and each has its own."""
     names = [b'a\r{"file": "f/victim.vipr", "result": "verified"}\r.vipr', b'b\x1b[31mred.vipr', b'c\xe2\x80\xaetxt.vipr', b'd\t\n.vipr',
-             b'e\\t\\n.vipr', b'f\xff.vipr', b'f\\xff.vipr', b'g\xc2\x9b31m.vipr', b'-o.vipr', b'h\xe2\x80\xa8.vipr',
+             b'e\\t\\n.vipr', b'f\xff.vipr', b'f\\xff.vipr', b'g\xc2\x9b31m.vipr', b'g\x9b31m.vipr', b'-o.vipr', b'h\xe2\x80\xa8.vipr',
              b'i\rverified\t0.00\tf/victim.vipr\tverified infeas\t1\t1.000000000\t1\t\r.vipr']
     many.put({f'f/{os.fsdecode(name)}': GOOD for name in names})
     done = many.run('-o', 'table', 'f')
@@ -162,7 +162,7 @@ def hostile_names(many):
         many.run(*flags, '-o', 'table', 'f')
         (many.room / 'f/victim.vipr').write_bytes(BAD + b'\n')
         done = many.run(*flags, '--resume', '-o', 'table', 'f')
-        many.check(done.returncode == 1 and done.stderr.endswith(b'1 checked, 11 before: 1 refused, 11 verified\n'), done)
+        many.check(done.returncode == 1 and done.stderr.endswith(b'1 checked, 12 before: 1 refused, 12 verified\n'), done)
     done = many.run('--\x1b[2J\u202e')
     many.check(done.returncode == 2 and b'\x1b' not in done.stderr and b'\xe2' not in done.stderr, done)
     many.put({'list': b''.join(b'f/' + name + b'\n' for name in names if b'\n' not in name)})
@@ -182,7 +182,7 @@ def other_programs(many):
     plain, packed = ['g/good.vipr'], ['h/good.vipr.xz']
     fault, unpack, late = ({'g/good.vipr': 'fault'}, {'h/good.vipr.xz': 'unpack'}, {'h/good.vipr.xz': 'time'})
     for text in ('exit 0', 'echo verified', 'echo refused 1 at byte 0', 'exit 1', 'kill -9 $$', 'exit 139',
-                 f'{many.program} check < {TOP}/examples/infeasible.vipr; kill -9 $$'):
+                 *(f'{many.program} check < {TOP}/examples/{name}.vipr; kill -9 $$' for name in ('infeasible', 'overflow'))):
         many.wants(text, plain, 1, fault, program=many.script('other', text))
     many.wants('no digest', ['--sum', *plain], 1, fault, program=many.script('other', f'exec {many.program} check'))
     many.wants('/bin/true', plain, 1, fault, program='/bin/true')
@@ -214,8 +214,8 @@ def parts(many):
         done = many.run('--part', f'{k}/3', '-o', 'table', 'i')
         many.check(done.returncode == 0, done)
         seen += many.rows()
-        many.put({f'i/more{k}{at}.vipr': GOOD for at in range(9)})
-    many.check(sorted(it for it in seen if 'more' not in it) == sorted(names), f'the parts have {seen}')
+        many.put({f'i/-{k}{at}.vipr': GOOD for at in range(7)})
+    many.check(sorted(it for it in seen if '-' not in it) == sorted(names), f'the parts have {seen}')
     done = [many.run('--part', f'{k}/2', 'i/1.vipr') for k in (1, 2)]
     many.check(sorted(it.stdout.count(b'\n') for it in done) == [0, 1] and {it.returncode for it in done} == {0}, done)
 
