@@ -21,8 +21,6 @@ let check profile file =
   | exception (Out_of_memory | Stack_overflow) -> fault "memory" file
 
 let () =
-  (* Less memory, for a little time. *)
-  Gc.set { (Gc.get ()) with Gc.space_overhead = 40 };
   match List.tl (Array.to_list Sys.argv) with
   | "--profile" :: "1" :: (_ :: _ as files) -> exit (List.fold_left max 0 (List.map (check Core.First) files))
   | "--profile" :: "2" :: (_ :: _ as files) -> exit (List.fold_left max 0 (List.map (check Core.Second) files))

@@ -48,14 +48,14 @@ import kit
 
 PROGRAM = program(sys.argv[1:])
 PAGES = ['README.md', 'CONTRIBUTING.md', 'CHANGELOG.md', 'docs/TUTORIAL.md', 'docs/FORMAT.md', 'docs/USE.md',
-         'docs/LIBRARY.md', 'docs/PYTHON.md', 'docs/PROOF.md', 'docs/CONTRACTS.md', 'docs/SECURITY.md', 'docs/BENCHMARKS.md', 'docs/ARCHITECTURE.md',
+         'docs/LIBRARY.md', 'docs/PYTHON.md', 'docs/PROOF.md', 'docs/ROCQ.md', 'docs/CONTRACTS.md', 'docs/SECURITY.md', 'docs/BENCHMARKS.md', 'docs/ARCHITECTURE.md',
          'docs/DECISIONS.md', 'docs/WHY.md', 'docs/GLOSSARY.md', 'examples/README.md', 'conformance/README.md']
 TUTORIAL = 'docs/TUTORIAL.md'
 # whose blocks marked `sh` are run
 RUN = ['README.md', 'docs/USE.md', 'docs/LIBRARY.md', 'docs/BENCHMARKS.md', 'CONTRIBUTING.md']
 # what may stand in a block marked `sh`
 KNOWN = {'git', 'cd', 'make', 'man', 'vipr', 'rt', 'python3', 'source', 'parallel', 'sbatch', 'export', 'sudo', 'pv', 'cc', 'g++',
-         './gmp_check', '$work/check', '~/vipr/bin/pip', 'vipr-audit', 'vipr-html', 'vipr-picture', './run.py'}
+         './gmp_check', '$work/check', '~/vipr/bin/pip', 'vipr-audit', 'vipr-html', 'vipr-picture', './run.py', 'rocq/vipr-rocq'}
 # public calls whose documentation shows an example
 DOCUMENTED = ['check', 'explain', 'read_certificate', 'tighten', 'write_certificate']
 COMMENT = re.compile(r'(?:^ *//[/!][^\n]*\n)+', re.M)

@@ -1,17 +1,21 @@
 #!/usr/bin/env python3
 """The theorem in a second prover: builds the checker of rocq/, and compares its verdicts with those of `vipr check`.
 
-usage: tests/second.py [PROGRAM]     crates/vipr/out/vipr without it
+usage: tests/second.py [--texts N] [--seed S] [--wrong] [PROGRAM]     2,000 texts, seed 1 and crates/vipr/out/vipr without them
 
 `make rocq` proves the files of rocq/ and builds rocq/vipr-rocq. Rocq has to say of each theorem that it rests on no axiom.
-Then both programs are given the same texts, by both profiles: each example, and each beginning of it that ends at a line.
-A text has to be verified by both, or refused by both. The second checker also agrees with each case of conformance/, by both
-profiles, as conformance/run.py finds.
+Then both programs are given the same texts, by both profiles: each example, and beginnings of it that end at a line; the
+cases of conformance/, as conformance/run.py finds; a text of each family of bench/families.py; and N texts that are examples with
+parts damaged, or with one number, sense or last reference changed. A text has to be verified by both, or refused by both.
+
+--wrong tries wrong versions of the checker's tests in place of that: the prover has to refuse each.
 
 Prints each text on which the two differ, and last `second: N checks, F failed`. The exit status is 1 if one failed.
 Without coqc and zarith nothing is tried, and a line says so.
 """
+import argparse
 import os
+import random
 import re
 import shutil
 import sys
@@ -19,7 +23,9 @@ import tempfile
 from concurrent.futures import ThreadPoolExecutor
 from pathlib import Path
 
-from texts import TOP, Checks, examples, program, run
+from damage import changed, damaged
+from texts import TOP, Checks, examples, program, run, text_of
+import families
 
 CHECKS = Checks('second')
 SECOND = TOP / 'rocq/vipr-rocq'
@@ -28,6 +34,20 @@ CLOSED = 'Closed under the global context'
 PROFILES = [], ['--profile', '2']
 # how many files the second program is given at once
 AT_ONCE = 100
+LIMIT = 2**127 - 1
+# wrong versions of the checker's tests: what it is, and what to replace in Check.v by what
+WRONG = {
+    'sign of L in a sum': ('match sense (what s) with L => - snd e |', 'match sense (what s) with L => snd e |'),
+    'floor for ceiling': ('(Qceiling (side_ a))) d', '(Qfloor (side_ a))) d'),
+    'an assumption kept out of the wrong branch': ('remove (N.succ_pos l1) (rests c1)', 'remove (N.succ_pos l2) (rests c1)'),
+    'cutoff by the worst solution': ('if better p v w then v else w', 'if better p v w then w else v'),
+    'a split with a gap': ('Qeq_bool high (low + 1)', 'Qle_bool (low + 1) high'),
+    'an equation rounded': ('| E => negb (is_whole (side_ a)) || dominates a d', '| E => dominates (with_side a (Qfloor (side_ a))) d'),
+    'a goal with assumptions': ('found t || PositiveSet.is_empty (rests s) && goals e a', 'found t || goals e a'),
+    'a fractional coefficient rounded': ('(is_zero q || i && is_whole q)', '(is_zero q || i)'),
+    'an integer variable left out': ('(integers p) PositiveSet.empty in', '(tl (integers p)) PositiveSet.empty in'),
+    'a dropped reference used': ('if live (next t) s then Some s else None | None => None end.', 'Some s | None => None end.'),
+}
 
 
 def built():
@@ -35,8 +55,7 @@ def built():
     for name in Path(TOP / 'rocq').glob('*.v'):
         words = re.sub(r'\(\*.*?\*\)', '', name.read_text(), flags=re.S)
         CHECKS.check(not re.search(r'\b(Admitted|admit|Axiom|Parameter|Conjecture)\b', words), f'{name}: assumes something')
-    for name in TOP.glob('rocq/*.vo'):
-        name.unlink()
+    run(['make', '--no-print-directory', '-C', 'rocq', 'clean'], cwd=TOP)
     done = run(['make', '--no-print-directory', 'rocq'], cwd=TOP, timeout=600)
     said = (done.stdout + done.stderr).decode()
     asked = sum(name.read_text().count('\nPrint Assumptions ') for name in (TOP / 'rocq').glob('*.v'))
@@ -46,13 +65,51 @@ def built():
     return done.returncode == 0
 
 
+def nearly(text, chance):
+    """The text with one number, sense or last reference changed."""
+    tokens = re.findall(rb'[^\t-\r ]+', text)
+    places = [at for at, token in enumerate(tokens) if re.fullmatch(rb'[-+]?[0-9]+(/[0-9]+)?|[ELG]', token)]
+    at = chance.choice(places)
+    if tokens[at] in (b'E', b'L', b'G'):
+        tokens[at] = chance.choice([b'E', b'L', b'G'])
+    else:
+        top = int(tokens[at].split(b'/')[0])
+        tokens[at] = b'%d' % chance.choice([top + 1, top - 1, -top, 2 * top, 0, LIMIT, -LIMIT, LIMIT + 1, len(tokens)])
+    return b' '.join(tokens)
+
+
 def texts():
-    """Each example, and the beginnings of it that end at a line."""
-    for path, text in examples(10**9):
+    """Each text, with a name for it."""
+    known = examples(10**9)
+    for path, text in known:
         yield path.name, text
         lines = text.splitlines(keepends=True)
         for count in range(0, len(lines), 1 + len(lines) // 20):
             yield f'{path.name}, {count} lines', b''.join(lines[:count])
+    every = families.FAMILIES + families.HOSTILE + families.PRODUCTS + families.KEPT
+    for family in every:
+        yield family.__name__, text_of(family, 12_000)
+    short = [text for _, text in known if len(text) < 10_000] + [text_of(family, 1500) for family in every]
+    for number in range(GIVEN.texts):
+        chance = random.Random(f'{GIVEN.seed} {number}')
+        yield f'text {number}', chance.choice([damaged, nearly, nearly, changed])(chance.choice(short), chance)
+
+
+def refused(wrong):
+    """Whether the prover refuses a wrong version."""
+    old, new = WRONG[wrong]
+    with tempfile.TemporaryDirectory(prefix='vipr-second-') as folder:
+        copy = Path(folder, 'rocq')
+        shutil.copytree(TOP / 'rocq', copy, ignore=shutil.ignore_patterns('*.vo*', '*.glob', '.*.aux', 'Makefile.coq*'))
+        file = copy / 'Check.v'
+        text = file.read_text()
+        file.write_text(text.replace(old, new))
+        done = run(['make', '--no-print-directory', '-C', copy, 'proofs'], timeout=600)
+        CHECKS.check(text.count(old) == 1, f'{wrong}: its text is not in Check.v once')
+        said = re.search(r'File "./(\w+\.v)", line (\d+).*?Error', done.stderr.decode(), re.S)
+        CHECKS.check(done.returncode != 0 and said and said[1] not in ('Check.v', 'Read.v'), f'{wrong}: {done.stderr}')
+        if said:
+            print(f'{wrong}: refused at {said[1]} line {said[2]}', flush=True)
 
 
 def compared(first, named):
@@ -82,8 +139,11 @@ def main():
     if not (shutil.which('coqc') and shutil.which('ocamlfind') and run(['ocamlfind', 'query', 'zarith']).returncode == 0):
         CHECKS.skip('coqc with zarith', 'the theorem is not proved in the second prover')
         return CHECKS.end()
-    first = program(sys.argv[1:])
-    if built():
+    first = program(GIVEN.program)
+    if GIVEN.wrong:
+        with ThreadPoolExecutor(os.cpu_count()) as pool:
+            list(pool.map(refused, WRONG))
+    elif built():
         named = list(texts())
         groups = [named[at:at + AT_ONCE] for at in range(0, len(named), AT_ONCE)]
         with ThreadPoolExecutor(os.cpu_count()) as pool:
@@ -92,5 +152,10 @@ def main():
     return CHECKS.end()
 
 
-if __name__ == '__main__':
-    sys.exit(main())
+words_of = argparse.ArgumentParser(description=__doc__.split('\n', maxsplit=1)[0])
+words_of.add_argument('program', nargs='*')
+words_of.add_argument('--texts', type=int, default=2_000)
+words_of.add_argument('--seed', default='1')
+words_of.add_argument('--wrong', action='store_true')
+GIVEN = words_of.parse_args()
+sys.exit(main())
