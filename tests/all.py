@@ -38,6 +38,7 @@ SCRIPTS = [
     ['tests/hostile.py'],
     ['tests/output.py'],
     ['tests/kills.py'],
+    ['tests/races.py'],
     ['tests/growths.py'],
     ['tests/costs.py'],
     ['tests/fuzz.py'],

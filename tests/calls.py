@@ -4,11 +4,11 @@
 usage: tests/calls.py [--write] [PROGRAM]     crates/vipr/out/vipr without it
 
 Each command is run over small and larger texts, verified ones and refused ones. `tighten` writes to a new file, to one
-that is there and through links, also relative ones, and beside what a killed run left; also if a call that gives the file
-its owner, its name or a place on the disk fails; and as root, to a file of another owner. What strace shows of a run, from
-the moment at which the program itself begins, has to be in the list; and the files that are opened are the one that is
-named, OUT, its folder, and files beside it. The same runs, under a filter that kills a run at any call that isn't in the
-list, end by themselves.
+that is there and through links, also relative ones, and in place; also if a call that gives the file its owner, its name
+or a place on the disk fails; and as root, to a file of another owner. What strace shows of a run, from the moment at which
+the program itself begins, has to be in the list; and the files that are opened, renamed or removed are the one that is
+named, OUT, its folder, and one that the run makes itself. The same runs, under a filter that kills a run at any call that
+isn't in the list, end by themselves.
 
 --write writes the list. Prints each call that isn't in it, and last `calls: N runs, F failed`. Without strace, or if
 it may not trace, nothing is run, and without a C compiler no filter is made; a line says so. The exit status is 1 if a
@@ -86,8 +86,16 @@ def names(calls):
     return {line.split('(')[0] for line in calls}
 
 
-def opened(calls):
-    return {Path(os.path.normpath(Path(ROOM, path))) for path in re.findall(r'^open(?:at)?\((?:AT_FDCWD, )?"([^"]*)"', '\n'.join(calls), re.M)}
+def paths_of(calls, pattern):
+    """The first paths of the calls that match."""
+    found = [re.match(r'\w+\((?:AT_FDCWD, )?"([^"]*)"', line) for line in calls if re.match(pattern, line)]
+    return {Path(os.path.normpath(Path(ROOM, match[1]))) for match in found if match}
+
+
+def touched(calls):
+    """The files that a run opens, renames, links or removes, but for one that it makes itself."""
+    made = paths_of(calls, r'openat.*O_EXCL')
+    return paths_of(calls, r'open|rename|link|unlink') - (made if len(made) < 2 else set())
 
 
 def runs():
@@ -121,10 +129,9 @@ def runs_to_out(path):
         link.symlink_to(target)
     names_of_out = [str(same), same.name, *map(str, links), f'{folder.name}/again']
     for name in names_of_out:
-        (same.parent / '.vipr-tighten-left.tmp').touch()
         for call in ('fsync:error=EIO', 'rename:error=EIO', 'rename:error=EBUSY', 'fchmod:error=EIO', 'fchown:error=EIO',
-                     'openat:error=EACCES:when=6', None):
-            yield ['tighten', str(path), '--out', name], b'', {path, same}, True, inject(call)
+                     'fchown:error=EPERM', 'openat:error=EACCES:when=5', None):
+            yield ['tighten', str(path), '--out', name], b'', {path, same, Path(ROOM, name)}, True, inject(call)
 
 
 def inject(call):
@@ -153,13 +160,10 @@ def main():
         kept.append((words, text, is_out))
         found[None] |= names(loader)
         found[is_out] |= names(own)
-        folders = {it.parent for it in paths} | {Path('/')}
-        beside = {path for path in opened(own) if path.parent not in folders and path not in folders}
-        if not is_out:
-            beside = opened(own) - paths - {Path(it) for it in IN_PLACE}
+        others = touched(own) - paths - {Path(it) for it in IN_PLACE} - ({it.parent for it in paths} if is_out else set())
         wrong = [] if WRITES else sorted(names(own) - known[0] - (known[1] if is_out else set()))
-        CHECKS.check(own and not beside and not wrong,
-                     f'vipr {" ".join(words)}: calls {wrong}, opens {sorted(map(str, beside))}, {len(own)} calls')
+        CHECKS.check(own and not others and not wrong,
+                     f'vipr {" ".join(words)}: calls {wrong}, touches {sorted(map(str, others))}, {len(own)} calls')
     if WRITES:
         PAGE.write_text(replaced(page, MARKS, table(found)), encoding='utf-8')
     filters = [filter_of(known[0] | known[2], 'most'), filter_of(known[0] | known[1] | known[2], 'out')]

@@ -4,8 +4,8 @@
 usage: tests/kills.py [PROGRAM [MOMENTS]]     crates/vipr/out/vipr and 100 without them
 
 OUT is new, there before, FILE itself, or a link to a file. Whenever the run is killed, OUT is the old text, the whole new
-one, or isn't there if it was new; nothing else in the folder has changed but a file beside OUT, which nobody may read who
-may not read OUT; and the next run that writes into the folder removes that.
+one, or isn't there if it was new; nothing else in the folder has changed but a file beside OUT, which is for its owner
+alone if OUT was there, as OUT itself is for a moment; and the next run that writes into the folder leaves that.
 
 Prints each run after which it isn't so, and last `kills: N runs, F failed`. Without strace, or if it may not trace, runs
 are killed at random moments alone, and a line says so. The exit status is 1 if a run failed.
@@ -80,12 +80,12 @@ class Room:
             yield f'names {sorted(self.all_names())}'
         if self.kind != 'FILE' and self.file.read_bytes() != self.text or self.out.is_symlink() != (self.kind == 'link'):
             yield 'FILE or the link has changed'
-        if len(beside) > 1 or self.kind != 'new' and any(stat.S_IMODE(it.stat().st_mode) & ~0o640 for it in beside):
+        if len(beside) > 1 or self.kind != 'new' and any(stat.S_IMODE(it.stat().st_mode) & ~0o600 for it in beside):
             yield f'beside OUT {[(it.name, oct(it.stat().st_mode)) for it in beside]}'
-        if self.kind != 'new' and stat.S_IMODE(self.end.stat().st_mode) != 0o640:
+        if self.kind != 'new' and stat.S_IMODE(self.end.stat().st_mode) not in (0o640, *((0o600,) if now == whole else ())):
             yield 'OUT has other permissions'
         done = run([PROGRAM, 'tighten', '--out', self.folder / 'next'], SMALL)
-        if done.returncode or self.beside() or self.text_of_out() != now:
+        if done.returncode or self.beside() != beside or self.text_of_out() != now:
             yield f'the next run: {done.stderr!r}, {sorted(self.all_names())}'
         shutil.rmtree(self.folder)
 

@@ -7,12 +7,14 @@ usage: tests/output.py [PROGRAM]     crates/vipr/out/vipr without it
   that the program opens is one of them.
 - `tighten --out OUT`, OUT new, there before and FILE itself too: with a file size limit, a full device and calls that
   fail it ends with the old text, the whole new one, or isn't there, and no file beside it is there. It keeps its
-  permissions and owner, and a link stays a link. Streams, devices and mount points are written in place.
-- While a run waits in a system call, the file beside OUT is moved, removed or replaced, and another OUT comes: no file
-  but the run's own is given away, renamed or removed. What killed runs left is removed, and nothing else.
+  permissions and owner, and a link stays a link. Streams and devices are written in place, and a mount point is left.
+- While a run reads FILE or waits in a system call, the file beside OUT is moved, removed or replaced, and another OUT
+  comes, or a link: no file but the run's own is given away, renamed or removed. Files whose names are like those of its
+  own files stay.
+- A file that is written in place is locked: another run leaves it.
 - Each line on standard error is one write.
 
-tests/kills.py kills runs.
+tests/kills.py kills runs, and tests/races.py changes names at random moments.
 
 Prints each run that answers something else, and last `output: N runs, F failed`. What the machine doesn't have (a
 small file system of its own, a user without rights, strace) is skipped, and a line says so. The exit status is 1
@@ -21,6 +23,7 @@ if a run failed.
 import fcntl
 import itertools
 import os
+import re
 import resource
 import shutil
 import signal
@@ -173,12 +176,11 @@ def large():
 
 
 def small_stack():
-    """A new OUT, one that is there and one by a link, beside what a killed run left, with a stack of 64 kB."""
+    """A new OUT, one that is there and one by a link, with a stack of 64 kB."""
     folder, file = fresh()
     out = folder / 'out'
     (folder / 'link').symlink_to('out')
     for name in 'out', 'out', 'link':
-        (folder / '.vipr-tighten-0.tmp').touch()
         got = run(['tighten', file, '--out', folder / name], b'',
                   lambda: resource.setrlimit(resource.RLIMIT_STACK, (64 << 10, 64 << 10)), env={})
         expect('tighten to OUT with a small stack', (got, out.read_bytes()), ((b'', KEPT, 0), TIGHT))
@@ -259,7 +261,7 @@ def without_rights():
         os.setuid(1234)
     os.chmod(WORK, 0o755)
     for folder_mode, owner, mode, wanted in ((0o755, 1234, 0o644, 0), (0o777, 0, 0o666, 0), (0o777, 1234, 0o444, 3),
-                                             (0o777, 0, 0o644, 3), (0o777, 1234, 0o600, 0)):
+                                             (0o777, 0, 0o644, 3), (0o777, 1234, 0o600, 0), (0o333, 1234, 0o600, 0)):
         folder, file = fresh()
         out = folder / 'out'
         out.write_bytes(b'before')
@@ -273,7 +275,7 @@ def without_rights():
         after = out.stat()
         expect(f'{what}: OUT', (out.read_bytes(), after.st_uid, stat.S_IMODE(after.st_mode), names(folder)),
                (b'before' if wanted else TIGHT, owner, mode, ['a.vipr', 'out']))
-        is_beside = folder_mode == 0o777 and owner == 1234 and not wanted
+        is_beside = folder_mode != 0o755 and owner == 1234 and not wanted
         expect(f'{what}: a new file', after.st_ino != node, is_beside)
 
 
@@ -328,26 +330,27 @@ def relative():
         expect('it is a new file', (deep / 'out').stat().st_ino != node, True)
 
 
-def strays():
-    """What killed runs left is removed by the next run that writes, and nothing else is, or is waited for."""
-    folder, file = fresh()
-    start, end = '.vipr-tighten-', '.tmp'
-    for name in '0', '0123456789abcdef', 'held':
-        (folder / f'{start}{name}{end}').write_bytes(b'left')
-    stay = [f'{start}held{end}', f'{start}link{end}', f'{start}pipe{end}', f'{start}folder{end}', f'{start}1', f'1{end}']
-    for name in stay[4:]:
-        (folder / name).touch()
-    (folder / stay[1]).symlink_to('a.vipr')
-    os.mkfifo(folder / stay[2])
-    (folder / stay[3]).mkdir()
-    with (folder / stay[0]).open() as held:
-        fcntl.flock(held, fcntl.LOCK_EX)
-        file.write_bytes(BROKEN)
-        expect('a refused text beside what was left', run(['tighten', file, '--out', folder / 'out'])[2], 1)
-        expect('what was left stays', len(names(folder)), 9)
-        file.write_bytes(LOOSE)
-        expect('tighten beside what was left', run(['tighten', file, '--out', folder / 'out']), (b'', KEPT, 0))
-        expect('what stays', names(folder), sorted([*stay, 'a.vipr', 'out']))
+def like_its_own():
+    """A file whose name is that of a new file of a run, or is like one, is as any other: as FILE, as OUT and beside them."""
+    may_trace = shutil.which('strace') and not traced(['--version'])[0][2]
+    for middle in 'keep', 'my-notes', '0123456789abcdef':
+        name = f'.vipr-tighten-{middle}.tmp'
+        folder, file = fresh()
+        named, out = folder / name, folder / 'out'
+        named.write_bytes(b'mine')
+        expect(f'{name} beside OUT', run(['tighten', file, '--out', out]), (b'', KEPT, 0))
+        expect(f'{name} beside OUT: it', (read(named), names(folder)), (b'mine', sorted([name, 'a.vipr', 'out'])))
+        named.write_bytes(LOOSE)
+        expect(f'{name} as FILE', run(['tighten', named, '--out', out]), (b'', KEPT, 0))
+        expect(f'{name} as FILE: it', (read(named), names(folder)), (LOOSE, sorted([name, 'a.vipr', 'out'])))
+        out.unlink(missing_ok=True)
+        for words in (named, '--out', out), (file, '--out', named):
+            if may_trace:
+                got = traced(['tighten', *words], '-e', 'trace=fsync', '-e', 'inject=fsync:error=EIO:when=1')[0]
+                expect(f'{name} and a disk that fails', got, (b'', b'fault write after %d\n' % len(TIGHT), 3))
+                expect(f'{name} and a disk that fails: it', (read(named), names(folder)), (LOOSE, sorted([name, 'a.vipr'])))
+        expect(f'{name} as OUT', run(['tighten', file, '--out', named]), (b'', KEPT, 0))
+        expect(f'{name} as OUT: it', (read(named), names(folder)), (TIGHT, sorted([name, 'a.vipr'])))
 
 
 def in_place():
@@ -372,6 +375,21 @@ def in_place():
         expect('OUT is a pipe', run(['tighten', '--out', pipe], LOOSE), (b'', KEPT, 0))
         expect('OUT is a pipe: its text', reader.communicate()[0], TIGHT)
     expect('names in place', (names(folder), pipe.is_fifo()), (['a.vipr', 'pipe', 'printed'], True))
+    locked(printed)
+
+
+def locked(printed):
+    """A file that is written in place, and that another run or program has locked, is left as it is; a lock isn't asked for
+    elsewhere."""
+    printed.write_bytes(b'held')
+    with printed.open('ab') as stream:
+        fcntl.flock(stream, fcntl.LOCK_EX)
+        expect('OUT is locked', run(['tighten', '--out', '/dev/stdout'], LOOSE, stdout=stream)[1:], (NOT_WRITTEN, 3))
+        expect('OUT is locked: its text', printed.read_bytes(), b'held')
+        expect('OUT is locked and replaced', run(['tighten', '--out', printed], LOOSE), (b'', KEPT, 0))
+    with open('/dev/null', 'wb') as stream:
+        fcntl.flock(stream, fcntl.LOCK_EX)
+        expect('OUT is a device and locked', run(['tighten', '--out', '/dev/null'], LOOSE), (b'', KEPT, 0))
 
 
 def open_files(folder, printed):
@@ -409,7 +427,7 @@ def below_dev():
 
 
 def mounted():
-    """A file that is a mount point keeps its place, and gets the text."""
+    """A file that is a mount point can't be replaced, and is left as it is."""
     folder, file = fresh()
     point, behind = folder / 'point', folder / 'behind'
     for path in point, behind:
@@ -418,9 +436,9 @@ def mounted():
         print('output: no file can be a mount point here, so such files are skipped')
         return
     try:
-        expect('OUT is a mount point', run(['tighten', file, '--out', point]), (b'', KEPT, 0))
+        expect('OUT is a mount point', run(['tighten', file, '--out', point]), (b'', b'fault write after %d\n' % len(TIGHT), 3))
         expect('its text', (point.read_bytes(), behind.read_bytes(), names(folder)),
-               (TIGHT, TIGHT, ['a.vipr', 'behind', 'point']))
+               (b'before', b'before', ['a.vipr', 'behind', 'point']))
     finally:
         subprocess.run(['umount', point], check=True)
 
@@ -433,6 +451,7 @@ ENDS = (
     ('a refusal, `fault read` or `fault memory`', NONE, BEFORE, BEFORE, 'empty'),
     ('`fault write after N`: a limit, a full disk', NONE, BEFORE, 'the first N bytes', 'the first N bytes'),
     ('`fault write after N`: the disk or the name fails', NONE, BEFORE, NEW, 'never'),
+    ("`fault write after N`: the folder's disk fails", NEW, NEW, 'never', 'never'),
     ('a signal, while it writes', NONE, BEFORE, FIRST, FIRST))
 LIMIT = 50
 
@@ -444,7 +463,7 @@ def ends():
     for end, *cells in ENDS:
         expect(f'the page: {end}', f'| {end} | {" | ".join(cells)} |' in page, True)
         for kind, cell in zip(('new', 'there', 'in place', '>'), cells):
-            if cell != 'never' and (may_trace or 'name' not in end):
+            if cell != 'never' and (may_trace or 'disk' not in end):
                 one_end(end, kind, cell)
 
 
@@ -455,8 +474,9 @@ def one_end(end, kind, cell):
         out.write_bytes(b'before')
     words = ['tighten', file] + ([] if kind == '>' else ['--out', '/proc/self/fd/1' if kind == 'in place' else out])
     with open(out if kind in ('in place', '>') else '/dev/null', 'ab') as stream:
-        if 'name' in end:
-            got = traced(words, '-e', 'trace=fsync', '-e', 'inject=fsync:error=EIO', stdout=stream)[0]
+        if 'fails' in end:
+            call = f'inject=fsync:error=EIO:when={2 if "folder" in end else 1}'
+            got = traced(words, '-e', 'trace=fsync', '-e', call, stdout=stream)[0]
         else:
             limit = file_limit(LIMIT, signal.SIG_DFL if 'signal' in end else signal.SIG_IGN)
             got = run(words, b'', limit if 'limit' in end or 'signal' in end else None, stdout=stream)
@@ -513,51 +533,85 @@ def calls():
     if not shutil.which('strace') or traced(['tighten', file], '-e', 'trace=openat')[0][2]:
         CHECKS.skip('strace that may trace', 'the calls of a run are left out')
         return
-    got, lines_of = traced(['tighten', file, '--out', file], '-e', 'trace=openat,flock,rename,close,write,fsync')
+    got, lines_of = traced(['tighten', file, '--out', file], '-e', 'trace=openat,flock,rename,close,write,fsync,fchmod')
     expect('a traced run', got, (b'', KEPT, 0))
     expect('the calls of a run', [line.split('(')[0] for line in lines_of],
-           ['openat', 'close', 'openat', 'close', 'openat', 'close', 'openat', 'flock', 'write', 'fsync', 'rename', 'openat',
-            'fsync', 'close', 'close', 'write'])
+           ['openat', 'openat', 'close', 'openat', 'write', 'fsync', 'rename', 'fchmod', 'openat', 'fsync', 'close', 'close',
+            'close', 'write'])
     expect('the file beside OUT is for its owner alone', [', 0600)' in line for line in lines_of if 'O_EXCL' in line], [True])
+    (folder / '.vipr-tighten-0000000000000000.tmp').touch()
+    for out in file, folder / 'new':
+        _, lines_of = traced(['tighten', file, '--out', out], '-e', 'trace=%file')
+        made = {quoted(line)[0] for line in lines_of if 'O_EXCL' in line}
+        changed = {quoted(line)[0] for line in lines_of if line.startswith(('rename(', 'link(', 'unlink('))}
+        opened = {quoted(line)[0] for line in lines_of if line.startswith('openat(')}
+        expect(f'the files of a run to {out.name}', (len(made), changed, opened - {str(file)}), (1, made, made | {str(folder)}))
     failing_calls(LOOSE, TIGHT, KEPT)
     failing_calls(many(20_000), run(['tighten'], many(20_000))[0], b'kept 20001 removed 1 peak 20002 1\n')
-    without_names()
+    failing_owner()
     swapped()
     overtaken()
 
 
+def quoted(line):
+    """The names in the line of a call."""
+    return re.findall(r'"([^"]*)"', line)
+
+
 def failing_calls(text, tight, kept):
     folder, file = fresh(text)
-    all_written = b'', b'fault write after %d\n' % len(tight), 3
-    for call, wanted, after in (
-            ('fsync:error=ENOSPC', all_written, text), ('rename:error=ENOSPC', all_written, text),
-            ('fchmod:error=ENOSPC', (b'', kept, 0), tight), ('write:error=ENOSPC:when=1', (b'', NOT_WRITTEN, 3), text),
-            ('statx:error=EPERM', (b'', NOT_WRITTEN, 3), text), ('flock:error=ENOSYS', (b'', kept, 0), tight),
-            ('fsync:error=EINVAL', (b'', kept, 0), tight), ('fsync:error=ENOSYS', (b'', kept, 0), tight),
-            ('fsync:error=EOPNOTSUPP', (b'', kept, 0), tight), ('fsync:error=ENOSPC:when=2', (b'', kept, 0), tight)):
-        file.write_bytes(text)
-        got, _ = traced(['tighten', file, '--out', file], '-e', f'trace={call.partition(":")[0]}', '-e', f'inject={call}')
-        expect(f'{call} of {len(text)} bytes', got, wanted)
-        expect(f'{call} of {len(text)} bytes: OUT', (file.read_bytes() == after, names(folder)), (True, ['a.vipr']))
+    all_written, nothing = (b'', b'fault write after %d\n' % len(tight), 3), (b'', NOT_WRITTEN, 3)
+    done = b'', kept, 0
+    at_the_disk = 'EIO', 'ENOSPC', 'EDQUOT', 'EROFS'
+    # the call by which the new file is made
+    new = f'openat:when={call_at(file, "O_EXCL")}'
+    for call, errors, wanted, after in (
+            ('fsync', at_the_disk, all_written, text), ('rename', (*at_the_disk, 'EBUSY', 'EACCES'), all_written, text),
+            ('fsync:when=2', at_the_disk, all_written, tight), ('fchmod', (*at_the_disk, 'EPERM'), all_written, tight),
+            ('write:when=1', at_the_disk, nothing, text), ('statx', ('EPERM', 'EIO'), nothing, text),
+            (new, ('EEXIST', 'EIO', 'ENOSPC', 'EDQUOT', 'EMFILE', 'ENAMETOOLONG'), nothing, text),
+            (new, ('EACCES', 'EPERM', 'EROFS'), done, tight), ('flock', ('ENOSYS',), done, tight),
+            ('fsync', ('EINVAL', 'ENOSYS', 'EOPNOTSUPP'), done, tight)):
+        for error in errors:
+            file.write_bytes(text)
+            name, _, when = call.partition(':')
+            inject = f'inject={name}:error={error}{":" + when if when else ""}'
+            got, _ = traced(['tighten', file, '--out', file], '-e', f'trace={name}', '-e', inject)
+            expect(f'{inject} of {len(text)} bytes', got, wanted)
+            expect(f'{inject} of {len(text)} bytes: OUT', (file.read_bytes() == after, names(folder)), (True, ['a.vipr']))
     file.write_bytes(text)
     out = folder / 'out'
-    for call, wanted in (('fsync:error=ENOSPC', all_written), ('link:error=EPERM', (b'', kept, 0))):
+    for call, wanted, after in (('fsync:error=ENOSPC:when=1', all_written, None), ('link:error=EPERM', done, tight),
+                                ('fsync:error=EIO:when=2', all_written, tight), ('fsync:error=EINVAL', done, tight)):
         got, _ = traced(['tighten', file, '--out', out], '-e', f'trace={call.partition(":")[0]}', '-e', f'inject={call}')
-        expect(f'{call}, OUT new', (got, read(out) == (None if wanted[2] else tight)), (wanted, True))
-        expect(f'{call}, OUT new: names', names(folder), ['a.vipr', *(['out'] if not wanted[2] else [])])
+        expect(f'{call}, OUT new', (got, read(out) == after), (wanted, True))
+        expect(f'{call}, OUT new: names', names(folder), ['a.vipr', *(['out'] if after else [])])
+        out.unlink(missing_ok=True)
 
 
-def without_names():
-    """Where no name beside OUT can be had, nothing is written."""
-    folder, file = fresh()
-    trace = Path(WORK, 'openat')
+def call_at(file, word):
+    """Which one of the calls that open a file has this word, in a run that writes to FILE."""
+    text, trace = file.read_bytes(), Path(WORK, 'openat')
     texts.run(['strace', '-o', trace, '-e', 'trace=openat', PROGRAM, 'tighten', file, '--out', file])
-    first = next(n for n, line in enumerate(trace.read_text().split('\n'), 1) if 'O_EXCL' in line)
-    file.write_bytes(LOOSE)
-    got, tried = traced(['tighten', file, '--out', file], '-e', 'trace=openat', '-e', f'inject=openat:error=EEXIST:when={first}+')
-    expect('all names beside OUT in use', got, (b'', NOT_WRITTEN, 3))
-    expect('the names that were tried', len({line for line in tried if 'O_EXCL' in line}), 16)
-    expect('all names beside OUT in use: OUT', (file.read_bytes(), names(folder)), (LOOSE, ['a.vipr']))
+    file.write_bytes(text)
+    return next(n for n, line in enumerate(trace.read_text().split('\n'), 1) if word in line)
+
+
+def failing_owner():
+    """A file whose owner the new one may not have is written in place, and is left if its owner can't be given else."""
+    if os.getuid():
+        return
+    folder, file = fresh()
+    out = folder / 'out'
+    for error in 'EPERM', 'EACCES', 'EIO', 'ENOSPC', 'EDQUOT', 'EROFS', 'EINVAL':
+        out.write_bytes(b'before')
+        os.chown(out, 1234, 1234)
+        node = out.stat().st_ino
+        got, _ = traced(['tighten', file, '--out', out], '-e', 'trace=fchown', '-e', f'inject=fchown:error={error}')
+        is_in_place = error == 'EPERM'
+        expect(f'fchown with {error}', got, (b'', KEPT, 0) if is_in_place else (b'', NOT_WRITTEN, 3))
+        expect(f'fchown with {error}: OUT', (out.read_bytes(), out.stat().st_ino, names(folder)),
+               (TIGHT if is_in_place else b'before', node, ['a.vipr', 'out']))
 
 
 def during(words, call, folder, size, act, options=()):
@@ -591,6 +645,13 @@ def swapped():
         got = during(['tighten', file, '--out', out], 'fsync', folder, len(TIGHT), put)
         expect(f'the file beside OUT ({kind}) is swapped', (got, read(out)), (failed, old))
         expect(f'the file beside OUT ({kind}) is swapped: it', [it.read_bytes() for it in folder.glob('.*.tmp')], [b'theirs'])
+    for kind, call in ('there', 'rename'), ('new', 'link'):
+        folder, file = fresh()
+        out = folder / 'out'
+        if kind == 'there':
+            out.write_bytes(b'before')
+        got = during(['tighten', file, '--out', out], call, folder, len(TIGHT), put)
+        expect(f'the file beside OUT ({kind}) is swapped at the last moment', (got, out.read_bytes()), (failed, b'theirs'))
     if os.getuid():
         return
     folder, file = fresh()
@@ -610,7 +671,8 @@ def swapped():
 
 
 def overtaken():
-    """A file comes where none was, and another run writes into the folder, while a run goes on."""
+    """A file comes where none was, or another one where one was, and another run writes into the folder, while a run goes
+    on."""
     for options in (), ('-e', 'inject=link:error=EPERM'):
         folder, file = fresh()
         out = folder / 'out'
@@ -619,11 +681,67 @@ def overtaken():
         expect('OUT came meanwhile', (got, out.read_bytes(), names(folder)),
                ((b'', b'fault write after %d\n' % len(TIGHT), 3), b'theirs', ['a.vipr', 'out']))
     folder, file = fresh()
+    out = folder / 'out'
+    out.write_bytes(b'before')
+    got = during(['tighten', file, '--out', out], 'fsync', folder, len(TIGHT),
+                 lambda _: expect('a run to the same OUT', run(['tighten', file, '--out', out]), (b'', KEPT, 0)))
+    expect('OUT is of another run', (got, out.read_bytes(), names(folder)),
+           ((b'', b'fault write after %d\n' % len(TIGHT), 3), TIGHT, ['a.vipr', 'out']))
+    out.chmod(0o660)
+    got = during(['tighten', file, '--out', out], 'rename', folder, len(TIGHT),
+                 lambda path: expect('the permissions before the name', stat.S_IMODE(path.stat().st_mode), 0o600))
+    expect('the permissions after it', (got, stat.S_IMODE(out.stat().st_mode)), ((b'', KEPT, 0), 0o660))
+    folder, file = fresh()
     first, second = folder / 'first', folder / 'second'
     got = during(['tighten', file, '--out', first], 'fsync', folder, len(TIGHT),
                  lambda _: expect('a run beside another', run(['tighten', file, '--out', second]), (b'', KEPT, 0)))
     expect('a run that another overtakes', (got, read(first), read(second), names(folder)),
            ((b'', KEPT, 0), TIGHT, TIGHT, ['a.vipr', 'first', 'second']))
+
+
+def changed_while_it_reads():
+    """OUT becomes another thing while the certificate is read: the run fails, and leaves what is there."""
+    puts = {'a link': lambda out: out.symlink_to('mine'), 'a file': lambda out: out.write_bytes(b'theirs'),
+            'a pipe': os.mkfifo, 'a folder': Path.mkdir, 'nothing': lambda out: None}
+    for kind, (what, put) in itertools.product(('nothing', 'a file', 'a pipe'), puts.items()):
+        folder, file = fresh()
+        out, mine = folder / 'out', folder / 'mine'
+        mine.write_bytes(b'important')
+        puts[kind](out)
+
+        def pieces(o=out, p=put):
+            yield LOOSE[:60]
+            # the first piece was read once this one is written
+            yield LOOSE[60:61]
+            o.unlink(missing_ok=True)
+            p(o)
+            yield LOOSE[61:]
+        if kind != what or kind == 'a file':
+            CHECKS.count += 1
+            got = texts.fed([PROGRAM, 'tighten', '--out', out], pieces())
+            expect(f'OUT was {kind} and is {what}', (got.stderr.startswith(b'fault write after '), got.returncode), (True, 3))
+            after = {'a link': b'important', 'a file': b'theirs'}.get(what)
+            expect(f'OUT was {kind} and is {what}: it', (read(out) if after else None, out.is_symlink(), out.is_fifo(), out.is_dir()),
+                   (after, what == 'a link', what == 'a pipe', what == 'a folder'))
+            expect(f'OUT was {kind} and is {what}: names', (names(folder), mine.read_bytes()),
+                   (sorted(['a.vipr', 'mine', *(['out'] if what != 'nothing' else [])]), b'important'))
+        shutil.rmtree(folder)
+    folder, _ = fresh()
+    link, one, two = (folder / name for name in ('link', 'one', 'two'))
+    link.symlink_to('one')
+    for path in one, two:
+        path.write_bytes(b'before')
+
+    def pieces_of_a_link():
+        yield LOOSE[:60]
+        yield LOOSE[60:61]
+        link.unlink()
+        link.symlink_to('two')
+        yield LOOSE[61:]
+    CHECKS.count += 1
+    got = texts.fed([PROGRAM, 'tighten', '--out', link], pieces_of_a_link())
+    expect('OUT is a link that leads elsewhere', (got, one.read_bytes(), two.read_bytes(), names(folder)),
+           ((b'', b'fault write after %d\n' % len(TIGHT), 3), b'before', b'before', ['a.vipr', 'link', 'one', 'two']))
 
 
 def main():
@@ -633,10 +751,11 @@ def main():
     modes()
     links()
     relative()
-    strays()
+    like_its_own()
     in_place()
     below_dev()
     mounted()
+    changed_while_it_reads()
     lines()
     calls()
     ends()
