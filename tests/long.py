@@ -10,8 +10,9 @@ shown. Then texts that are no certificate, a line of binary bytes, names with co
 an explanation is easily wrong: what a constraint rests on, what comes near a claim, what a profile asks for; and texts
 that are large in one respect, so that a page could be cut off there. Every byte that is printed behind the first lines
 is printable ASCII or a line feed, and there are 65,536 of them at most. A file is opened once, a named pipe too. One
-that can't be opened has the answer of `vipr explain`, and in front of it a line with its name and the reason. Each
-multiplier of the problems is changed, and one with which the derivation follows, as the page says, is tried.
+that can't be opened has the answer of `vipr explain`, and in front of it a line with its name and the reason. One
+entry of each sum of the problems is damaged, and each change with which the derivation follows, as the page says, is
+tried; most are the original.
 
 Each page is compared with the one that tests/long_pages.txt has of its text, so no word of it changes unseen; --write
 writes that file. There is a page for each cause, by each of the two profiles where they differ; and each text in the
@@ -19,9 +20,9 @@ sources of the pages is in one of them.
 
 Prints each fault, and last `long: N checks, F failed`; the exit status is 1 if one failed.
 """
+import collections
 import errno
 import hashlib
-import itertools
 import os
 import re
 import shutil
@@ -89,7 +90,7 @@ MISTAKES = [
      '.vipr:21:1\n', 'a = 1, b = 1, c = 1; the left side is 9, which is not <= 6'),
     # sign of a multiplier
     ('knapsack', '2 1/4 6 1/2', '2 -1/4 6 1/2',
-     '.vipr:23:1\n', 'change the sign of this multiplier'),
+     '.vipr:23:1\n', 'with the multiplier 1/4 in place of -1/4 at [2] a_up the derivation follows'),
     # all multipliers positive, as one writes Farkas with flipped rows
     ('pigeonhole', '3 -1 4 -1', '3 1 4 1',
      '.vipr:20:1\n', 'x11 + x21 + x31 <= 1  (line 15) <-- entry 3'),
@@ -116,19 +117,19 @@ MISTAKES = [
      '.vipr:23:41\n', 'write 12 or -1 here'),
     # a wrong multiplier
     ('one_machine', '8 -10 }', '8 -9 }',
-     '.vipr:23:1\n', 'the coefficient of y is as stated with the multiplier -10 in place of -9 at [8] y0'),
+     '.vipr:23:1\n', 'with the multiplier -10 in place of -9 at [8] y0 the derivation follows'),
     # a wrong datum (the problem is feasible then)
     ('one_machine', 's2_up L 2', 's2_up L 3',
      '.vipr:24:1\n', 'right-hand side: computed 0, stated 1, which says 1 too much'),
     # forgot the bound x3 >= 0 in the sum (hidden x >= 0)
     ('set_cover', 'leaf1 G 7 OBJ { lin 3 1 4 10 3 5 1 } 13', 'leaf1 G 7 OBJ { lin 2 1 4 10 3 } 13',
-     '.vipr:24:1\n', 'as stated with the multiplier 1 for one more entry, [5] l3'),
+     '.vipr:24:1\n', 'with one more entry, 1 x [5] l3, the derivation follows'),
     # joined wrongly: scaled row under an assumption
     ('set_cover', 'all G 7 OBJ { uns 11 9 12 10 } -1', 'all G 14 3 0 6 1 8 2 10 { lin 1 12 2 } -1',
      '(line 24)', '[12] leaf1  3 x1 + 4 x2 + 5 x3 >= 7  (line 24), strong enough, rests on [10]'),
     # a primal bound better than the solution
     ('set_cover', 'RTP range 7 7', 'RTP range 7 6',
-     '', 'claim 7 as the primal bound behind RTP'),
+     '', '7 is attained: is that the primal bound'),
     # claims more than proved
     ('set_cover', 'RTP range 7 7', 'RTP range 8 7',
      '(line 25)', '[13] all  3 x1 + 4 x2 + 5 x3 >= 7  (line 25), too weak by 1, rests on no assumption'),
@@ -158,7 +159,7 @@ MISTAKES = [
      '', 'list a solution behind SOL'),
     # vector with count 1 missing
     ('cutoff', 'prune G 2 0', 'prune G 1 0 1 0',
-     '.vipr:22:13\n', 'the count of coefficients is too small or missing'),
+     '.vipr:22:13\n', 'is the count of coefficients too small or missing, or is the reason missing?'),
     # decimal bounds
     ('diet', '16/5 16/5', '3.2 3.2',
      '.vipr:12:11\n', 'write 16/5'),
@@ -186,7 +187,7 @@ MISTAKES = [
 HINTS = [
     # another format, or something in front of the text
     ('diet', '% a diet', '# a diet', 'a comment begins with `%`'),
-    ('diet', 'VER 1.0', 'ver 1.0', 'keywords are in capitals: write `VER`'),
+    ('diet', 'VER 1.0', 'ver 1.0', 'keywords are in capitals: is `VER` meant?'),
     ('diet', 'VER 1.0', 'Version 1.0', 'a certificate begins with the line `VER 1.0`: is it missing here'),
     ('diet', 'VER 1.0', 'VER 1.0 1', 'the next section comes behind the version `1.0`'),
     # a section left out, or in small letters
@@ -197,12 +198,12 @@ HINTS = [
     ('diet', 'RTP range 16/5 16/5\n', '', 'in front of `SOL` write `RTP infeas` or `RTP range LOWER UPPER`'),
     ('diet', 'SOL 1\nopt 2 0 3 1 2\n', '', 'in front of `DER` write `SOL 0` if none is listed'),
     ('diet', 'DER 1\ndual G 16/5 OBJ { lin 2 0 11/50 1 4/25 } -1\n', '', '`DER` is missing: write `DER 0` if nothing is derived'),
-    ('diet', 'INT 0', 'int 0', 'keywords are in capitals: write `INT`'),
+    ('diet', 'INT 0', 'int 0', 'keywords are in capitals: is `INT` meant?'),
     # a keyword swallowed by a count, or something that isn't counted
     ('diet', 'bread milk', 'bread', '`INT` was read as a name: is the count behind `VAR`, 2, too large'),
     ('diet', 'bread milk', 'bread whole milk', 'is the count behind `VAR` right, or is a space in a name?'),
     ('diet', 'bread milk', 'bread milk 3', 'is the count behind `VAR` right, or is a space in a name?'),
-    ('diet', 'INT 0', 'INT 1', '`OBJ` begins the next section: is the count behind `INT`, 1, too large?'),
+    ('diet', 'INT 0', 'INT 1', '`OBJ` is the keyword of a section: is the count behind `INT`, 1, too large?'),
     ('set_cover', 'INT 3 0 1 2', 'INT 2 0 1 2', 'is the count behind `INT` too small?'),
     ('diet', 'OBJ min 2 0 3/5', 'OBJ min 1 0 3/5', 'is the count behind `min` or `max` too small or missing?'),
     ('diet', 'CON 4 2', 'CON 2 4', 'is the first count behind `CON` too small?'),
@@ -219,7 +220,8 @@ HINTS = [
      'dual G 16/5 OBJ { lin 2 0 11/50 1 4/25 } -1\n', '', 'is the file cut, or a count too large?'),
     # numbers
     ('diet', 'range 16/5', 'range 3,2', 'a comma is not in the format'),
-    ('diet', 'range 16/5', 'range -infinity', 'for no bound write `-inf` first and `inf` second'),
+    ('diet', 'range 16/5', 'range inf', 'for no lower bound write `-inf`; if the problem is infeasible write `RTP infeas`'),
+    ('diet', 'range 16/5', 'range -infinity', 'for no lower bound write `-inf`; if the problem is infeasible write `RTP infeas`'),
     ('diet', '16/5 16/5', '16/5 Inf', 'for no bound write `-inf` first and `inf` second'),
     ('diet', '16/5 16/5', '16/5 1e+20', 'exponents are not in the format: write all digits, or `-inf`'),
     ('diet', '16/5 16/5', 'x 16/5', 'a number is digits with or without a sign, or a fraction, as -3 or 13/4\n'),
@@ -231,8 +233,8 @@ HINTS = [
     ('diet', '3/5', '3/5;', 'remove the comma or semicolon'),
     ('diet', '4/25 }', '4/25}', 'put a space before the brace'),
     ('diet', '1 4/25 }', '1 }', 'the reason has fewer entries than it counts'),
-    ('diet', 'dual G 16/5 OBJ', 'dual G OBJ', 'the right-hand side is missing'),
-    ('diet', 'dual G 16/5 OBJ', 'dual G DER', 'this keyword begins the next section'),
+    ('diet', 'dual G 16/5 OBJ', 'dual G OBJ', 'is the right-hand side missing?'),
+    ('diet', 'dual G 16/5 OBJ', 'dual G DER', 'this is the keyword of a section'),
     ('diet', 'protein G 8', 'protein G eight', 'is the count before it right?'),
     # indices and counts
     ('set_cover', 'INT 3 0 1 2', 'INT 3 x1 x2 x3', '`INT` lists variables by their indices'),
@@ -271,35 +273,38 @@ HINTS = [
     ('set_cover', 'uns 11 9 12 10', 'uns 11 9 a 10', 'wanted i2 of `uns`'),
     ('diet', '} -1\n', '} -1\n% proved\n', 'a file is one certificate, without comments behind `VER`'),
     # a derivation: an index, a multiplier, an order
-    ('set_cover', 'lin 3 1 4', 'lin 3 1 3', 'all coefficients are as stated with the multiplier 4 in place of 3 at [1] b'),
-    ('set_cover', 'lin 3 1 4 10 3 5 1', 'lin 3 1 -4 10 -3 5 -1', 'each coefficient has the other sign: multiply all'),
-    ('knapsack', '2 1/4 6 1/2', '1 1/4 6 1/2', 'is another constraint meant (bounds are counted, too)'),
+    ('set_cover', 'lin 3 1 4', 'lin 3 1 3', 'with the multiplier 4 in place of 3 at [1] b the derivation follows'),
+    ('set_cover', 'lin 3 1 4 10 3 5 1', 'lin 3 1 -4 10 -3 5 -1', 'each coefficient has the other sign: has each multiplier the wrong one?'),
+    ('knapsack', '2 1/4 6 1/2', '5 1/4 6 1/2', 'with [2] a_up in place of [5] c_lo at entry 1 the derivation follows'),
+    ('knapsack', '0 13/4 2 1/4', '0 -13/4 5 1/4', 'is another constraint meant (bounds are counted, too)'),
     ('set_cover', 'uns 11 9 12 10', 'uns 11 9 13 10', 'case 2 gives [13], this derivation itself'),
     ('two_levels', 'uns 9 7 10 8', 'uns 9 4 10 8', 'they are about different rows'),
     ('cutoff', 'cut L 7', 'cut L 6', '`sol` gives the best listed value, and nothing better'),
     # a claim
-    ('set_cover', 'uns 11 9 12 10', 'uns 11 10 12 9', '[11] rests on [9] and [12] on [10]: exchange l1 and l2, `uns 11 9 12 10`'),
-    ('set_cover', 'RTP range 7 7', 'RTP range 17 17', 'behind RTP claim no more than [13] says'),
+    ('set_cover', 'uns 11 9 12 10', 'uns 11 10 12 9', '[11] rests on [9] and [12] on [10]: are l1 and l2 exchanged? `uns 11 9 12 10`'),
+    ('set_cover', 'RTP range 7 7', 'RTP range 17 17', 'is more claimed behind RTP than [13] says'),
     ('parity', 'RTP infeas\nSOL 0\nDER 1\nodd G 1 0 { rnd 1 0 1/2 } -1\n', 'RTP range 0 inf\nSOL 0\nDER 0\n', 'add the derivation `NAME G 0 0 { lin 0 } -1`'),
     ('diet', 'RTP range 16/5 16/5', 'RTP infeas', 'so `infeas` is false: claim `range` and two bounds'),
     ('diet', 'RTP range 16/5 16/5', 'RTP range 16/5 3', 'the lower bound of the claim is above the upper one: are they exchanged?'),
-    ('diet', 'RTP range 16/5 16/5', 'RTP range -inf 3', 'claim 16/5 as the primal bound behind RTP'),
+    ('diet', 'RTP range 16/5 16/5', 'RTP range -inf 3', '16/5 is attained: is that the primal bound'),
     ('diet', 'RTP range 16/5 16/5\nSOL 1\nopt 2 0 3 1 2\n', 'RTP range 16/5 inf\nSOL 0\n', 'primal no solution is listed'),
     ('diet', 'RTP range 16/5 16/5', 'RTP range -inf 16/5', 'nothing has to be proved of the dual side'),
     # the other problems: a bound left out of a sum, a digit, a continuous variable rounded, a branch, a claim
-    ('fixed_charge', 'lin 5 0 1 1 -1 2 -1 6 -4 9 -6', 'lin 4 0 1 1 -1 2 -1 9 -6', 'with the multiplier -4 for one more entry, [6] y1_up'),
+    ('fixed_charge', 'lin 5 0 1 1 -1 2 -1 6 -4 9 -6', 'lin 4 0 1 1 -1 2 -1 9 -6', 'with one more entry, -4 x [6] y1_up, the derivation follows'),
     ('fixed_charge', 'ten G 10 OBJ { lin', 'ten G 11 OBJ { rnd', '`lin` in place of `rnd` proves this sum as it is'),
-    ('fixed_charge', 'range 10 10', 'range 11 11', 'behind RTP claim no more than [13] says'),
-    ('bin_packing', 'lin 5 0 1 1 1 2 1', 'lin 4 0 1 1 1', 'all coefficients are as stated with the multiplier 1 for one more entry, [2] thing3'),
-    ('rounded_sum', 'lin 1 2 5', 'lin 1 2 4', 'with the multiplier 5 in place of 4 at [2] r'),
-    ('burma14', '147 328', '147 238', 'with the multiplier 328 in place of 238 at [147] least4_8'),
-    ('split_cut', 'uns 4 2 5 3', 'uns 4 3 5 2', 'exchange l1 and l2, `uns 4 2 5 3`'),
+    ('fixed_charge', 'range 10 10', 'range 11 11', 'is more claimed behind RTP than [13] says'),
+    ('bin_packing', 'lin 5 0 1 1 1 2 1', 'lin 4 0 1 1 1', 'with one more entry, 1 x [2] thing3, the derivation follows'),
+    ('rounded_sum', 'lin 1 2 5', 'lin 1 2 4', 'with the multiplier 5 in place of 4 at [2] r the derivation follows'),
+    ('burma14', '147 328', '147 238', 'with the multiplier 328 in place of 238 at [147] least4_8 the derivation follows'),
+    ('split_cut', 'uns 4 2 5 3', 'uns 4 3 5 2', 'are l1 and l2 exchanged? `uns 4 2 5 3`'),
     ('first_example', '10 14 }', '11 14 }', '14 x [11], this derivation itself <-- entry 2'),
     ('diet', 'VAR 2', 'VAR 5', 'is the count behind `VAR` right, or is a space in a name?'),
     ('diet', 'nm G 0 1 1 1', 'nm G 0 1 1 1 0 1', "or is the last constraint's count of coefficients too small?"),
     # a solution
     ('diet', 'opt 2 0 3 1 2', 'opt 2 0 3 1 1999999/1000000', 'is a value rounded, as one of floating point is?'),
     ('diet', 'opt 2 0 3 1 2', '2 0 3 1 2', 'a number was read as the name: is the name missing?'),
+    ('diet', 'opt 2 0 3 1 2', '2nd 0', 'the solution lists no value, so each variable is 0: is its count right?'),
+    ('diet', 'opt 2 0 3 1 2', 'opt 2 0 3 1 1', 'change the solution, or leave it out'),
     ('diet', 'iron G 9 2 0 1 1 3', 'iron G 9 0', 'no solution meets this constraint'),
 ]
 
@@ -314,8 +319,8 @@ STRANGE = [
     (SECOND, 'constraint 1 `d`: x >= 1  (line 3)\n'),
     (b'', 'the text ends where this is wanted: the keyword `VER`'),
     (b'\x1f\x8b\x08\0', 'gzip -dc FILE | vipr explain'),
-    (b'\xef\xbb\xbfVER 1.0', 'a byte order mark is before `VER`'),
-    ('VER 1.0'.encode('utf-16'), 'this is UTF-16'),
+    (b'\xef\xbb\xbf% a comment\nVER 1.0', 'this begins with a byte order mark'),
+    ('VER 1.0'.encode('utf-16'), 'this looks like UTF-16'),
     (b'<html>', 'HTML'),
     (b'\xfd7zXZ\0', 'xz -dc FILE | vipr explain'),
     (b'\x28\xb5\x2f\xfd ', 'zstd -dc FILE | vipr explain'),
@@ -335,6 +340,7 @@ STRANGE = [
      '.. (300 terms)'),
 ]
 # What an explanation says of a text: the words of the command, the text, what has to be in the page, and what must not.
+FRONT = 'VER 1.0 VAR 1 x INT 1 0 OBJ min 1 0 1 CON 1 0 c G 1 1 0 1 RTP infeas SOL '
 ASSUMED = ' '.join(f'a{i} L 0 0 {{ asm }} -1' for i in range(4)) + ' b G 1 0 { asm } -1 '
 TRUE = [
     # a constraint rests on an assumption that isn't one of the first four
@@ -365,7 +371,7 @@ TRUE = [
     ([], 'VER 1.0 VAR 1 x INT 0 OBJ min 1 0 1 CON 1 0 c G 1/2 1 0 1 RTP range 1 inf SOL 0 DER 4 '
      'd0 G 9/10 1 0 1 { asm } -1 d1 G 0 1 0 1 { asm } -1 d2 G 0 1 0 1 { asm } -1 d3 G 0 1 0 1 { asm } -1',
      ['nearest:\n    [1] d0  x >= 9/10', '[0] c  x >= 1/2  (line 1), too weak by 1/2, rests on no assumption'],
-     ['no constraint is like it']),
+     ['no constraint has this row']),
     # two assumptions that leave no gap are no split by the first profile
     ([], 'VER 1.0 VAR 1 x INT 1 0 OBJ min 0 CON 0 0 RTP infeas SOL 0 DER 3 l L 1/2 1 0 1 { asm } -1 '
      'g G 2/3 1 0 1 { asm } -1 u G 0 0 { uns 0 0 1 1 } -1', ['`--profile 2` accepts these', 'with k whole'], ['gap']),
@@ -386,6 +392,59 @@ TRUE = [
     # bounds of a claim
     ([], 'VER 1.0 VAR 0 INT 0 OBJ min 0 CON 0 0 RTP range 0 +inf SOL 0 DER 0', ['for no bound write `-inf` first and `inf` second'], ['takes two bounds']),
     ([], 'VER 1.0 VAR 0 INT 0 OBJ min 0 CON 0 0 RTP range 0 1e5 SOL 0 DER 0', ['exponents are not in the format'], ['two bounds']),
+    # a change is offered if the rule accepts it: not of a constraint that was dropped, nor past the limit
+    ([], 'VER 1.0 VAR 1 x INT 0 OBJ min 1 0 1 CON 1 0 a G 1 1 0 1 RTP range 2 inf SOL 0 DER 2 b G 2 1 0 2 { lin 1 0 2 } 1 '
+     'd G 2 1 0 2 { lin 1 1 0 } -1', ['with one more entry, 2 x [0] a, the derivation follows'], ['in place of 0 at [1]']),
+    ([], 'VER 1.0 VAR 2 x y INT 0 OBJ min 1 0 1 CON 3 0 a G 0 2 0 1 1 1 b G 0 1 0 1 c L 0 2 0 1 1 1 RTP range 2 inf SOL 0 '
+     f'DER 1 d G 0 2 0 15 1 10 {{ lin 3 0 {2 ** 127 - 2} 1 1 2 -{2 ** 127 - 12} }} -1', ['computed 11, stated 15'], ['follows\n  =']),
+    # it is offered wherever one follows: of a rounded sum, and of one that is absurd
+    *[(words, 'VER 1.0 VAR 1 x INT 1 0 OBJ min 0 CON 1 0 a G 1/2 1 0 1 RTP range -inf inf SOL 0 DER 1 d G 1 1 0 1 { rnd 1 0 2 } -1',
+       ['with the multiplier 1 in place of 2 at [0] a the derivation follows'], []) for words in ([], ['--profile', '2'])],
+    ([], 'VER 1.0 VAR 1 x INT 0 OBJ min 0 CON 2 0 a G 1 1 0 1 b L 0 1 0 6/7 RTP infeas SOL 0 DER 1 d G 1 0 { lin 2 0 1 1 -1 } -1',
+     ['with the multiplier -7/6 in place of -1 at [1] b the derivation follows'], []),
+    # what comes near a claim has its row, whatever the sense: the other sense, and equations
+    ([], 'VER 1.0 VAR 1 x INT 0 OBJ min 1 0 1 CON 1 0 b E 3 1 0 1 RTP range 5 inf SOL 0 DER 0',
+     ['[0] b  x = 3  (line 1), too weak by 2, rests on no assumption'], ['no constraint has']),
+    ([], 'VER 1.0 VAR 1 x INT 0 OBJ min 1 0 1 CON 2 0 a G 2 1 0 1 b E 3 1 0 1 RTP range 5 inf SOL 0 DER 0',
+     ['nearest:\n    [1] b', 'is more claimed behind RTP than [1] says'], ['nothing stronger']),
+    ([], 'VER 1.0 VAR 1 x INT 0 OBJ min 1 0 1 CON 1 0 b L 3 1 0 1 RTP range 3 inf SOL 0 DER 0',
+     ['[0] b  x <= 3  (line 1), the other way round', '[0] is the other way round: is `OBJ max` meant?'], ['too weak']),
+    (['--profile', '2'], 'VER 1.0 VAR 1 x INT 1 0 OBJ min 1 0 1 CON 2 0 a G 1/2 1 0 1 b G 1 1 0 1 RTP range 2 inf SOL 0 DER 0',
+     ['[0] a  x >= 1/2  (line 1), too weak by 1 when it is rounded', '[1] b  x >= 1  (line 1), too weak by 1, rests'],
+     ['nothing stronger']),
+    ([], 'VER 1.0 VAR 1 x INT 0 OBJ min 1 0 1 CON 0 0 RTP range 3 inf SOL 0 DER 1 d G 3 1 0 1 { asm } -1',
+     ['[0] is an assumption itself: is its reason left out?'], ['joined']),
+    # a join has no multipliers
+    ([], 'VER 1.0 VAR 1 x INT 1 0 OBJ min 1 0 1 CON 1 0 a L -1 1 0 -1 RTP range 1 inf SOL 0 DER 4 d L 0 1 0 1 { asm } -1 '
+     'u G 1 1 0 1 { asm } -1 l L -1 1 0 -1 { lin 1 0 1 } -1 j G 1 1 0 1 { uns 3 1 3 2 } -1',
+     ['another constraint as the case?'], ['multiplier']),
+    # which section is here, and what a name and a number are
+    ([], 'VER 1.0 VAR 1 x INT 1 0 INT 0', ['the section `INT` was read before: is it here twice?'], ['missing']),
+    ([], 'VER 1.0 VER 1.0', ['the section `VER` was read before'], ['missing']),
+    ([], 'VER 1.0 VAR 1 x INT 1 0 con', ['is `CON` meant?'], ['missing']),
+    ([], 'VER 1.0 VAR 1 x INT 0 OBJ min 0 CON 1 0 1st row L 1', ['is a space in the name'], ['a number was read']),
+    ([], 'VER 1.0 VAR 1 x INT 0 OBJ min 1 0 1 CON 1 0 a G 2 1 0 1 RTP range 2 inf SOL 1 2nd 0 DER 0', ['is its count right?'],
+     ['a number was read']),
+    ([], 'VER 1.0 VAR 2 x y INT 2 0 CON 1 0', ['`CON` is the keyword of a section'], ['next section']),
+    ([], 'VER 1.0 VAR 1 x INT 0 OBJ min 0 CON 0 0 RTP infeas SOL 1 s OBJ', ['`OBJ` stands for a vector in constraints and'],
+     ['next section']),
+    ([], 'VER 1.0 VAR 1 x INT 0 OBJ min 0 CON 1 0 a L } OBJ', ['is a number missing in front of the brace?'], ['the reason has']),
+    ([], 'VER 1.0 VAR weak x', ['a count is digits alone'], ['version 1.1']),
+    *[([], f'VER 1.0 VAR 1 x INT 0 OBJ min 1 0 {word}', ['a number is digits'], ['exponent']) for word in ('0x1e', '3eggs', '1e')],
+    *[([], f'VER 1.0 VAR 1 x INT 0 OBJ min 1 0 {word}', ['exponents are not'], []) for word in ('1e5', '-2.5E+7')],
+    ([], 'VER 1.0 VAR 1 x INT 0 OBJ min 0 CON 1 0 u L 1e20', ['an infinite bound is no constraint: leave it out'], []),
+    ([], 'VER 1.0 VAR 1 x INT 0 OBJ min 1 0 Fraction(11,', ['or a fraction, as -3 or 13/4'], ['comma']),
+    *[([], f'VER 1.0 VAR 1 x INT 0 OBJ min 1 {word} 1', ['an index is digits alone'], ['that of the last'])
+      for word in ('+0', '-1', '3*0', '1=1')],
+    ([], 'VER 1.0 VAR 1 x INT 0 OBJ min 1 7 1', ['that of the last variable is 0'], []),
+    *[([], f'VER 1.0 VAR 1 x INT 0 OBJ min 0 CON 1 0 cap {sign} 6', [f'write `{letter}` for'], ['space in the name'])
+      for sign, letter in (('<', 'L'), ('>', 'G'), ('\xe2\x89\xa4', 'L'), ('\xe2\x89\xa5', 'G'))],
+    ([], FRONT + '0 DER 1 a G 1 0 { asm }13', ['put a space behind the brace'], ['too small']),
+    ([], FRONT + '0 DER 1 a G 1 0 { asm } - 1', ['a number has no spaces: write -1'], []),
+    ([], FRONT + '0 DER 1 a G 1 0 { Lin 1 0 1 } -1', ['reasons are in small letters'], []),
+    ([], FRONT + '0 DER 1 a G 1 0 13', ['or is the reason missing?'], ['is too small']),
+    ([], 'VER 1', ['only version 1.0 is read'], ['weak']),
+    ([], ' \n \t', ['nothing is in the text but white space or a comment', 'no token is here'], ['ends behind this']),
     # names and tokens as they are shown
     ([], 'VER 1.0 VAR 1 x INT 0 OBJ min 0 CON 1 0 ' + 'n' * 100 + ' Q', ['`' + 'n' * 40 + '..`'], ['n' * 61 + '`']),
     ([], 'VER 1.0 VAR 1 x INT 0 OBJ min 0 CON 1 0 a\\x1b Q', ['`a\\\\x1b`'], []),
@@ -409,13 +468,12 @@ MORE = [
     ('VER 1.0 VAR 20 ' + ' '.join(f'x{it:030}' for it in range(20)) + ' INT 0 OBJ min 20 '
      + ' '.join(f'{it} 1' for it in range(20)) + ' CON 30 0 ' + ' '.join(f'c{it:030} G 1 OBJ' for it in range(30))
      + ' RTP infeas SOL 0 DER 1 d G 1 0 { lin 30 ' + ' '.join(f'{it} 1' for it in range(30)) + ' } -1',
-     'or mend the reason: a multiplier, which constraints', 4_097),
+     'or another multiplier, another constraint, or another number', 4_097),
     # senses of algebra
     *[(f'VER 1.0 VAR 1 x INT 0 OBJ min 0 CON 1 0 c {sense} 1 1 0 1', f'write `{letter}` for `{sense}`', 0)
       for letter, sense in (('G', '>='), ('L', '<='), ('E', '='))],
 ]
 # One more text for each cause that the others don't have.
-FRONT = 'VER 1.0 VAR 1 x INT 1 0 OBJ min 1 0 1 CON 1 0 c G 1 1 0 1 RTP infeas SOL '
 LARGE = str(2 ** 127 - 1)
 CAUSES = [
     f'VER 1.0 VAR 1 x INT 0 OBJ min 1 0 {2 ** 127}',
@@ -448,8 +506,12 @@ UNREACHED = {
     "\nthe verdict isn't one of this text, so it isn't explained\n",
     "\na read failed behind what is refused, so it isn't explained\n", '.. the rest is left out\n',
 }
-# What a page says of a multiplier with which a derivation follows: that, the present one if there is one, and where.
-MEND = re.compile(r'with the multiplier (\S+) (?:in place of (\S+) at|for one more entry,) \[(\d+)\].*, and the derivation follows')
+# What a page says of a change with which a derivation follows: another multiplier, another constraint, one more entry.
+CHANGES = [re.compile(rf'  = help: with {it} the derivation follows') for it in (
+    r'the multiplier (\S+) in place of (\S+) at \[(\d+)\] \S+', r'\[(\d+)\] \S+ in place of \[(\d+)\] \S+ at entry (\d+)',
+    r'one more entry, (\S+) x \[(\d+)\] \S+,')]
+# What part of the damages to one entry has to be named, by what is damaged.
+LEAST = {'multiplier': 0.9, 'sign': 0.9, 'index': 0.9, 'entry': 0.7}
 CHECKS = Checks('long')
 check = CHECKS.check
 pages = {}
@@ -533,35 +595,71 @@ def count_unreached():
         check(text in UNREACHED or re.search(pattern, whole), f'no page has this text of {file}: {text!r}')
 
 
-def mended(lines, at, words, first):
-    """Whether a page offers a multiplier with which the derivation of this line follows: then that is tried."""
-    def text(words):
-        return '\n'.join([*lines[:at], ' '.join(words), *lines[at + 1:]]).encode()
-    page = explained(['--long'], text(words))[0].decode()
-    found = MEND.search(page)
-    if not found:
-        return False
-    new, old, index = found.groups()
-    if old:
-        place = next(it for it in range(first, len(words), 2) if words[it:it + 2] == [index, old])
-        words = [*words[:place + 1], new, *words[place + 2:]]
-    else:
-        words = [*words[:first - 1], str(int(words[first - 1]) + 1), index, new, *words[first:]]
-    answer, place = explained([], text(words))[0].decode(), page.partition('\n')[0].partition(' at ')[2]
-    check(f' at {place}\n' not in answer, f'{answer} for {" ".join(words)}, the mend of {page}')
-    return True
+def text_of(lines, at, words):
+    """The text of these lines with other words in this one."""
+    return '\n'.join([*lines[:at], ' '.join(words), *lines[at + 1:]]).encode()
 
 
-def mends_suffice():
-    """Each multiplier of the problems is changed: one with which the derivation follows, as the page says, is tried."""
-    offered = 0
+def offers(page, words, first):
+    """The sums that a page offers in place of the one of these words, each with which the derivation follows."""
+    for kind, pattern in enumerate(CHANGES):
+        for one, two, *three in pattern.findall(page):
+            if kind == 0:
+                place = next(it for it in range(first, len(words), 2) if words[it:it + 2] == [three[0], two])
+                yield [*words[:place + 1], one, *words[place + 2:]]
+            elif kind == 1:
+                place = first + 2 * int(three[0])
+                check(words[place] == two, f'{page}: entry {three[0]}')
+                yield [*words[:place], one, *words[place + 1:]]
+            else:
+                yield [*words[:first - 1], str(int(words[first - 1]) + 1), two, one, *words[first:]]
+
+
+def damages(words, first, count):
+    """Each sum with one entry damaged: its multiplier, its sign, its index, or it is left out."""
+    for place in range(first, len(words) - 2, 2):
+        index, multiplier = words[place:place + 2]
+        front, behind = words[:place], words[place + 2:]
+        turned = multiplier[1:] if multiplier[0] == '-' else f'-{multiplier}'
+        for other in {'5', '-1/3'} - {multiplier}:
+            yield 'multiplier', [*front, index, other, *behind]
+        yield 'sign', [*front, index, turned, *behind]
+        for other in {(int(index) + it) % count for it in (1, 2)} - {int(index)}:
+            yield 'index', [*front, str(other), multiplier, *behind]
+        yield 'entry', [*front[:first - 1], str(int(words[first - 1]) - 1), *front[first:], *behind]
+
+
+def changes_suffice():
+    """One entry of each sum of the problems is damaged. Each change that is offered is tried, and most are the original."""
+    refused, named = collections.Counter(), collections.Counter()
     for path in sorted(PROBLEMS.glob('*.vipr')):
         lines = run([PROGRAM, 'show', path]).stdout.decode().splitlines()
+        given = int(next(it for it in lines if it.startswith('CON ')).split()[1])
+        passed = 0
         for at, words in enumerate(map(str.split, lines)):
-            first = words.index('{') + 3 if '{' in words else len(words)
-            for place, changed in itertools.product(range(first + 1, len(words) - 2, 2), ('5', '-1/3')):
-                offered += mended(lines, at, [*words[:place], changed, *words[place + 1:]], first)
-    check(offered >= 20, f'a multiplier that suffices is offered {offered} times')
+            if '{' not in words:
+                continue
+            first = words.index('{') + 3
+            for kind, damaged in damages(words, first, given + passed) if words[first - 2] in ('lin', 'rnd') else ():
+                page = explained(['--long'], text_of(lines, at, damaged))[0].decode()
+                place = page.partition('\n')[0].partition(' at ')[2]
+                cause = re.search(r'cause (34|36|38)\n', page)
+                if not cause or place != f'DER {given + passed}':
+                    continue
+                refused[kind] += 1
+                found = list(offers(page, damaged, first))
+                named[kind] += any(sum_of(it, first) == sum_of(words, first) for it in found)
+                for offered in found:
+                    answer = explained([], text_of(lines, at, offered))[0].decode()
+                    check(f' at {place}\n' not in answer, f'{answer} for {" ".join(offered)}, a change of {page}')
+            passed += 1
+    for kind, least in LEAST.items():
+        check(refused[kind] and named[kind] >= least * refused[kind], f'{kind}: {named[kind]} of {refused[kind]} are named')
+
+
+def sum_of(words, first):
+    """The entries of the sum of a derivation, in any order."""
+    return sorted(zip(words[first:-2:2], words[first + 1:-2:2]))
 
 
 def unread(path, reason):
@@ -631,7 +729,7 @@ def main():
             page = page_of(path, wanted)
             check(wanted in page and len(page) >= length, f'{text[:400]!r}: {wanted!r} in {page}')
         of_a_pipe(Path(folder) / 'pipe', PROBLEMS / 'cutoff.vipr')
-        mends_suffice()
+        changes_suffice()
         path.write_text(LATE)
         check('write 9000 or -1 here' in page_of(path, 'a late reference'), 'a late reference')
     compare()

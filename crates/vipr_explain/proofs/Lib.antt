@@ -7,3 +7,4 @@ mod Crossing
 mod NearOrder
 mod Nearing
 mod Valuing
+mod Replaying

@@ -119,7 +119,7 @@ back_start p k = subst (NamesEarlier k) (sym none) tt
 
 -- ---- the next derivation
 
-back_next : (c : Certificate) (d : Derivation) → RefersBack c → NamesEarlier (count c) (Some d.reason)
+pub back_next : (c : Certificate) (d : Derivation) → RefersBack c → NamesEarlier (count c) (Some d.reason)
     → RefersBack (with_next c d)
 back_next c d back earlier k = elim (cases_lt k (count c)) [
   | inl l ↦ subst (NamesEarlier k) (sym (reason_before c (d ∷ []) k l)) (back k)

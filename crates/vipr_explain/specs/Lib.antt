@@ -9,5 +9,6 @@ pub mod Drops
 pub mod Words
 pub mod Refused
 pub mod Near
+pub mod Changes
 pub mod Values
 pub mod Claims

@@ -8,8 +8,8 @@ use Rattle.std.specs.declared.cmp.Ordering.{Ordering}
 use Rattle.std.specs.declared.cmp.Ordering.TheVariants.{Less, Equal, Greater}
 use Rattle.vipr_spec.specs.Fraction.{ℚ, whole, neg_ℚ, ◌+ℚ◌, SumFits}
 use Rattle.vipr_spec.specs.FractionOrder.{cmp_ℚ}
-use Rattle.vipr_spec.specs.Constraint.{Profile, Sense, equal, Condition, IsAbsurd, Dominates}
-use Rattle.vipr_spec.specs.Constraint.{RoundsTo}
+use Rattle.vipr_spec.specs.Constraint.{Profile, Sense, at_most, equal, at_least, Condition}
+use Rattle.vipr_spec.specs.Constraint.{IsAbsurd, RoundsTo}
 use Rattle.vipr_spec.specs.Certificate.{Problem, variables, Derivation, Certificate, count}
 use Rattle.vipr_spec.specs.Certificate.{constraint_at, reason_at, is_live, Reason, sol, uns}
 use Rattle.vipr_spec.specs.Certificate.{RestsOn, RestsOnNothing, NamesEarlier, RefersTo}
@@ -32,9 +32,9 @@ use Rattle.vipr_explain.specs.declared.near.NearSearch.{NearSearch}
 
 -- ---- which constraints are like what is wanted
 
--- the constraint d has the row of the bound b, and its sense, or says as much
+-- the constraint d has the row of the bound b, whatever its sense
 abbrev pub IsLikeBound : Condition → Condition → Type 0
-IsLikeBound b d = ((j : ℕ) → d.row j ≡ b.row j) × ((d.sense ≡ b.sense) ⊎ Dominates d b)
+IsLikeBound b d = (j : ℕ) → d.row j ≡ b.row j
 
 abbrev pub IsLike : Target → Condition → Type 0
 IsLike Absurdity d = IsAbsurd d
@@ -57,11 +57,26 @@ abbrev pub IsGapBetween : ℚ → ℚ → Option ℚ → Type 0
 IsGapBetween bound side (Some gap) = gap ≡ bound +ℚ neg_ℚ side
 IsGapBetween bound side None = ¬ SumFits bound (neg_ℚ side)
 
+-- one sense is at least and the other one at most
+abbrev pub is_turned : Sense → Sense → Bool
+is_turned at_least at_most = true
+is_turned at_most at_least = true
+is_turned _ _ = false
+
+-- of a side that is turned nothing is said
+abbrev pub IsGapUnless : Bool → ℚ → ℚ → Option ℚ → Type 0
+IsGapUnless true bound side gap = gap ≡ None
+IsGapUnless false bound side gap = IsGapBetween bound side gap
+
+abbrev pub IsGapTo : Condition → Sense → ℚ → Option ℚ → Type 0
+IsGapTo b sense side gap = IsGapUnless (is_turned sense b.sense) b.bound side gap
+
 -- the right-hand side is rounded if the profile may
 abbrev pub MissesBy : Target → Condition → Option ℚ → Type 0
 MissesBy Absurdity d gap = gap ≡ None
-MissesBy (Bound b) d gap = IsGapBetween b.rhs d.bound gap
-MissesBy (WholeBound b) d gap = (side : ℚ) × IsRoundedSide d side × IsGapBetween b.rhs side gap
+MissesBy (Bound b) d gap = IsGapTo (condition_of b) d.sense d.bound gap
+MissesBy (WholeBound b) d gap =
+    (side : ℚ) × IsRoundedSide d side × IsGapTo (condition_of b) d.sense side gap
 MissesBy Nothing d gap = gap ≡ None
 
 -- ---- their order

@@ -20,6 +20,7 @@ use Rattle.vipr_check.specs.declared.verdict.Verdict.TheVariants as verdict
 use Rattle.vipr_page.specs.Differences.{row_differences}
 use Rattle.vipr_page.specs.Repairs.{IsRounded}
 use Rattle.vipr_page.specs.RowFaults.{row_faults}
+use Rattle.vipr_explain.specs.Changes.{AreChanges}
 use Rattle.vipr_explain.specs.Drops.{IsLastUse}
 use Rattle.vipr_explain.specs.Excerpts.{IsPlaceAt}
 use Rattle.vipr_explain.specs.Found.{AreFoundItems, AreItemsOf, HasFault, LacksListed, items_up_to}
@@ -69,7 +70,7 @@ pub record IsLastUseIn (text : List ℕ) (index user : ℕ) (l : LastUse) : Type
 -- a stated constraint differ, what keeps a sum or the row of two assumptions from being whole,
 -- whether these are a split by the second profile, or the last use of a constraint
 abbrev pub AreFacts : List ℕ → Ints → Reason → ℕ → StepDetail → StepFacts → Type 0
-AreFacts text integers reason k (what.Rows computed stated) (fact.Rows differences mends side) =
+AreFacts text integers reason k (what.Rows computed stated) (fact.Rows differences side) =
     (differences.items ≡ row_differences computed.row stated.row)
     × IsRepair integers reason computed stated side
 AreFacts text integers reason k (what.Sum sum) (fact.Sum faults) =
@@ -92,11 +93,12 @@ pub record AreNamedBy (text : List ℕ) (own : Items) (k : ℕ) (detail : StepDe
   pub known : AreItemsOf text wanted found.0
   pub facts : AreFacts text found.0.items.problem.integers step.reason k detail found.1
 
-pub record IsRefusedStep (text : List ℕ) (k : ℕ) (detail : StepDetail) (s : RefusedStep)
-    : Type 0 where
+pub record IsRefusedStep (P : Profile) (text : List ℕ) (k : ℕ) (detail : StepDetail)
+    (s : RefusedStep) : Type 0 where
   pub own : AreFoundItems (k ∷ []) (text_rest text) s.own
   pub named : AreNamedBy text s.own k detail (s.known, s.facts)
   pub place : IsNamePlace text s.known.marks.items k s.place
+  pub changes : AreChanges P text k s.changes
 
 -- ---- what a text lacks
 

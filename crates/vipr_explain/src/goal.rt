@@ -7,11 +7,11 @@ ghost use Rattle.vipr_explain.specs.Claims.{IsGoalRead, IsUnproved};
 ghost use Rattle.vipr_explain.specs.Values.{AreListedValues};
 
 use crate::items::open_problem;
-use crate::near::{Join, Near, NearSearch, find_near};
+use crate::near::{Join, Near, NearSearch, find_near, is_turned};
 use crate::shown::PlacedItems;
 use crate::solution::ListedValues;
 use crate::text::{Reread, Subject};
-use vipr_cert::Claim;
+use vipr_cert::{Claim, Goal};
 use vipr_check::Report;
 use vipr_frac::Frac;
 use vipr_linear::{Constraint, compares};
@@ -114,6 +114,22 @@ impl UnprovedClaim {
         }
     }
 
+    // Whether a constraint has the other sense than what is wanted.
+    fn is_turned(&self, index: u32) -> bool {
+        match (self.bound(), self.items.items.constraint(index)) {
+            (Some(bound), Some(constraint)) => is_turned(constraint.sense, bound.sense),
+            _ => false,
+        }
+    }
+
+    // Whether a constraint's right-hand side is rounded when it is compared.
+    fn is_rounded(&self, index: u32) -> bool {
+        match (&self.search.target, self.items.items.constraint(index)) {
+            (Target::WholeBound(_), Some(constraint)) => !constraint.rhs.is_whole(),
+            _ => false,
+        }
+    }
+
     /// Writes the page of a claim that no constraint proves.
     pub(crate) fn write(&self, page: &mut Page) {
         page.put(
@@ -127,10 +143,10 @@ impl UnprovedClaim {
             }
             None => page.put("is absurd, as 0 >= 1\n"),
         }
-        page.put(if self.search.near.is_empty() {
-            "  no constraint is like it\n"
-        } else {
-            "  nearest:\n"
+        page.put(match (self.search.near.is_empty(), self.bound()) {
+            (true, Some(_)) => "  no constraint has this row\n",
+            (true, None) => "  no constraint is absurd\n",
+            (false, _) => "  nearest:\n",
         });
         for near in &self.search.near {
             write_near(page, self, near);
@@ -158,17 +174,30 @@ fn read_near(subject: Subject<'_>, near: &[Near]) -> Reread<PlacedItems>
 fn write_advice(page: &mut Page, known: &UnprovedClaim) {
     let mut is_strong = false;
     let mut free = None;
+    let mut turned = None;
     for near in &known.search.near {
         if let Some(Join { i1, l1, i2, l2 }) = near.crossed {
             write!(
                 page,
-                "[{i1}] rests on [{l2}] and [{i2}] on [{l1}]: exchange l1 and l2, `uns {i1} {l2} {i2} {l1}`"
+                "[{i1}] rests on [{l2}] and [{i2}] on [{l1}]: are l1 and l2 exchanged? `uns {i1} \
+                 {l2} {i2} {l1}`"
+            );
+            return;
+        }
+        if near.is_strong && near.assumptions.contains(near.index) {
+            let index = near.index;
+            write!(
+                page,
+                "[{index}] is an assumption itself: is its reason left out?"
             );
             return;
         }
         is_strong = is_strong || near.is_strong;
-        if free.is_none() && near.is_free && near.gap.is_some() {
+        if near.is_free && free.is_none() && near.gap.is_some() {
             free = Some(near.index);
+        }
+        if near.is_free && turned.is_none() && known.is_turned(near.index) {
+            turned = Some(near.index);
         }
     }
     let given = known.items.items.problem.cons().len();
@@ -176,12 +205,24 @@ fn write_advice(page: &mut Page, known: &UnprovedClaim) {
         (Some(_), Some(index)) if index as usize >= given || !is_strong => {
             write!(
                 page,
-                "behind RTP claim no more than [{index}] says: nothing stronger with this row is \
-                 proved without an assumption; is a constant of the objective in the claim? The \
-                 format has none"
+                "is more claimed behind RTP than [{index}] says, or is a constant of the objective \
+                 in the claim? The format has none"
             );
             return;
         }
+        (Some(Constraint { row, .. }), None) if !is_strong && !row.is_empty() && turned.is_some() =>
+            {
+                let other = match known.items.items.problem.sense() {
+                    Goal::Min => "max",
+                    Goal::Max => "min",
+                };
+                let index = turned.unwrap_or(0);
+                write!(
+                    page,
+                    "[{index}] is the other way round: is `OBJ {other}` meant?"
+                );
+                return;
+            }
         (Some(Constraint { row, sense, rhs }), None)
             if known.search.near.is_empty()
                 && row.is_empty()
@@ -198,10 +239,10 @@ fn write_advice(page: &mut Page, known: &UnprovedClaim) {
              two bounds"
         }
         _ if is_strong => {
-            "join the branches by `uns i1 l1 i2 l2`, so that no assumption is left, or claim \
-             behind RTP what is proved"
+            "are branches not joined? `uns i1 l1 i2 l2` takes l1 away from what i1 rests on, and \
+             l2 from what i2 does; and each of them is to rest on no other assumption in the end"
         }
-        _ => "derive it, or claim behind RTP what is proved",
+        _ => "is its derivation left out, or is more claimed behind RTP than is proved?",
     });
 }
 
@@ -215,6 +256,11 @@ fn write_near(page: &mut Page, known: &UnprovedClaim, near: &Near) {
         } else if let Some(gap) = near.gap {
             let size = size_of(gap);
             write!(page, ", too weak by {size}");
+            if known.is_rounded(near.index) {
+                page.put(" when it is rounded");
+            }
+        } else if known.is_turned(near.index) {
+            page.put(", the other way round");
         }
     }
     write_assumptions(page, near);

@@ -4,10 +4,11 @@
 use crate::syntax::TextFault;
 use crate::token::Look::*;
 use crate::token::{Look, keyword_of};
-use crate::wanted::Section;
 use crate::wanted::Section::*;
 use crate::wanted::Wanted::*;
+use crate::wanted::{Section, TextProgress};
 use vipr_check::cause::*;
+use vipr_frac::Frac;
 use vipr_page::Page;
 
 /// Writes what is likely to be wrong, and what to write instead. Rows with a value come first.
@@ -36,17 +37,21 @@ pub(crate) fn write_hint(page: &mut Page, cause: u8, fault: &TextFault<'_>) {
             "is the file cut? `{keyword}` is missing: write {empty}"
         ),
         (WRONG_KEYWORD, _, SmallHeading) => {
-            write!(page, "keywords are in capitals: write `{found}`")
+            write!(page, "keywords are in capitals: is `{found}` meant?")
         }
+        (WRONG_KEYWORD, _, Heading) if progress.section.is_behind(found) => write!(
+            page,
+            "the section `{found}` was read before: is it here twice?"
+        ),
         (WRONG_KEYWORD, _, Heading) => write!(
             page,
             "`{keyword}` is missing or in another place: in front of `{found}` write {empty}"
         ),
         (BAD_INDEX, IntegerIndex, Heading) => write!(
             page,
-            "`{found}` begins the next section: is the count behind `INT`, {items}, too large?"
+            "`{found}` is the keyword of a section: is the count behind `INT`, {items}, too large?"
         ),
-        (BAD_INDEX, _, Number) => {
+        (BAD_INDEX, _, Number) if fault.word.iter().all(|byte| byte.is_ascii_digit()) => {
             match progress.variables.checked_sub(1) {
                 Some(last) => write!(
                     page,
@@ -87,15 +92,16 @@ fn hint(cause: u8, fault: &TextFault<'_>, look: Look) -> &'static str {
             _ => "the next section comes behind the version `1.0`",
         },
         (TRUNCATED, Keyword, ..) => {
-            "the text is empty, or a comment alone: a comment ends at a line feed, and not at a \
-             carriage return"
+            "nothing is in the text but white space or a comment: a comment ends at a line feed, \
+             and not at a carriage return"
         }
         (TRUNCATED, LastReference, ..) => LAST_REFERENCE,
         (TRUNCATED, _, Derivations, ..) => "is the file cut, or the count behind `DER` too large?",
         (TRUNCATED, ..) => "is the file cut, or a count too large?",
-        (UNSUPPORTED_VERSION, ..) => {
+        (UNSUPPORTED_VERSION, .., b"1.1") => {
             "only version 1.0 is read: if no derivation is `weak` or `incomplete`, write 1.0"
         }
+        (UNSUPPORTED_VERSION, ..) => "only version 1.0 is read, which is written `1.0`",
         (NUMBER_TOO_LARGE, ..) => {
             "numerator and denominator may be 2^127 - 1 at most; docs/FORMAT.md says what can help"
         }
@@ -109,6 +115,9 @@ fn hint(cause: u8, fault: &TextFault<'_>, look: Look) -> &'static str {
         }
         (BAD_OBJECTIVE_SENSE, ..) => "write `min` or `max` behind `OBJ`",
         (BAD_CLAIM, ..) => "write `infeas`, or `range` and two bounds, behind `RTP`",
+        (BAD_REASON, .., word) if REASONS.iter().any(|it| it.eq_ignore_ascii_case(word)) => {
+            "reasons are in small letters: `asm`, `lin`, `rnd`, `uns` or `sol`"
+        }
         (BAD_REASON, ..) => {
             "write `uns i1 l1 i2 l2` to join two branches, `lin` or `rnd` for a sum, \
              `asm` for an assumption, `sol` for a cutoff"
@@ -125,17 +134,18 @@ fn hint(cause: u8, fault: &TextFault<'_>, look: Look) -> &'static str {
 // The first token isn't `VER`.
 fn start_hint(word: &[u8]) -> &'static str {
     match word {
-        [0xef, 0xbb, 0xbf, ..] => "a byte order mark is before `VER`: save the file without it",
+        [0xef, 0xbb, 0xbf, ..] => "this begins with a byte order mark: save the file without it",
         [0xff, 0xfe, ..] | [0xfe, 0xff, ..] => {
-            "this is UTF-16: save the file as ASCII or as UTF-8 without a byte order mark"
+            "this looks like UTF-16: save the file as ASCII or as UTF-8 without a byte order mark"
         }
         [b'<', ..] => "this looks like a page of HTML or XML, and not like a certificate",
-        [0x1f, 0x8b, ..] => "this is compressed: gzip -dc FILE | vipr explain --long",
+        [0x1f, 0x8b, ..] => "this looks compressed: gzip -dc FILE | vipr explain --long",
         [0xfd, b'7', b'z', b'X', b'Z', ..] => {
-            "this is compressed: xz -dc FILE | vipr explain --long"
+            "this looks compressed: xz -dc FILE | vipr explain --long"
         }
-        [0x28, 0xb5, 0x2f, 0xfd, ..] => "this is compressed: zstd -dc FILE | vipr explain --long",
-        [b'B', b'Z', b'h', ..] => "this is compressed: bzip2 -dc FILE | vipr explain --long",
+        [0x28, 0xb5, 0x2f, 0xfd, ..] =>
+            "this looks compressed: zstd -dc FILE | vipr explain --long",
+        [b'B', b'Z', b'h', ..] => "this looks compressed: bzip2 -dc FILE | vipr explain --long",
         [b'#', ..] | [b'/', b'/' | b'*', ..] => "a comment begins with `%`",
         [b'{' | b'[', ..] => "this looks like JSON, and not like a certificate",
         _ if word.starts_with(b"*") || is_any(word, b"NAME ROWS") => {
@@ -162,21 +172,26 @@ fn part_hint(cause: u8, fault: &TextFault<'_>, look: Look) -> &'static str {
     match (look, fault.found.progress.wanted) {
         (Heading, UpperBound) => "`range` takes two bounds: the lower and the upper one",
         (Heading, RightHandSide) if is_any(word, b"OBJ") => {
-            "the right-hand side is missing: NAME SENSE RIGHT-HAND-SIDE, and then `OBJ`"
+            "is the right-hand side missing? NAME SENSE RIGHT-HAND-SIDE, and then `OBJ`"
+        }
+        (Heading, _) if is_any(word, b"OBJ") && matches!(section, Solutions) => {
+            "`OBJ` stands for a vector in constraints and derivations alone"
         }
         (Heading, _) => {
-            "this keyword begins the next section: is a count in front of it too large, or is \
+            "this is the keyword of a section: is a count in front of it too large, or is \
              something missing there?"
         }
+        (NotAscii, Sense) if matches!(word, [0xe2, 0x89, 0xa4]) => "write `L` for this sign",
+        (NotAscii, Sense) if matches!(word, [0xe2, 0x89, 0xa5]) => "write `G` for this sign",
         (NotAscii, _) => {
             "this token has a byte that is not ASCII, as a minus or a space of a word processor: \
              signs, digits and spaces are ASCII"
         }
-        (Separated, _) => {
+        (Separated, _) if !word.contains(&b'(') => {
             "tokens are separated by white space alone: remove the comma or semicolon"
         }
-        _ if cause == BAD_COUNT && is_any(word, b"weak incomplete") => {
-            "this derivation is of version 1.1: complete the certificate first, by viprcomp of the \
+        (_, EntryCount) if is_any(word, b"weak incomplete") => {
+            "is this derivation of version 1.1? Complete the certificate first, by viprcomp of the \
              VIPR package"
         }
         (_, BoundCount) => {
@@ -193,6 +208,7 @@ fn part_hint(cause: u8, fault: &TextFault<'_>, look: Look) -> &'static str {
         (_, EntryCount) => "`lin` and `rnd` take COUNT INDEX MULTIPLIER ..",
         (_, Count) => "a count is digits alone",
         (_, IntegerIndex) => "`INT` lists variables by their indices, from 0, and not by names",
+        (Number | Fraction, RowIndex) => "an index is digits alone, and indices count from 0",
         (_, RowIndex) => {
             "a variable is named by its index, from 0: is a name in its place, is a pair missing, \
              or is the count of pairs in front of it too large?"
@@ -207,23 +223,26 @@ fn part_hint(cause: u8, fault: &TextFault<'_>, look: Look) -> &'static str {
                 "write `{` in front of this reason, and `}` behind it"
             }
             _ => {
-                "the count of coefficients is too small or missing: COUNT, and then that many \
-                 pairs INDEX COEFFICIENT, are before `{`"
+                "is the count of coefficients too small or missing, or is the reason missing? \
+                 COUNT, that many pairs INDEX COEFFICIENT, and then the reason, as `{ asm }`"
             }
         },
+        (_, LastReference) if is_any(word, b"-") => "a number has no spaces: write -1",
         (_, LastReference) => LAST_REFERENCE,
         (_, Branch) => {
             "`uns` takes four indices: i1 l1 i2 l2, where l1 and l2 are the assumptions"
         }
+        (_, CloseBrace) if matches!(word, [b'}', _, ..]) => "put a space behind the brace",
         (_, CloseBrace) if !word.ends_with(b"}") => {
             "the reason should end here: `asm` and `sol` take nothing, `uns` takes i1 l1 i2 l2, \
              `lin` and `rnd` COUNT INDEX MULTIPLIER ..: is its number of entries missing or too \
              small?"
         }
-        _ if is_any(word, b"}") => {
+        (_, EntryIndex | EntryMultiplier) if is_any(word, b"}") => {
             "the reason has fewer entries than it counts: is the count too large, or a number \
              missing?"
         }
+        _ if is_any(word, b"}") => "is a number missing in front of the brace?",
         _ if is_any(word, b"/") || cause == BAD_NUMBER && is_any(word, b"+ -") => {
             "a number has no spaces, as -11/9"
         }
@@ -235,7 +254,7 @@ fn part_hint(cause: u8, fault: &TextFault<'_>, look: Look) -> &'static str {
              is the number of entries right?"
         }
         _ if word.ends_with(b"}") => "put a space before the brace",
-        _ if cause == BAD_NUMBER => number_hint(section, look),
+        _ if cause == BAD_NUMBER => number_hint(&fault.found.progress, look),
         _ => "see the table of causes in docs/FORMAT.md",
     }
 }
@@ -243,8 +262,8 @@ fn part_hint(cause: u8, fault: &TextFault<'_>, look: Look) -> &'static str {
 // The token is no sense.
 fn sense_hint(name: &[u8], look: Look, word: &[u8]) -> &'static str {
     match (Look::of(name), look, word) {
-        _ if is_any(word, b">= => g ge GE") => "write `G` for `>=`",
-        _ if is_any(word, b"<= =< l le LE") => "write `L` for `<=`",
+        _ if is_any(word, b">= => > g ge GE") => "write `G` for `>=`",
+        _ if is_any(word, b"<= =< < l le LE") => "write `L` for `<=`",
         _ if is_any(word, b"= == e eq EQ") => "write `E` for `=`",
         (_, _, b"R" | b"N") => {
             "a constraint with two sides is two, by `G` and by `L`; a free row is left out"
@@ -252,7 +271,7 @@ fn sense_hint(name: &[u8], look: Look, word: &[u8]) -> &'static str {
         (NotAscii, ..) => {
             "the name has a byte that is not ASCII: is it a space of a word processor?"
         }
-        (Number | Fraction, ..) => {
+        _ if Frac::parse(name).is_ok() => {
             "a number was read as the name: is the count of coefficients in front of it too small?"
         }
         (_, _, [.., b'"']) => "a name has no spaces, not even in quotes",
@@ -272,8 +291,11 @@ fn sense_hint(name: &[u8], look: Look, word: &[u8]) -> &'static str {
 }
 
 // The token is no number.
-fn number_hint(section: Section, look: Look) -> &'static str {
-    match (section, look) {
+fn number_hint(progress: &TextProgress, look: Look) -> &'static str {
+    match (progress.section, look) {
+        (Section::Claim, Infinity) if matches!(progress.wanted, LowerBound) => {
+            "for no lower bound write `-inf`; if the problem is infeasible write `RTP infeas`"
+        }
         (Section::Claim, Infinity) => {
             "for no bound write `-inf` first and `inf` second, in small letters"
         }
@@ -281,6 +303,10 @@ fn number_hint(section: Section, look: Look) -> &'static str {
         (Section::Claim, Exponent) => {
             "exponents are not in the format: write all digits, or `-inf` first and `inf` second \
              for no bound"
+        }
+        (Constraints, Exponent) if matches!(progress.wanted, RightHandSide) => {
+            "exponents are not in the format: write all digits, or a fraction; an infinite bound \
+             is no constraint: leave it out"
         }
         (_, Exponent) => {
             "exponents are not in the format: write all digits, or a fraction, as 1/1000"
@@ -299,6 +325,8 @@ fn number_hint(section: Section, look: Look) -> &'static str {
 
 const LAST_REFERENCE: &str = "write the last reference behind `}`: the last derivation that names \
     this one, or -1 to keep it";
+
+const REASONS: [&[u8]; 5] = [b"asm", b"lin", b"rnd", b"uns", b"sol"];
 
 const LP_WORDS: &[u8] = b"Minimize Maximize minimize maximize min max";
 

@@ -1,17 +1,18 @@
 //! Explains a verdict for people: the place at fault in the text, and what the algebra says.
 #![tactic(auto)]
 
+mod changes;
 mod drops;
 mod excerpt;
 mod goal;
 mod hints;
 mod items;
 mod marks;
-mod mends;
 mod near;
 mod reason;
 mod shown;
 mod solution;
+mod sought;
 mod step;
 mod syntax;
 mod text;

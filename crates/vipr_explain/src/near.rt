@@ -8,7 +8,7 @@ ghost use Rattle.vipr_spec.specs.Constraint.{at, NamesBelow};
 ghost use Rattle.vipr_spec.specs.Certificate.{Certificate, Derivation as DerivationMeant, RestsOn};
 ghost use Rattle.vipr_spec.specs.Certificate.{constraint_at, variables};
 ghost use Rattle.vipr_spec.specs.Steps.{RefersBack};
-ghost use Rattle.vipr_linear.specs.Constraint.{condition_of};
+ghost use Rattle.vipr_linear.specs.Constraint.{condition_of, sense_of};
 ghost use Rattle.vipr_cert.specs.Items.{derivation_of, reason_of};
 ghost use Rattle.vipr_table.specs.History.{IsTableOf};
 ghost use Rattle.vipr_table.specs.Table.{DerivedBelow, step as table_step};
@@ -18,11 +18,11 @@ ghost use Rattle.vipr_rules.specs.declared.error.RuleError.TheVariants.{Memory a
 ghost use Rattle.vipr_scan.specs.declared.error.TextError.TheVariants.{Memory};
 ghost use Rattle.vipr_explain.specs.Found.{AreDerivationsRead, Because, text_rest};
 ghost use Rattle.vipr_explain.specs.Near.{AreInOrder, AreNearest, HasPassedAll, HasPlace};
-ghost use Rattle.vipr_explain.specs.Near.{HasSearched, IsCrossed, IsGapBetween, IsLike};
+ghost use Rattle.vipr_explain.specs.Near.{HasSearched, IsCrossed, IsGapBetween, IsGapTo, IsLike};
 ghost use Rattle.vipr_explain.specs.Near.{IsLikeBound, IsNearSearch, IsNextEntry};
 ghost use Rattle.vipr_explain.specs.Near.{IsRefusedNext, IsRoundedSide, LacksNear, MissesBy};
-ghost use Rattle.vipr_explain.specs.Near.{comes_before, crossed_in, misses_less, with_near};
-ghost use Rattle.vipr_explain.specs.Near.{without_solutions};
+ghost use Rattle.vipr_explain.specs.Near.{comes_before, crossed_in, is_turned, misses_less};
+ghost use Rattle.vipr_explain.specs.Near.{with_near, without_solutions};
 ghost use Rattle.vipr_explain.specs.declared.near.Join.{Join as JoinMeant};
 ghost use Rattle.vipr_explain.specs.declared.near.Near.{Near as NearMeant};
 
@@ -233,10 +233,9 @@ impl NearSearch {
     }
 }
 
-// What is kept of the next derivation, by the rule of its reason. What a solution cuts off rests on
-// no assumption, whichever solution is the best. No derivation is refused, since the claim alone is
-// not proved.
-fn entry_of(
+/// What is kept of the next derivation, by the rule of its reason. What a solution cuts off rests
+/// on no assumption, whichever solution is the best.
+pub(crate) fn entry_of(
     subject: Subject<'_>,
     problem: &Problem,
     rows: &Table,
@@ -283,8 +282,8 @@ fn missing_by(error: RuleError) -> TextError
     }
 }
 
-// Places what is kept of a derivation, until its last reference.
-fn place(rows: &mut Table, entry: Entry) -> Reread<()>
+/// Places what is kept of a derivation, until its last reference.
+pub(crate) fn place(rows: &mut Table, entry: Entry) -> Reread<()>
     requires { rows.old.next + 1 < 2 ^ 32 }
     ensures placed { OnOk result (rows.new ≡ table_step rows.old entry) }
     ensures memory { IfErr result (λ m. m ≡ Memory) }
@@ -366,8 +365,7 @@ fn place_of(near: &Near, others: &[Near]) -> usize
         .count()
 }
 
-// Whether a constraint has the row of what is wanted, and its sense or more; or is absurd, if that
-// is wanted.
+// Whether a constraint has the row of what is wanted, or is absurd, if that is wanted.
 fn is_like(target: &Target, constraint: &Constraint) -> bool
     ensures { IsTrue result ↔ IsLike target.now (condition_of constraint.now) }
 {
@@ -383,19 +381,35 @@ fn has_row_of(bound: &Constraint, constraint: &Constraint) -> bool
     ensures { IsTrue result ↔ IsLikeBound (condition_of bound.now) (condition_of constraint.now) }
 {
     constraint.row.is_same(&bound.row)
-        && (constraint.sense == bound.sense || constraint.dominates(bound))
 }
 
-// How far a right-hand side is off, rounded if it may be.
+// How far a right-hand side is off, rounded if it may be; that of the other sense isn't.
 fn gap_of(target: &Target, constraint: &Constraint) -> Option<Frac>
     ensures { MissesBy target.now (condition_of constraint.now) result }
 {
     match target {
-        Target::Bound(bound) => gap_between(bound.rhs, constraint.rhs),
-        Target::WholeBound(bound) => gap_between(bound.rhs, rounded(constraint)),
+        Target::Bound(bound) => gap_to(bound, constraint.sense, constraint.rhs),
+        Target::WholeBound(bound) => gap_to(bound, constraint.sense, rounded(constraint)),
         Target::Absurdity => None,
         Target::Nothing => None,
     }
+}
+
+// What a constraint of this sense and side misses a bound by, if that fits.
+fn gap_to(bound: &Constraint, sense: Sense, side: Frac) -> Option<Frac>
+    ensures { IsGapTo (condition_of bound.now) (sense_of sense) side result }
+{
+    if is_turned(sense, bound.sense) {
+        return None;
+    }
+    gap_between(bound.rhs, side)
+}
+
+/// Whether one sense is `>=` and the other one `<=`.
+pub(crate) fn is_turned(sense: Sense, other: Sense) -> bool
+    ensures { result ≡ is_turned (sense_of sense) (sense_of other) }
+{
+    matches!((sense, other), (Sense::G, Sense::L) | (Sense::L, Sense::G))
 }
 
 // What a side misses a bound by, if that fits.

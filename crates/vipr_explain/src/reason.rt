@@ -2,6 +2,7 @@
 ghost use Rattle.std.specs.Prelude.{◌≤◌, IfOk, OnOk};
 ghost use Rattle.std.specs.List.{All};
 
+use crate::changes::Changes;
 use crate::items::Items;
 use crate::shown::PlacedItems;
 use crate::step::StepFault;
@@ -22,6 +23,7 @@ pub(crate) fn step_indices(
     alloc: Global,
     fault: StepFault<'_>,
     reason: &Reason,
+    changes: &Changes,
 ) -> Result<Vec<u32>, AllocError>
     ensures { IfOk result (λ wanted. All (λ i. i ≤ fault.entry.index) wanted.items) }
 {
@@ -42,6 +44,11 @@ pub(crate) fn step_indices(
             for index in [i1, l1, i2, l2] {
                 add_earlier(&mut wanted, fault.index, index)?;
             }
+        }
+    }
+    for change in [changes.multiplier, changes.exchange, changes.addition] {
+        if let Some(change) = change {
+            add_earlier(&mut wanted, fault.index, change.index)?;
         }
     }
     Ok(wanted)

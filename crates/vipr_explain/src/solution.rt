@@ -164,15 +164,24 @@ fn solution_hint(
     if constraint.row.is_empty() {
         return "no solution meets this constraint: change it, or take it out";
     }
-    match (known.solution.name.as_bytes(), gap) {
-        ([b'0'..=b'9', ..], _) if known.solution.item.0.is_empty() => {
+    let values = &known.solution.item.0;
+    match gap {
+        _ if values.is_empty() && Frac::parse(known.solution.name.as_bytes()).is_ok() => {
             "a number was read as the name: is the name missing?"
         }
-        (_, Some(gap)) if gap.denom() / 1000 >= size_of(gap).numer() => {
+        _ if values.is_empty() => {
+            "the solution lists no value, so each variable is 0: is its count right?"
+        }
+        Some(gap) if gap.denom() / 1000 >= size_of(gap).numer() && has_fraction(values) => {
             "is a value rounded, as one of floating point is? Write exact fractions"
         }
         _ => "change the solution, or leave it out; a variable that it doesn't list is 0",
     }
+}
+
+// Whether a value isn't whole.
+fn has_fraction(values: &Row) -> bool {
+    !values.entries().iter().all(|entry| entry.1.is_whole())
 }
 
 // Writes a line of the values at a row's variables. Many are cut, with the number of variables.
@@ -244,9 +253,9 @@ impl ListedValues {
         match self.best {
             Some(best) => write!(
                 page,
-                "  = help: claim {best} as the primal bound behind RTP (the upper one for min, the \
-                 lower one for max), or list a better solution; is a constant of the objective in \
-                 the claim? The format has none\n"
+                "  = help: {best} is attained: is that the primal bound (the upper one for min, \
+                 the lower one for max), is a better solution left out, or is a constant of the \
+                 objective in the claim? The format has none\n"
             ),
             None => page.put(
                 "  the text lists no solution (SOL 0)\n  \

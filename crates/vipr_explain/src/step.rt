@@ -1,21 +1,26 @@
 //! A derivation that is refused.
-ghost use Rattle.std.specs.Prelude.{◌∷◌, [], IfErr, IfOk};
+ghost use Rattle.std.specs.Prelude.{◌≡◌, ◌↔◌, ◌∷◌, [], IfErr, IfOk, IsTrue};
+ghost use Rattle.std.specs.List.{All};
+ghost use Rattle.vipr_spec.specs.Fraction.{neg_ℚ};
+ghost use Rattle.vipr_rules.specs.Profile.{profile_of};
+ghost use Rattle.vipr_scan.specs.declared.error.TextError.TheVariants.{Memory};
+ghost use Rattle.vipr_explain.specs.Changes.{AreChanges};
 ghost use Rattle.vipr_explain.specs.Found.{AreFoundItems, Because, Missed, head_read, text_rest};
 ghost use Rattle.vipr_explain.specs.Refused.{AreFacts, AreNamedBy, IsRefusedStep, IsRepair};
 ghost use Rattle.vipr_explain.specs.Refused.{LacksStep};
 
+use crate::changes::Changes;
 use crate::drops::LastUse;
 use crate::excerpt::KnownPlace;
 use crate::items::{Items, read_items};
 use crate::marks::mark_of;
-use crate::mends::{Mend, StatedSum, find_mends, is_turned};
 use crate::reason::{step_indices, write_reason, write_sources};
 use crate::shown::PlacedItems;
 use crate::solution::PAST_LIMIT;
 use crate::text::{Reread, Subject};
 use vipr_cert::{Problem, Reason, References};
 use vipr_check::{StepDetail, cause};
-use vipr_linear::{Constraint, Ints, covers};
+use vipr_linear::{Constraint, Ints, Sense, covers};
 use vipr_page::{
     Algebra, Difference, Page, RowFault, ShownName, rounded, row_differences, row_faults, sign_of,
     write_differences, write_faults,
@@ -43,15 +48,16 @@ pub(crate) struct RefusedStep<'a> {
     known: PlacedItems,
     place: Option<KnownPlace<'a>>,
     facts: StepFacts<'a>,
+    /// Changes with which its sum follows.
+    changes: Changes,
     profile: Profile,
 }
 
 /// What is behind the fault of a derivation.
 #[derive(Drop)]
 enum StepFacts<'a> {
-    /// The multipliers that mend some of the differences, and the right-hand side by `rnd`, if that
-    /// is enough.
-    Rows(Vec<Difference>, Vec<Mend>, Option<i128>),
+    /// And the right-hand side by `rnd`, if that is enough.
+    Rows(Vec<Difference>, Option<i128>),
     /// What keeps a sum from being whole.
     Sum(Vec<RowFault>),
     /// What keeps the row of two assumptions from being whole, and whether they are a split by the
@@ -65,12 +71,14 @@ impl<'a> RefusedStep<'a> {
     /// Reads the derivation that is refused, and what it names.
     pub(crate) fn find(subject: Subject<'a>, fault: StepFault<'_>) -> Reread<RefusedStep<'a>>
         ensures found { IfOk result
-            (IsRefusedStep subject.entry.text.now fault.entry.index fault.entry.what.now) }
+            (IsRefusedStep (profile_of subject.entry.profile) subject.entry.text.now
+            fault.entry.index fault.entry.what.now) }
         ensures missing { IfErr result
             (λ m. Because m (LacksStep subject.entry.text.now fault.entry.index)) }
     {
         let own = read_items(subject.alloc, subject.text, [fault.index].as_slice())?;
-        match read_named(subject, fault, &own) {
+        let changes = changes_for(subject, fault)?;
+        match read_named(subject, fault, &own, &changes) {
             Ok((known, facts)) => Ok(RefusedStep {
                 own,
                 place: mark_of(known.marks.as_slice(), fault.index).map(|mark| KnownPlace::of(
@@ -79,6 +87,7 @@ impl<'a> RefusedStep<'a> {
                 )),
                 known,
                 facts,
+                changes,
                 profile: subject.profile,
             }),
             Err(missing) => {
@@ -108,6 +117,7 @@ impl<'a> RefusedStep<'a> {
         write_labelled(page, problem, "  it states    ", &own.constraint);
         write_reason(page, &self.known, fault, &own.reason);
         write_facts(page, self, &own.reason, fault.what);
+        self.changes.write(page, &self.known.items, &own.reason);
         let count = problem.cons().len();
         if fault.cause == cause::NOT_EARLIER && count > 0 {
             write!(
@@ -115,7 +125,7 @@ impl<'a> RefusedStep<'a> {
                 "  = help: constraints count from 0: the problem has {count}, so the first \
                  derivation is {count}; is this line in front of one that it needs?\n"
             );
-        } else {
+        } else if self.changes.is_empty() {
             page.put(help_for(fault.cause));
         }
         if let StepFacts::Dropped(dropped) = &self.facts {
@@ -124,11 +134,26 @@ impl<'a> RefusedStep<'a> {
     }
 }
 
+// Changes with which a sum follows, if it is one that might.
+fn changes_for(subject: Subject<'_>, fault: StepFault<'_>) -> Reread<Changes>
+    ensures found { IfOk result (AreChanges (profile_of subject.entry.profile)
+        subject.entry.text.now fault.entry.index) }
+    ensures missing { IfErr result (λ m. m ≡ Memory) }
+{
+    match fault.cause {
+        cause::MIXED_SIGNS | cause::NOT_ROUNDABLE | cause::NOT_DOMINATED => {
+            Changes::find(subject, fault.index)
+        }
+        _ => Ok(Changes::none()),
+    }
+}
+
 // Reads what a derivation names, and finds what is behind its fault.
 fn read_named<'a>(
     subject: Subject<'a>,
     fault: StepFault<'_>,
     own: &Items,
+    changes: &Changes,
 ) -> Reread<(PlacedItems, StepFacts<'a>)>
     ensures found { IfOk result
         (AreNamedBy subject.entry.text.now own.now fault.entry.index fault.entry.what.now) }
@@ -139,7 +164,7 @@ fn read_named<'a>(
     let Some(step) = own.derivation(fault.index) else {
         return Err(TextError::Read);
     };
-    let wanted = step_indices(subject.alloc, fault, &step.reason)?;
+    let wanted = step_indices(subject.alloc, fault, &step.reason, changes)?;
     let known = PlacedItems::read(subject, wanted.as_slice())?;
     match StepFacts::find(subject, fault, &known, &step.reason) {
         Ok(facts) => Ok((known, facts)),
@@ -168,15 +193,8 @@ impl<'a> StepFacts<'a> {
         match fault.what {
             StepDetail::Rows { computed, stated } => {
                 let differences = row_differences(alloc, &computed.row, &stated.row)?;
-                let sum = StatedSum {
-                    items: &known.items,
-                    reason,
-                    computed,
-                    stated,
-                };
-                let mends = find_mends(alloc, sum, differences.as_slice())?;
                 let side = rounding_of(ints, reason, computed, stated);
-                Ok(StepFacts::Rows(differences, mends, side))
+                Ok(StepFacts::Rows(differences, side))
             }
             StepDetail::Sum(sum) => {
                 let faults = row_faults(alloc, ints, &sum.row)?;
@@ -210,6 +228,25 @@ fn rounding_of(
     }
 }
 
+// Whether the coefficients of a sum are the stated ones with the other sign, and so is its sense.
+fn is_turned(computed: &Constraint, stated: &Constraint, differences: &[Difference]) -> bool {
+    let is_other_way = matches!(
+        (computed.sense, stated.sense),
+        (Sense::G, Sense::L) | (Sense::L, Sense::G) | (Sense::E, Sense::E)
+    );
+    is_other_way
+        && !differences.is_empty()
+        && differences.len() == stated.row.entries().len()
+        && are_opposite(differences)
+}
+
+// Whether each stated coefficient is the computed one with the other sign.
+fn are_opposite(differences: &[Difference]) -> bool
+    ensures { IsTrue result ↔ All (λ d. d.stated ≡ neg_ℚ d.computed) differences.now }
+{
+    differences.iter().all(|difference| difference.stated == difference.computed.neg())
+}
+
 // What is said of a cause, in front of the number at fault and behind it.
 fn words_of(cause: u8) -> (&'static str, &'static str) {
     match cause {
@@ -230,7 +267,7 @@ fn write_facts(page: &mut Page, refused: &RefusedStep<'_>, reason: &Reason, what
     let items = &refused.known.items;
     let problem = &items.problem;
     match (what, &refused.facts) {
-        (StepDetail::Rows { computed, stated }, StepFacts::Rows(differences, mends, side)) => {
+        (StepDetail::Rows { computed, stated }, StepFacts::Rows(differences, side)) => {
             write_labelled(page, problem, "    computed   ", computed);
             write_labelled(page, problem, "    stated     ", stated);
             write_differences(page, problem, computed, stated, differences);
@@ -245,26 +282,31 @@ fn write_facts(page: &mut Page, refused: &RefusedStep<'_>, reason: &Reason, what
                     "  = help: `rnd` in place of `lin` rounds the right-hand side to {side}\n"
                 );
             }
-            let help = if let Reason::Sol = reason {
-                "  = help: state what was computed: `sol` gives the best listed value, and nothing \
-                 better\n"
-            } else if is_turned(computed, stated, differences) {
-                "  = help: each coefficient has the other sign: multiply all multipliers by -1\n"
-            } else {
-                for mend in mends {
-                    mend.write(page, items);
+            page.put(match reason.references() {
+                _ if side.is_some() || !refused.changes.is_empty() => "",
+                References::Nothing => {
+                    "  = help: is what was computed meant? `sol` gives the best listed value, and \
+                     nothing better\n"
                 }
-                "  = help: state what was computed, or mend the reason: a multiplier, which \
-                 constraints it names, or a number in one of them\n"
-            };
-            page.put(help);
+                References::Branches { .. } => {
+                    "  = help: is what was computed meant, or another constraint as the case?\n"
+                }
+                References::Entries(_) if is_turned(computed, stated, differences) => {
+                    "  = help: each coefficient has the other sign: has each multiplier the wrong \
+                     one?\n"
+                }
+                References::Entries(_) => {
+                    "  = help: is what was computed meant, or another multiplier, another \
+                     constraint, or another number in one of them?\n"
+                }
+            });
         }
         (StepDetail::Sum(sum), StepFacts::Sum(faults)) => {
             write_labelled(page, problem, "    sum        ", sum);
             write_faults(page, problem, faults);
             page.put(
-                "  = help: `lin` in place of `rnd` proves this sum as it is; or choose multipliers \
-                 with which all coefficients are whole\n",
+                "  = help: `lin` in place of `rnd` proves this sum as it is; a sum is rounded if \
+                 all coefficients are whole, and all its variables are integer ones\n",
             );
         }
         (StepDetail::Pair(first, second), StepFacts::Pair(faults, is_split)) => {
@@ -326,9 +368,8 @@ fn help_for(cause: u8) -> &'static str {
         }
         cause::MIXED_SIGNS => {
             "  = help: a sum that is >= takes positive multiples of >= and negative ones of <=, \
-             and a sum that is <= the other way round: change the sign of this multiplier; or is \
-             another constraint meant (bounds are counted, too), or is the sense of this one \
-             wrong?\n"
+             and a sum that is <= the other way round: is a sign wrong, or is another constraint \
+             meant (bounds are counted, too)?\n"
         }
         cause::OVERFLOW => PAST_LIMIT,
         cause::NO_SOLUTION => "  = help: list a solution in SOL, or give another reason\n",

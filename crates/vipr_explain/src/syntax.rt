@@ -95,10 +95,12 @@ impl<'a> TextFault<'a> {
         let progress = &self.found.progress;
         let fault = cause::name(cause);
         let (wanted, label) = if self.found.is_end {
-            (
-                "the text ends where this is wanted: ",
-                "the text ends behind this",
-            )
+            let label = if self.word.is_empty() {
+                "no token is here"
+            } else {
+                "the text ends behind this"
+            };
+            ("the text ends where this is wanted: ", label)
         } else {
             ("wanted ", "this was found")
         };

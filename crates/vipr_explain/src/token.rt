@@ -43,9 +43,22 @@ impl Look {
             _ if !matches!(number, [b'0'..=b'9' | b'.', ..]) => Look::Word,
             _ if number.contains(&b'/') => Look::Fraction,
             _ if number.contains(&b',') => Look::Comma,
-            _ if number.contains(&b'e') || number.contains(&b'E') => Look::Exponent,
+            _ if is_exponent(number) => Look::Exponent,
             _ => Look::Number,
         }
+    }
+}
+
+// Whether bytes are digits, with a point or without, a letter e, and an exponent.
+fn is_exponent(number: &[u8]) -> bool {
+    let mut parts = number.split(|byte| matches!(*byte, b'e' | b'E'));
+    match (parts.next(), parts.next(), parts.next()) {
+        (Some(front), Some([b'+' | b'-', size @ ..] | size), None) => {
+            front.iter().all(|byte| matches!(*byte, b'0'..=b'9' | b'.'))
+                && !size.is_empty()
+                && size.iter().all(|byte| byte.is_ascii_digit())
+        }
+        _ => false,
     }
 }
 

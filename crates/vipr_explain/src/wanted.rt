@@ -72,6 +72,13 @@ impl Section {
         KEYWORDS[self as usize]
     }
 
+    /// Whether this keyword is that of a section before it.
+    pub(crate) fn is_behind(self, keyword: &str) -> bool {
+        KEYWORDS[..self as usize]
+            .iter()
+            .any(|before| is_word(keyword.as_bytes(), before))
+    }
+
     /// What one of its items is, if it has any, and what it is without an item.
     pub(crate) fn words(self) -> (&'static str, &'static str) {
         match self {

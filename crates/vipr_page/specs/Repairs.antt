@@ -2,7 +2,7 @@
 use Rattle.std.specs.Prelude.{◌≡◌, ◌≢◌, ℕ, ℤ, Option, Some, None}
 use Rattle.vipr_spec.specs.Constraint.{Ints, Sense, equal, at, Constraint, Compares, IsWholeRow}
 use Rattle.vipr_spec.specs.Constraint.{RoundsTo}
-use Rattle.vipr_spec.specs.Fraction.{ℚ, whole, neg_ℚ, ◌+ℚ◌, ◌*ℚ◌}
+use Rattle.vipr_spec.specs.Fraction.{ℚ, whole}
 
 -- but for the right-hand side, the stated constraint is the computed one, which can be rounded
 pub record CanRound (integers : Ints) (computed stated : Constraint) : Type 0 where
@@ -22,9 +22,3 @@ IsRounded integers computed stated (Some k) = CanRound integers computed stated
     × RoundsInto computed.sense computed.bound stated.bound k
 IsRounded integers computed stated None = (k : ℤ) → CanRound integers computed stated
     → ¬ RoundsInto computed.sense computed.bound stated.bound k
-
--- with the multiplier k in place of another one, at a constraint that has this coefficient, the
--- coefficient of the sum is the stated one
-abbrev pub Mends : ℚ → ℚ → ℚ → ℚ → ℚ → Type 0
-Mends multiplier coefficient computed stated k =
-    computed +ℚ ((k +ℚ neg_ℚ multiplier) *ℚ coefficient) ≡ stated

@@ -15,5 +15,5 @@ pub use decimal::fraction_of;
 pub use differences::{Difference, row_differences, write_differences};
 pub use faults::{RowFault, row_faults, write_faults};
 pub use page::{Page, with_page};
-pub use repair::{mended, rounded};
+pub use repair::rounded;
 pub use stranger::StrangeBytes;

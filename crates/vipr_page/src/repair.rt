@@ -1,11 +1,11 @@
 //! How a derivation that doesn't follow from its reason can be repaired.
-ghost use Rattle.std.specs.Prelude.{◌≡◌, ◌≢◌, ◌≤◌, ◌↔◌, IfOk, IfSome, IsTrue, unsigned_abs};
+ghost use Rattle.std.specs.Prelude.{◌≡◌, ◌≢◌, ◌≤◌, ◌↔◌, IsTrue, unsigned_abs};
 ghost use Rattle.vipr_spec.specs.Constraint.{equal, RoundsTo};
-ghost use Rattle.vipr_spec.specs.Fraction.{most, neg_ℚ, whole, ◌+ℚ◌, ◌*ℚ◌};
+ghost use Rattle.vipr_spec.specs.Fraction.{most, whole};
 ghost use Rattle.vipr_linear.specs.Constraint.{constraint_of, sense_of};
-ghost use Rattle.vipr_page.specs.Repairs.{CanRound, IsRounded, Mends};
+ghost use Rattle.vipr_page.specs.Repairs.{CanRound, IsRounded};
 
-use vipr_frac::{Frac, Overflow};
+use vipr_frac::Frac;
 use vipr_linear::{Constraint, Ints, Sense, compares, is_whole_row};
 
 /// The right-hand side to which `rnd` rounds the computed constraint, if that is strong enough.
@@ -53,34 +53,4 @@ fn whole(k: i128) -> Frac
     ensures { result ≡ whole k }
 {
     Frac::new(k, 1).unwrap()
-}
-
-/// The multiplier that makes a coefficient of a sum what is stated, in place of the one that a
-/// constraint has; the constraint's own coefficient is `coefficient`.
-pub fn mended(multiplier: Frac, coefficient: Frac, computed: Frac, stated: Frac) -> Option<Frac>
-    ensures { IfSome result (λ k. Mends multiplier coefficient computed stated k) }
-{
-    let missing = stated.add(computed.neg()).ok()?;
-    let change = missing.mul(inverse(coefficient)?).ok()?;
-    let mended = multiplier.add(change).ok()?;
-    match mended_by(multiplier, coefficient, computed, mended) {
-        Ok(sum) if sum == stated => Some(mended),
-        _ => None,
-    }
-}
-
-// What a coefficient of a sum is with another multiplier.
-fn mended_by(old: Frac, coefficient: Frac, computed: Frac, new: Frac) -> Result<Frac, Overflow>
-    ensures { IfOk result (λ x. x ≡ computed +ℚ ((new +ℚ neg_ℚ old) *ℚ coefficient)) }
-{
-    computed.add(new.add(old.neg())?.mul(coefficient)?)
-}
-
-// 1 divided by a number.
-fn inverse(number: Frac) -> Option<Frac> {
-    if number.numer() < 0 {
-        Frac::new(-number.denom(), -number.numer()).ok()
-    } else {
-        Frac::new(number.denom(), number.numer()).ok()
-    }
 }

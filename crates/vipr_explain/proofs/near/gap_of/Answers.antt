@@ -5,4 +5,4 @@ use Rattle.vipr_explain.proofs.near.gap_of.Goals as goal
 
 pub returns-in-WholeBound : goal.returns-in-WholeBound
 returns-in-WholeBound c =
-    subst (λ t. MissesBy t (condition_of c.args.constraint.now) c.gap_between-in-WholeBound.result) (sym c.in-WholeBound.is) (c.rounded.result, c.rounded.ensures, c.gap_between-in-WholeBound.ensures)
+    subst (λ t. MissesBy t (condition_of c.args.constraint.now) c.gap_to-in-WholeBound.result) (sym c.in-WholeBound.is) (c.rounded.result, c.rounded.ensures, c.gap_to-in-WholeBound.ensures)

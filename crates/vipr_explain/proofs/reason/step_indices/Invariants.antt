@@ -7,3 +7,6 @@ invariant-loop-entry l = All (λ i. i ≤ l.fault.index) l.wanted.items
 
 abbrev pub invariant-loop-index : goal.invariant-loop-index
 invariant-loop-index l = All (λ i. i ≤ l.fault.index) l.wanted.items
+
+abbrev pub invariant-loop-change : goal.invariant-loop-change
+invariant-loop-change l = All (λ i. i ≤ l.fault.index) l.wanted.items

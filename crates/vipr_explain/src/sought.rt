@@ -1,0 +1,354 @@
+//! Changes of one entry of a sum that may mend it. Whether one does, the rule decides.
+ghost use Rattle.std.specs.Prelude.{◌≡◌, length};
+ghost use Rattle.vipr_spec.specs.Certificate.{variables};
+
+use crate::changes::Change;
+use crate::drops::has_entry;
+use crate::text::{Reread, Subject};
+use std::alloc::{AllocError, Global};
+use vipr_cert::{Derivation, Problem, Reason, References};
+use vipr_check::Table;
+use vipr_frac::Frac;
+use vipr_linear::{CombError, Combination, Constraint, Row, Sense, compares};
+use vipr_rules::Rows;
+use vipr_scan::TextError;
+
+/// How many pairs of an entry and a constraint are compared for another constraint, if a quarter of
+/// the text's bytes isn't more.
+const MOST_PAIRS: usize = 1_000_000;
+
+/// How many coefficients the rows have at most that other constraints are compared with, if a
+/// sixteenth of the text's bytes isn't more.
+const MOST_COEFFICIENTS: usize = 100_000;
+
+/// How many changes of a kind are tried.
+const MOST_TRIED: usize = 8;
+
+/// A derivation that is a sum, and what is before it.
+#[derive(Clone, Copy)]
+pub(crate) struct Sum<'a> {
+    pub(crate) subject: Subject<'a>,
+    pub(crate) problem: &'a Problem,
+    pub(crate) rows: &'a Table,
+    pub(crate) step: &'a Derivation,
+}
+
+/// Changes of each kind, the likely ones first.
+#[derive(Drop)]
+pub(crate) struct Candidates {
+    pub(crate) multipliers: Vec<Change>,
+    pub(crate) exchanges: Vec<Change>,
+    pub(crate) additions: Vec<Change>,
+}
+
+// Changes with what each is ranked by, the least first.
+#[derive(Drop)]
+struct Ranking(Vec<(u64, Change)>);
+
+// An entry, and the constraint that would be right in its place with its multiplier.
+#[derive(Drop)]
+struct Replacement {
+    position: usize,
+    index: u32,
+    multiplier: Frac,
+    wanted: Constraint,
+}
+
+impl Candidates {
+    /// Finds changes with which the rows are the same, and the sides look so.
+    pub(crate) fn find(sum: Sum<'_>, scratch: &mut Combination) -> Reread<Candidates>
+        requires { length scratch.old.sums ≡ variables sum.problem.now }
+        ensures { length scratch.new.sums ≡ length scratch.old.sums }
+    {
+        let mut found = Candidates {
+            multipliers: Vec::new(sum.subject.alloc),
+            exchanges: Vec::new(sum.subject.alloc),
+            additions: Vec::new(sum.subject.alloc),
+        };
+        let References::Entries(entries) = sum.step.reason.references() else {
+            return Ok(found);
+        };
+        let Some(missing) = missing_of(sum, entries, scratch)? else {
+            return Ok(found);
+        };
+        found.multipliers = other_multipliers(sum, entries, &missing)?;
+        let replacements = replacements(sum, entries, &missing, scratch)?;
+        let (exchanges, additions) = among_all(sum, entries, &missing, replacements.as_slice())?;
+        found.exchanges = exchanges;
+        found.additions = additions;
+        Ok(found)
+    }
+}
+
+impl Ranking {
+    // Keeps a change at its place among the first ones.
+    fn add(&mut self, rank: u64, change: Change) -> Result<(), AllocError> {
+        let place = self.0.iter().take_while(|known| known.0 <= rank).count();
+        let place = place.min(self.0.len());
+        self.0.insert(place, (rank, change))?;
+        self.0.truncate(MOST_TRIED);
+        Ok(())
+    }
+
+    // The changes in their order.
+    fn changes(self, alloc: Global) -> Result<Vec<Change>, AllocError> {
+        let mut changes = Vec::new(alloc);
+        for known in &self.0 {
+            changes.push(known.1)?;
+        }
+        Ok(changes)
+    }
+}
+
+// What is stated less the sum of these entries, whatever their senses; none past the limit.
+fn missing_of(
+    sum: Sum<'_>,
+    entries: &[(u32, Frac)],
+    scratch: &mut Combination,
+) -> Reread<Option<Constraint>>
+    requires { length scratch.old.sums ≡ variables sum.problem.now }
+    ensures { length scratch.new.sums ≡ length scratch.old.sums }
+{
+    scratch.clear();
+    add_both_sides(sum, scratch, &sum.step.constraint, Frac::one())?;
+    for entry in entries {
+        if let Some(constraint) = constraint_at(sum, entry.0) {
+            add_both_sides(sum, scratch, constraint, entry.1.neg())?;
+        }
+    }
+    finished(sum.subject.alloc, scratch)
+}
+
+// Adds the multiple of a constraint as if it were an equation.
+fn add_both_sides(
+    sum: Sum<'_>,
+    scratch: &mut Combination,
+    constraint: &Constraint,
+    multiplier: Frac,
+) -> Result<(), AllocError>
+    requires { length scratch.old.sums ≡ variables sum.problem.now }
+    ensures { length scratch.new.sums ≡ length scratch.old.sums }
+{
+    if constraint.row.names_below(sum.problem.names().len() as u32) {
+        let equation = Constraint {
+            row: constraint.row.clone()?,
+            sense: Sense::E,
+            rhs: constraint.rhs,
+        };
+        let _ = scratch.add(&equation, multiplier);
+        drop(equation);
+    }
+    Ok(())
+}
+
+// The sum that was added up, none past the limit.
+fn finished(alloc: Global, scratch: &mut Combination) -> Reread<Option<Constraint>>
+    ensures { length scratch.new.sums ≡ length scratch.old.sums }
+{
+    match scratch.finish(alloc) {
+        Ok(sum) => Ok(Some(sum)),
+        Err(CombError::Memory) => Err(TextError::Memory),
+        Err(_) => Ok(None),
+    }
+}
+
+// The constraint of an index that a sum may have.
+fn constraint_at(sum: Sum<'_>, index: u32) -> Option<&Constraint> {
+    match sum.problem.cons().get(index as usize) {
+        Some(named) => Some(&named.item),
+        None => Some(&sum.rows.get(index)?.constraint),
+    }
+}
+
+// Other multipliers of the entries: that with the other sign comes first.
+fn other_multipliers(
+    sum: Sum<'_>,
+    entries: &[(u32, Frac)],
+    missing: &Constraint,
+) -> Reread<Vec<Change>> {
+    let mut ranking = Ranking(Vec::new(sum.subject.alloc));
+    for (position, entry) in entries.iter().enumerate() {
+        let (index, present) = *entry;
+        if let Some(constraint) = constraint_at(sum, index) {
+            if let Some((factor, off)) = factor_for(constraint, missing) {
+                if let (Some(rank), Ok(multiplier)) = (rank_of(sum, off), present.add(factor)) {
+                    let is_turned = multiplier == present.neg();
+                    let change = Change {
+                        position,
+                        index,
+                        multiplier,
+                    };
+                    ranking.add(if is_turned { 0 } else { rank }, change)?;
+                }
+            }
+        }
+    }
+    Ok(ranking.changes(sum.subject.alloc)?)
+}
+
+// For each entry the constraint that would be right in its place.
+fn replacements(
+    sum: Sum<'_>,
+    entries: &[(u32, Frac)],
+    missing: &Constraint,
+    scratch: &mut Combination,
+) -> Reread<Vec<Replacement>>
+    requires { length scratch.old.sums ≡ variables sum.problem.now }
+    ensures { length scratch.new.sums ≡ length scratch.old.sums }
+{
+    let bytes = sum.subject.text.len();
+    let pairs = MOST_PAIRS.max(bytes / 4);
+    let coefficients = MOST_COEFFICIENTS.max(bytes / 16);
+    let most = pairs / (sum.rows.next() as usize).max(1);
+    let mut found = Vec::new(sum.subject.alloc);
+    let mut size: usize = 0;
+    for (position, entry) in entries.iter().take(most).enumerate() {
+        let (index, multiplier) = *entry;
+        let wanted = wanted_at(sum, missing, scratch, index, multiplier)?;
+        if let Some(wanted) = wanted {
+            size = size.saturating_add(wanted.row.entries().len());
+            found.push(Replacement {
+                position,
+                index,
+                multiplier,
+                wanted,
+            })?;
+        }
+        if size > coefficients {
+            break;
+        }
+    }
+    Ok(found)
+}
+
+// The constraint that would be right in the place of this one, with its multiplier.
+fn wanted_at(
+    sum: Sum<'_>,
+    missing: &Constraint,
+    scratch: &mut Combination,
+    index: u32,
+    multiplier: Frac,
+) -> Reread<Option<Constraint>>
+    requires { length scratch.old.sums ≡ variables sum.problem.now }
+    ensures { length scratch.new.sums ≡ length scratch.old.sums }
+{
+    let (Some(constraint), Some(factor)) = (constraint_at(sum, index), inverse(multiplier)) else {
+        return Ok(None);
+    };
+    scratch.clear();
+    add_both_sides(sum, scratch, missing, factor)?;
+    add_both_sides(sum, scratch, constraint, Frac::one())?;
+    finished(sum.subject.alloc, scratch)
+}
+
+// Other constraints in the place of an entry, the nearest ones first, and those for one more entry.
+fn among_all(
+    sum: Sum<'_>,
+    entries: &[(u32, Frac)],
+    missing: &Constraint,
+    replacements: &[Replacement],
+) -> Reread<(Vec<Change>, Vec<Change>)> {
+    let mut exchanges = Ranking(Vec::new(sum.subject.alloc));
+    let mut additions = Ranking(Vec::new(sum.subject.alloc));
+    for index in 0..sum.rows.next() {
+        if let Some(constraint) = constraint_at(sum, index) {
+            for replacement in replacements {
+                add_exchange(&mut exchanges, sum, index, constraint, replacement)?;
+            }
+            if let Some((multiplier, off)) = factor_for(constraint, missing) {
+                if let (Some(rank), false) = (rank_of(sum, off), has_entry(entries, index)) {
+                    let change = Change {
+                        position: entries.len(),
+                        index,
+                        multiplier,
+                    };
+                    additions.add(rank, change)?;
+                }
+            }
+        }
+    }
+    Ok((
+        exchanges.changes(sum.subject.alloc)?,
+        additions.changes(sum.subject.alloc)?,
+    ))
+}
+
+// Adds a constraint in the place of an entry, if it has the row that is wanted there.
+fn add_exchange(
+    exchanges: &mut Ranking,
+    sum: Sum<'_>,
+    index: u32,
+    constraint: &Constraint,
+    replacement: &Replacement,
+) -> Result<(), AllocError> {
+    let wanted = &replacement.wanted;
+    if index == replacement.index || !constraint.row.is_same(&wanted.row) {
+        return Ok(());
+    }
+    let multiplier = replacement.multiplier;
+    let Some(off) = product_of_gap(multiplier, constraint.rhs, wanted.rhs) else {
+        return Ok(());
+    };
+    if let Some(rank) = rank_of(sum, off) {
+        let distance = u64::from(index.abs_diff(replacement.index));
+        let change = Change {
+            position: replacement.position,
+            index,
+            multiplier,
+        };
+        exchanges.add(rank.saturating_add(distance), change)?;
+    }
+    Ok(())
+}
+
+// The difference of two sides times a multiplier, if that fits.
+fn product_of_gap(multiplier: Frac, side: Frac, other: Frac) -> Option<Frac> {
+    let gap = side.add(other.neg()).ok()?;
+    multiplier.mul(gap).ok()
+}
+
+// The factor with which a constraint's row is what a sum lacks, and how far the side of the sum is
+// behind the stated one then.
+fn factor_for(constraint: &Constraint, missing: &Constraint) -> Option<(Frac, Frac)> {
+    let factor = factor_between(&constraint.row, &missing.row)?;
+    let side = factor.mul(constraint.rhs).ok()?;
+    Some((factor, side.add(missing.rhs.neg()).ok()?))
+}
+
+// The number by which a row has to be multiplied for another one that isn't empty.
+fn factor_between(row: &Row, other: &Row) -> Option<Frac> {
+    let (given, wanted) = (row.entries(), other.entries());
+    if given.len() != wanted.len() {
+        return None;
+    }
+    let factor = wanted.first()?.1.mul(inverse(given.first()?.1)?).ok()?;
+    for (entry, wanted) in given.iter().zip(wanted) {
+        if entry.0 != wanted.0 || entry.1.mul(factor).ok() != Some(wanted.1) {
+            return None;
+        }
+    }
+    Some(factor)
+}
+
+// 1 divided by a number.
+fn inverse(number: Frac) -> Option<Frac> {
+    if number.numer() < 0 {
+        Frac::new(-number.denom(), -number.numer()).ok()
+    } else {
+        Frac::new(number.denom(), number.numer()).ok()
+    }
+}
+
+// How likely a change is whose side is so far from the stated one: less is likelier, and none is no
+// change.
+fn rank_of(sum: Sum<'_>, off: Frac) -> Option<u64> {
+    let stated = &sum.step.constraint;
+    let is_enough = stated.is_absurd()
+        || match (&sum.step.reason, stated.sense) {
+            (_, Sense::E) => off.is_zero(),
+            (Reason::Rnd(_), Sense::G) => compares(Sense::G, off, Frac::one().neg()),
+            (Reason::Rnd(_), Sense::L) => compares(Sense::L, off, Frac::one()),
+            (_, sense) => compares(sense, off, Frac::zero()),
+        };
+    is_enough.then_some(if off.is_zero() { 1 } else { 1 << 32 })
+}
