@@ -1,14 +1,15 @@
 #!/usr/bin/env python3
 """The theorem in a second prover: builds the checker of rocq/, and compares its verdicts with those of `vipr check`.
 
-usage: tests/second.py [--texts N] [--seed S] [--wrong] [PROGRAM]     2,000 texts, seed 1 and crates/vipr/out/vipr without them
+usage: tests/second.py [--texts N] [--seed S] [--wrong] [PROGRAM]
+Without them it is 2,000 texts, seed 1 and crates/vipr/out/vipr.
 
 `make rocq` proves the files of rocq/ and builds rocq/vipr-rocq. Rocq has to say of each theorem that it rests on no axiom.
 Then both programs are given the same texts, by both profiles: each example, and beginnings of it that end at a line; the
 cases of conformance/, as conformance/run.py finds; a text of each family of bench/families.py; and N texts that are examples with
 parts damaged, or with one number, sense or last reference changed. A text has to be verified by both, or refused by both.
 
---wrong tries wrong versions of the checker's tests in place of that: the prover has to refuse each.
+--wrong tries wrong versions of the checker's tests in place of that: the prover has to refuse each, and a line says where.
 
 Prints each text on which the two differ, and last `second: N checks, F failed`. The exit status is 1 if one failed.
 Without coqc and zarith nothing is tried, and a line says so.
@@ -39,14 +40,16 @@ LIMIT = 2**127 - 1
 WRONG = {
     'sign of L in a sum': ('match sense (what s) with L => - snd e |', 'match sense (what s) with L => snd e |'),
     'floor for ceiling': ('(Qceiling (side_ a))) d', '(Qfloor (side_ a))) d'),
-    'an assumption kept out of the wrong branch': ('remove (N.succ_pos l1) (rests c1)', 'remove (N.succ_pos l2) (rests c1)'),
+    'an assumption kept out of the wrong branch': ('without l1 c1', 'without l2 c1'),
     'cutoff by the worst solution': ('if better p v w then v else w', 'if better p v w then w else v'),
     'a split with a gap': ('Qeq_bool high (low + 1)', 'Qle_bool (low + 1) high'),
-    'an equation rounded': ('| E => negb (is_whole (side_ a)) || dominates a d', '| E => dominates (with_side a (Qfloor (side_ a))) d'),
+    'an equation rounded': (
+        '| E => negb (is_whole (side_ a)) || dominates a d', '| E => dominates (with_side a (Qfloor (side_ a))) d'),
     'a goal with assumptions': ('found t || PositiveSet.is_empty (rests s) && goals e a', 'found t || goals e a'),
     'a fractional coefficient rounded': ('(is_zero q || i && is_whole q)', '(is_zero q || i)'),
     'an integer variable left out': ('(integers p) PositiveSet.empty in', '(tl (integers p)) PositiveSet.empty in'),
-    'a dropped reference used': ('if live (next t) s then Some s else None | None => None end.', 'Some s | None => None end.'),
+    'a dropped reference used': (
+        'if live (next t) s then Some s else None | None => None end.', 'Some s | None => None end.'),
 }
 
 
