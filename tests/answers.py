@@ -18,7 +18,7 @@ import sys
 import tempfile
 from pathlib import Path
 
-from texts import TOP, Checks, fed, program
+from texts import TOP, Checks, fed, program, run
 from plain_check import readable
 from run import cases
 
@@ -405,6 +405,28 @@ def other_words():
                 expect('what cannot be read', (b'', b'fault read\n', 3), [command, *options, path], certificate('infeasible'))
 
 
+def all_options():
+    """Each command with all its options: a refusal, and a fault of FILE and of what is written."""
+    read, missing = written(edited('both_branches', '} 6\nf', '} 5\nf')), new_path()
+    early, proof = written(b'VEX'), written(certificate('cutoff_loose'))
+    out = written(b'as it was')
+    for command, *options in (['check', '--profile', '2', '--sum'], ['explain', '--profile=2', '--long', '--sum'],
+                              ['explain', '--long', '--sum', '--profile', '2'], ['show', '--compact'],
+                              ['tighten', '--profile', '2', '--compact', '--out', out], ['tighten', '--compact', '--profile=2', '-o', out]):
+        what = f'vipr {command} {" ".join(options)}'
+        for file, line in (early, b'refused 2 at byte 0\n'), *([] if command == 'show' else [(read, b'refused 32 at DER 6\n')]):
+            got = answer([command, file, *options])
+            printed = got.stderr if command in ('show', 'tighten') else got.stdout
+            check(got.returncode == 1 and printed.startswith(line), f'{what} of a refused text: {got!r:.400}')
+        got = answer([command, *options, missing])
+        check(got.returncode == 3 and not got.stdout and got.stderr.endswith(b'fault read\n'), f'{what} of no file: {got!r:.400}')
+        words = [command, *(it if it != out else '/' for it in options), proof]
+        with open('/dev/full', 'wb') as full:
+            got = run([PROGRAM, *words], stdout=full)
+        check(got == (None, b'fault write after 0\n', 3), f'{what} with no room: {got!r:.400}')
+        check(Path(out).read_bytes() == b'as it was', f'{what}: another text in OUT')
+
+
 def done(task):
     """Does a task in a process of its own, and gives how many checks it made, and how many failed."""
     CHECKS.count = CHECKS.failed = 0
@@ -420,7 +442,7 @@ def main():
     tasks += [(shows, *row) for row in shown_texts()]
     tasks += [(words_are_read, *row) for row in FILES]
     tasks += [(words_are_wrong, *row) for row in WRONG]
-    tasks += [(files_stay,), (other_words,)]
+    tasks += [(files_stay,), (other_words,), (all_options,)]
     with multiprocessing.get_context('fork').Pool(os.cpu_count()) as pool:
         for count, failed in pool.imap_unordered(done, tasks):
             CHECKS.count += count

@@ -8,6 +8,8 @@ text is cut off or memory is said to be wanted. Every answer is known beforehand
 
 Prints each fault, and last `large: N runs, F failed`; the exit status is 1 if one failed.
 """
+import random
+import shutil
 import subprocess
 import sys
 import tempfile
@@ -19,7 +21,7 @@ PROGRAM = program(sys.argv[1:])
 SECONDS = 300
 # the largest number
 M = 2**127 - 1
-SPARSE_BYTES = 3 << 30
+LONG_BYTES = 5 << 30
 WIDE = 2000
 CHECKS = Checks('large', 'runs')
 
@@ -104,19 +106,20 @@ def of_wide_rows():
 
 
 def of_many_bytes(room):
-    """A comment of three gigabytes in front of a proof, as FILE and, with a token behind the end, as standard input."""
+    """A comment of five gigabytes in front of a proof, as FILE and, with a token behind the end, from a pipe."""
     proof = (TOP / 'examples/infeasible.vipr').read_bytes()
-    path = room / 'sparse'
+    path, end = room / 'sparse', room / 'end'
     with path.open('wb') as file:
         file.write(b'%')
-        file.seek(SPARSE_BYTES)
+        file.seek(LONG_BYTES)
         file.write(b'\n' + proof)
     expect('a long comment', verdict('verified infeas\nsolutions 0 derived 1 peak 1'), ['check', path])
-    with path.open('ab') as file:
-        file.write(b'x')
-    with path.open('rb') as file:
-        expect('a token behind a long text', verdict(f'refused 18 at byte {SPARSE_BYTES + 1 + len(proof)}'), ['check'],
-               stdin=file)
+    end.write_bytes(b'\n' + proof + b'x')
+    words = ['sh', '-c', f'printf %%; head -c {LONG_BYTES - 1} /dev/zero; cat "$0"', end]
+    with subprocess.Popen(words, stdout=subprocess.PIPE) as stream:
+        expect('a token behind a long text', verdict(f'refused 18 at byte {LONG_BYTES + 1 + len(proof)}'), ['check'],
+               stdin=stream.stdout)
+        stream.stdout.close()
 
 
 def of_its_digest(room):
@@ -143,6 +146,22 @@ def of_one_name(room):
         expect('a file beside another', lines, ['check', path])
         path.unlink()
         expect('a file that is not there', (b'', b'fault read\n', 3), ['check', path])
+    beside_beginnings(room / 'beginnings', proof, other)
+
+
+def beside_beginnings(room, proof, other):
+    """FILE beside a file of each of its name's beginnings: names that programs give to copies, and names at random."""
+    dice = random.Random(16)
+    names = [f'plan.vipr{end}' for end in ('.orig', '.bak', '~', '.old', '.new', '.tmp', '.save', '.part', '.swp', '.gz', '.1')]
+    names += [''.join(dice.choices('abz.-_~ 019', k=dice.randrange(2, 12))) + 'v' for _ in range(20)]
+    for name in names:
+        room.mkdir()
+        for beginning in {name[:at] for at in range(1, len(name))} - {'.', '..'}:
+            (room / beginning).write_bytes(other)
+        expect('a beginning of it alone', (b'', b'fault read\n', 3), ['check', room / name])
+        (room / name).write_bytes(proof)
+        expect('a file beside its beginnings', verdict('verified infeas\nsolutions 0 derived 1 peak 1'), ['check', room / name])
+        shutil.rmtree(room)
 
 
 def main():

@@ -173,6 +173,22 @@ def large():
     expect('a large text is tightened', whole[1:], (kept, 0))
     expect('a large text to OUT', run(['tighten', file, '--out', folder / 'out']), (b'', kept, 0))
     expect('a large text to OUT: its text', (folder / 'out').read_bytes() == whole[0], True)
+    limit, printed = 1_500_000, folder / 'printed'
+    with printed.open('wb') as stream:
+        got = run(['tighten', file], b'', file_limit(limit), stdout=stream)
+    expect('a large text to a file that is limited', got[1:], (b'fault write after %d\n' % limit, 3))
+    expect('a large text to a file that is limited: it', printed.read_bytes() == whole[0][:limit], True)
+    long_names()
+
+
+def long_names():
+    """OUT of 40 MB, of a thousand names of 40 kB."""
+    folder, file = fresh(many(1000).replace(b'\nd', b'\n' + b'n' * 40_000 + b'd'))
+    kept, tight = b'kept 1001 removed 1 peak 1002 1\n', run(['tighten', file])[0]
+    expect('a text with long names is tightened', run(['check'], tight), (b'verified infeas\nsolutions 0 derived 1001 peak 1\n', b'', 0))
+    for out in folder / 'out', file:
+        expect('a text with long names to OUT', run(['tighten', file, '--out', out]), (b'', kept, 0))
+        expect('a text with long names to OUT: its text', (out.read_bytes() == tight, len(tight) > 40_000_000), (True, True))
 
 
 def small_stack():
@@ -298,6 +314,12 @@ def links():
     (folder / 'loose').symlink_to('nothing')
     expect('OUT leads nowhere', run(['tighten', '--out', folder / 'loose'], LOOSE), (b'', KEPT, 0))
     expect('what it made', ((folder / 'nothing').read_bytes(), (folder / 'loose').is_symlink()), (TIGHT, True))
+    first = 'loose'
+    for name in 'abcdefgh':
+        (folder / name).symlink_to(first)
+        first = name
+    expect('OUT by many links', run(['tighten', '--out', folder / first], LOOSE), (b'', KEPT, 0))
+    expect('OUT by many links: it', ((folder / 'nothing').read_bytes(), (folder / first).is_symlink()), (TIGHT, True))
     (folder / 'ring').symlink_to('ring')
     expect('OUT is a ring', run(['tighten', '--out', folder / 'ring'], LOOSE), (b'', NOT_WRITTEN, 3))
     file.write_bytes(LOOSE)
@@ -574,11 +596,14 @@ def failing_calls(text, tight, kept):
             ('fsync', ('EINVAL', 'ENOSYS', 'EOPNOTSUPP'), done, tight)):
         for error in errors:
             file.write_bytes(text)
+            file.chmod(0o640)
             name, _, when = call.partition(':')
             inject = f'inject={name}:error={error}{":" + when if when else ""}'
             got, _ = traced(['tighten', file, '--out', file], '-e', f'trace={name}', '-e', inject)
             expect(f'{inject} of {len(text)} bytes', got, wanted)
-            expect(f'{inject} of {len(text)} bytes: OUT', (file.read_bytes() == after, names(folder)), (True, ['a.vipr']))
+            mode = 0o600 if name == 'fchmod' else 0o640
+            expect(f'{inject} of {len(text)} bytes: OUT', (file.read_bytes() == after, stat.S_IMODE(file.stat().st_mode), names(folder)),
+                   (True, mode, ['a.vipr']))
     file.write_bytes(text)
     out = folder / 'out'
     for call, wanted, after in (('fsync:error=ENOSPC:when=1', all_written, None), ('link:error=EPERM', done, tight),
