@@ -5,11 +5,12 @@ usage: tests/python.py [PROGRAM]     crates/vipr/out/vipr without it
 
 - The package is installed from a copy of python/ into a folder, without a network, if this Python has pip; else its commands
   are run from python/ itself, with a word.
-- The reader answers as `vipr show`: on the examples, on damaged texts, and on texts of 4 MB.
+- The reader answers as `vipr show`: on the examples, on damaged texts, on numbers with signs, and on texts of 4 MB.
 - Texts in any buffer are taken; mypy and ruff find nothing, if they are installed.
 - The calls give what the program prints, if `make lib` built the library here; else they are left out, with a word.
 - compare-mps gives the lines of tests/mps_changes.py for changes of one MPS file and one certificate; it finds each example
-  the same as an MPS file that is made of it; on random pairs it answers as a loop over all pairs of conditions does.
+  the same as an MPS file that is made of it; on random pairs it answers as a loop over all pairs of conditions does. A
+  packed file that is cut is status 3.
 - stats gives the goal of `vipr explain`, and as many needed derivations as `vipr tighten` keeps.
 - picture writes well-formed XML, with a box for each derivation, and the page's picture is as it is in docs/.
 - Short texts that stand for long rows or large sets of assumptions are read within limits of memory and processor time.
@@ -17,11 +18,14 @@ usage: tests/python.py [PROGRAM]     crates/vipr/out/vipr without it
 
 Prints each fault, and last `python: N checks, F failed`; the exit status is 1 if one failed.
 """
+import bz2
 import functools
 import gzip
 import hashlib
 import importlib.util
+import itertools
 import json
+import lzma
 import mmap
 import os
 import random
@@ -110,12 +114,21 @@ def agrees(text, what):
     return got
 
 
+def signed():
+    """Texts with a sign or zeros before one of their numbers."""
+    for name in 'both_branches', 'rounding_min':
+        text = EXAMPLES[TOP / f'examples/{name}.vipr']
+        for token, sign in itertools.product(re.finditer(rb'\b\d', text), (b'+', b'-', b'00')):
+            at = token.start()
+            yield f'{name} with {sign.decode()} at {at}', text[:at] + sign + text[at:]
+
+
 def reader(dice):
     texts = [(path.name, text) for path, text in EXAMPLES.items()]
     texts += [(f'{path.name} damaged', damaged(text, dice)) for path, text in EXAMPLES.items()
               for _ in range(20 if len(text) < 5000 else 2)]
     with ThreadPoolExecutor(4) as pool:
-        list(pool.map(lambda it: agrees(it[1], it[0]), texts))
+        list(pool.map(lambda it: agrees(it[1], it[0]), [*texts, *signed()]))
     return [text for _, text in texts]
 
 
@@ -367,6 +380,27 @@ def sides():
         check(status == 1 and lines[0].startswith(f'refused {cause} at line'), f'{bounds} {options}: {lines}')
 
 
+def many_rows():
+    """A file of 40 rows, of which each other one has no right-hand side, while the objective has one, and a row of type N
+    at their end."""
+    rows = range(40)
+    model = ['NAME', 'ROWS', ' N obj', *(f' G r{at}' for at in rows), ' N free', 'COLUMNS', ' x obj 1 free 2',
+             *(f' x r{at} {at + 2}' for at in rows), 'RHS', ' obj 7 free 8', *(f' r{at} {at + 1}' for at in rows[::2]), 'ENDATA', '']
+    conditions = ' '.join(f'c G {0 if at % 2 else at + 1} 1 0 {at + 2}' for at in rows)
+    text = f'VER 1.0 VAR 1 x INT 0 OBJ min 1 0 1 CON 41 0 {conditions} b G 0 1 0 1 RTP range -inf 3 SOL 0 DER 0'
+    answer = compare_mps.compared('\n'.join(model).encode(), text.encode())
+    check(answer == (0, ['problem range -inf 3', 'constant 7']), f'many rows: {answer}')
+
+
+def turned_claims():
+    """The claim about the negative objective has the other side's negative on each side."""
+    for lower, upper in (1, 2), (-3, 5), (None, 2), (1, None), (None, None):
+        got = vipr.Claim(False, lower, upper).turned()
+        wanted = None if upper is None else -upper, None if lower is None else -lower
+        check((got.infeasible, got.lower, got.upper) == (False, *wanted), f'{lower} {upper} turned: {got}')
+    check(vipr.Claim(True).turned() == vipr.Claim(True), 'infeas turned')
+
+
 def figures():
     for path, text in {**EXAMPLES, 'no goal': NO_GOAL}.items():
         out, _, status = run([PROGRAM, 'explain'], text)
@@ -526,9 +560,26 @@ def commands(room, words):
     check(json.loads(out)['goal'] == 6, out)
     _, fault, status = run([*words['picture'], example, '-o', room / 'no/picture.svg'])
     check(status == 3 and b'No such file' in fault, fault)
-    (room / 'cut.mps.gz').write_bytes(model.read_bytes()[:60])
-    _, fault, status = run([*words['compare-mps'], room / 'cut.mps.gz', example])
-    check(status == 3 and b'not unpacked' in fault, fault)
+    packed(room, words['compare-mps'], model, example)
+
+
+def packed(room, words, model, example):
+    """A packed file is unpacked, and one that is cut isn't read as far as it goes."""
+    text = gzip.decompress(model.read_bytes()) + b'*' + b'a line that counts for nothing\n* ' * 10_000
+    pack = {'gz': gzip.compress, 'bz2': bz2.compress, 'xz': lzma.compress}
+    if shutil.which('zstd'):
+        pack['zst'] = lambda text: run(['zstd', '-cq'], text).stdout
+    else:
+        print('python: zstd is not here, and .zst is left out')
+    for suffix, packer in pack.items():
+        path, whole = room / f'packed.mps.{suffix}', packer(text)
+        path.write_bytes(whole)
+        out, fault, status = run([*words, path, example])
+        check((status, out) == (0, b'problem range 1 1\n'), f'.{suffix}: {status} {out} {fault}')
+        for size in 20, len(whole) // 2, len(whole) - 1:
+            path.write_bytes(whole[:size])
+            out, fault, status = run([*words, path, example])
+            check((status, out) == (3, b'') and b'not unpacked' in fault, f'.{suffix} of {size} bytes: {status} {out} {fault}')
 
 
 def checked(room, words):
@@ -581,6 +632,8 @@ def main():
         causes()
         comparisons(dice)
         sides()
+        many_rows()
+        turned_claims()
         figures()
         sets_of_assumptions(dice)
         pictures(texts)

@@ -27,7 +27,7 @@ def read_file(name: str) -> bytes:
     unpack = UNPACKERS.get(Path(name).suffix)
     try:
         return unpack(text) if unpack else text
-    except (EOFError, zlib.error, lzma.LZMAError, OSError, subprocess.CalledProcessError) as fault:
+    except (EOFError, ValueError, zlib.error, lzma.LZMAError, OSError, subprocess.CalledProcessError) as fault:
         raise OSError(None, f'not unpacked: {fault}', name) from fault
 
 
