@@ -149,6 +149,17 @@ def of_one_name(room):
     beside_beginnings(room / 'beginnings', proof, other)
 
 
+def of_long_names(room):
+    """OUT of 40 MB, of a thousand names of 40 kB, new and FILE itself."""
+    text, kept = many(1, 0, 1000, True)
+    text = text.replace(b'\nf', b'\n' + b'f' * 40_000)
+    path, out = room / 'named', room / 'out'
+    path.write_bytes(text)
+    for target in out, path:
+        expect('long names', (b'', b'kept %d removed 0 peak 1000 1000\n' % kept, 0), ['tighten', path, '--out', target])
+        CHECKS.expect(f'a text with long names in {target.name}', target.read_bytes() == text, True)
+
+
 def beside_beginnings(room, proof, other):
     """FILE beside a file of each of its name's beginnings: names that programs give to copies, and names at random."""
     dice = random.Random(16)
@@ -169,6 +180,7 @@ def main():
     of_many_items()
     with tempfile.TemporaryDirectory(prefix='vipr-large-') as room:
         of_one_name(Path(room))
+        of_long_names(Path(room))
         of_many_bytes(Path(room))
         of_its_digest(Path(room))
     return CHECKS.end(f', {spent():.0f} seconds of processor time')

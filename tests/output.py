@@ -20,7 +20,9 @@ Prints each run that answers something else, and last `output: N runs, F failed`
 small file system of its own, a user without rights, strace) is skipped, and a line says so. The exit status is 1
 if a run failed.
 """
+import contextlib
 import fcntl
+import functools
 import itertools
 import os
 import re
@@ -176,19 +178,8 @@ def large():
     limit, printed = 1_500_000, folder / 'printed'
     with printed.open('wb') as stream:
         got = run(['tighten', file], b'', file_limit(limit), stdout=stream)
-    expect('a large text to a file that is limited', got[1:], (b'fault write after %d\n' % limit, 3))
-    expect('a large text to a file that is limited: it', printed.read_bytes() == whole[0][:limit], True)
-    long_names()
-
-
-def long_names():
-    """OUT of 40 MB, of a thousand names of 40 kB."""
-    folder, file = fresh(many(1000).replace(b'\nd', b'\n' + b'n' * 40_000 + b'd'))
-    kept, tight = b'kept 1001 removed 1 peak 1002 1\n', run(['tighten', file])[0]
-    expect('a text with long names is tightened', run(['check'], tight), (b'verified infeas\nsolutions 0 derived 1001 peak 1\n', b'', 0))
-    for out in folder / 'out', file:
-        expect('a text with long names to OUT', run(['tighten', file, '--out', out]), (b'', kept, 0))
-        expect('a text with long names to OUT: its text', (out.read_bytes() == tight, len(tight) > 40_000_000), (True, True))
+    expect('a large text to a file that is limited', (*got[1:], printed.read_bytes() == whole[0][:limit]),
+           (b'fault write after %d\n' % limit, 3, True))
 
 
 def small_stack():
@@ -202,26 +193,30 @@ def small_stack():
         expect('tighten to OUT with a small stack', (got, out.read_bytes()), ((b'', KEPT, 0), TIGHT))
 
 
+@contextlib.contextmanager
+def mount(point, *options):
+    """A mount point for as long as it is needed, and whether it could be made."""
+    is_made = os.getuid() == 0 and subprocess.run(['mount', *options, point], capture_output=True, check=False).returncode == 0
+    try:
+        yield is_made
+    finally:
+        if is_made:
+            subprocess.run(['umount', point], check=True)
+
+
 def full_device():
     """A file system that has no room for the new text beside the old one."""
-    folder = Path(tempfile.mkdtemp(dir=WORK))
-    text = many(40_000)
-    room = f'size={len(text) * 3 // 2 >> 10}k'
-    made = os.getuid() == 0 and subprocess.run(['mount', '-t', 'tmpfs', '-o', room, 'tmpfs', folder],
-                                               capture_output=True, check=False).returncode == 0
-    if not made:
-        print('output: no small file system can be made here, so the runs on a full one are skipped')
-        return
-    try:
+    folder, text = Path(tempfile.mkdtemp(dir=WORK)), many(40_000)
+    with mount(folder, '-t', 'tmpfs', '-o', f'size={len(text) * 3 // 2 >> 10}k', 'tmpfs') as is_made:
+        if not is_made:
+            print('output: no small file system can be made here, so the runs on a full one are skipped')
+            return
         file = folder / 'a.vipr'
         file.write_bytes(text)
         for out in (file, folder / 'new'):
             got = run(['tighten', file, '--out', out])
-            expect('tighten to a full device: status', got[2], 3)
-            expect('tighten to a full device: line', got[1].startswith(b'fault write after ') and got[1].count(b'\n'), 1)
+            expect('tighten to a full device', (got[2], got[1].startswith(b'fault write after '), got[1].count(b'\n')), (3, True, 1))
             expect('tighten to a full device: OUT', (file.read_bytes() == text, names(folder)), (True, ['a.vipr']))
-    finally:
-        subprocess.run(['umount', folder], check=True)
 
 
 def modes():
@@ -314,12 +309,10 @@ def links():
     (folder / 'loose').symlink_to('nothing')
     expect('OUT leads nowhere', run(['tighten', '--out', folder / 'loose'], LOOSE), (b'', KEPT, 0))
     expect('what it made', ((folder / 'nothing').read_bytes(), (folder / 'loose').is_symlink()), (TIGHT, True))
-    first = 'loose'
-    for name in 'abcdefgh':
-        (folder / name).symlink_to(first)
-        first = name
-    expect('OUT by many links', run(['tighten', '--out', folder / first], LOOSE), (b'', KEPT, 0))
-    expect('OUT by many links: it', ((folder / 'nothing').read_bytes(), (folder / first).is_symlink()), (TIGHT, True))
+    for name, target in zip('abcdefgh', ['loose', *'abcdefg']):
+        (folder / name).symlink_to(target)
+    expect('OUT by nine links', run(['tighten', '--out', folder / 'h'], LOOSE), (b'', KEPT, 0))
+    expect('OUT by nine links: it', ((folder / 'nothing').read_bytes(), (folder / 'h').is_symlink()), (TIGHT, True))
     (folder / 'ring').symlink_to('ring')
     expect('OUT is a ring', run(['tighten', '--out', folder / 'ring'], LOOSE), (b'', NOT_WRITTEN, 3))
     file.write_bytes(LOOSE)
@@ -454,15 +447,13 @@ def mounted():
     point, behind = folder / 'point', folder / 'behind'
     for path in point, behind:
         path.write_bytes(b'before')
-    if os.getuid() or subprocess.run(['mount', '--bind', behind, point], capture_output=True, check=False).returncode:
-        print('output: no file can be a mount point here, so such files are skipped')
-        return
-    try:
+    with mount(point, '--bind', behind) as is_made:
+        if not is_made:
+            print('output: no file can be a mount point here, so such files are skipped')
+            return
         expect('OUT is a mount point', run(['tighten', file, '--out', point]), (b'', b'fault write after %d\n' % len(TIGHT), 3))
         expect('its text', (point.read_bytes(), behind.read_bytes(), names(folder)),
                (b'before', b'before', ['a.vipr', 'behind', 'point']))
-    finally:
-        subprocess.run(['umount', point], check=True)
 
 
 # ---- the table of ends
@@ -601,9 +592,8 @@ def failing_calls(text, tight, kept):
             inject = f'inject={name}:error={error}{":" + when if when else ""}'
             got, _ = traced(['tighten', file, '--out', file], '-e', f'trace={name}', '-e', inject)
             expect(f'{inject} of {len(text)} bytes', got, wanted)
-            mode = 0o600 if name == 'fchmod' else 0o640
             expect(f'{inject} of {len(text)} bytes: OUT', (file.read_bytes() == after, stat.S_IMODE(file.stat().st_mode), names(folder)),
-                   (True, mode, ['a.vipr']))
+                   (True, 0o600 if name == 'fchmod' else 0o640, ['a.vipr']))
     file.write_bytes(text)
     out = folder / 'out'
     for call, wanted, after in (('fsync:error=ENOSPC:when=1', all_written, None), ('link:error=EPERM', done, tight),
@@ -724,6 +714,31 @@ def overtaken():
            ((b'', KEPT, 0), TIGHT, TIGHT, ['a.vipr', 'first', 'second']))
 
 
+def pieces(change):
+    """A text in pieces, between which something is done. The first piece was read once the second one is written."""
+    yield LOOSE[:60]
+    yield LOOSE[60:61]
+    change()
+    yield LOOSE[61:]
+
+
+def same_inode():
+    """OUT is a link that leads to a file of another file system, with the same inode, once the certificate is read."""
+    link, one, two = fresh()[0] / 'link', *(Path(tempfile.mkdtemp(dir=WORK)) for _ in range(2))
+    own = '-t', 'tmpfs', '-o', 'size=1m', 'tmpfs'
+    with mount(one, *own) as is_made, mount(two, *own) as is_other_made:
+        for place in one, two:
+            (place / 'out').write_bytes(b'before')
+        if not (is_made and is_other_made and (one / 'out').stat().st_ino == (two / 'out').stat().st_ino):
+            print('output: no two files with the same inode can be made here, so they are skipped')
+            return
+        link.symlink_to(one / 'out')
+        CHECKS.count += 1
+        got = texts.fed([PROGRAM, 'tighten', '--out', link], pieces(lambda: (link.unlink(), link.symlink_to(two / 'out'))))
+        expect('OUT has the same inode elsewhere', (got, [(names(it), (it / 'out').read_bytes()) for it in (one, two)]),
+               ((b'', b'fault write after %d\n' % len(TIGHT), 3), [(['out'], b'before')] * 2))
+
+
 def changed_while_it_reads():
     """OUT becomes another thing while the certificate is read: the run fails, and leaves what is there."""
     puts = {'a link': lambda out: out.symlink_to('mine'), 'a file': lambda out: out.write_bytes(b'theirs'),
@@ -733,17 +748,10 @@ def changed_while_it_reads():
         out, mine = folder / 'out', folder / 'mine'
         mine.write_bytes(b'important')
         puts[kind](out)
-
-        def pieces(o=out, p=put):
-            yield LOOSE[:60]
-            # the first piece was read once this one is written
-            yield LOOSE[60:61]
-            o.unlink(missing_ok=True)
-            p(o)
-            yield LOOSE[61:]
         if kind != what or kind == 'a file':
             CHECKS.count += 1
-            got = texts.fed([PROGRAM, 'tighten', '--out', out], pieces())
+            change = functools.partial(lambda o, p: (o.unlink(missing_ok=True), p(o)), out, put)
+            got = texts.fed([PROGRAM, 'tighten', '--out', out], pieces(change))
             expect(f'OUT was {kind} and is {what}', (got.stderr.startswith(b'fault write after '), got.returncode), (True, 3))
             after = {'a link': b'important', 'a file': b'theirs'}.get(what)
             expect(f'OUT was {kind} and is {what}: it', (read(out) if after else None, out.is_symlink(), out.is_fifo(), out.is_dir()),
@@ -756,15 +764,8 @@ def changed_while_it_reads():
     link.symlink_to('one')
     for path in one, two:
         path.write_bytes(b'before')
-
-    def pieces_of_a_link():
-        yield LOOSE[:60]
-        yield LOOSE[60:61]
-        link.unlink()
-        link.symlink_to('two')
-        yield LOOSE[61:]
     CHECKS.count += 1
-    got = texts.fed([PROGRAM, 'tighten', '--out', link], pieces_of_a_link())
+    got = texts.fed([PROGRAM, 'tighten', '--out', link], pieces(lambda: (link.unlink(), link.symlink_to('two'))))
     expect('OUT is a link that leads elsewhere', (got, one.read_bytes(), two.read_bytes(), names(folder)),
            ((b'', b'fault write after %d\n' % len(TIGHT), 3), b'before', b'before', ['a.vipr', 'link', 'one', 'two']))
 
@@ -781,6 +782,7 @@ def main():
     below_dev()
     mounted()
     changed_while_it_reads()
+    same_inode()
     lines()
     calls()
     ends()
