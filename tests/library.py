@@ -119,8 +119,10 @@ def callers(prefix, room):
             program = room / f'{language}_{linked}'
             if language not in missing and build([compiler(language), *words[language], '-o', program]):
                 yield f'{language}, {linked}', [program]
-        crate = [compiler('rust'), 'build', '--offline', '--locked', '--quiet', '--release', '--manifest-path',
-                 sources / 'rust/Cargo.toml', '--target-dir', room / f'rust_{linked}']
+        # (in a copy, since cargo writes a lock file beside the manifest)
+        copy = shutil.copytree(sources / 'rust', room / f'rust_source_{linked}')
+        crate = [compiler('rust'), 'build', '--offline', '--quiet', '--release', '--manifest-path', copy / 'Cargo.toml',
+                 '--target-dir', room / f'rust_{linked}']
         places = {'VIPR_LIB_DIR': str(lib), 'RUSTFLAGS': '-D warnings', **({'VIPR_STATIC': '1'} if linked == 'archive' else {})}
         if 'rust' not in missing and build(crate, places):
             yield f'rust, {linked}', [room / f'rust_{linked}/release/check']
