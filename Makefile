@@ -28,7 +28,9 @@ override export DESTDIR := $(value DESTDIR)
 ifeq ($(origin LIBDIR),undefined)
 LIBDIR := $(PREFIX)/lib
 endif
-override export LIBDIR := $(value LIBDIR)
+# (LIBDIR itself is not handed on: a make below this one has its own PREFIX)
+override LIBDIR := $(value LIBDIR)
+override export LIBRARY_FOLDER := $(LIBDIR)
 override export BIN := $(DESTDIR)$(PREFIX)/bin
 override export SHARE := $(DESTDIR)$(PREFIX)/share
 override export DOC := $(SHARE)/doc/vipr
@@ -44,7 +46,7 @@ MADE = crates/vipr_c/out
 SHARED = libvipr.so.$(VERSION)
 SONAME = libvipr.so.$(firstword $(subst ., ,$(VERSION)))
 # vipr.pc can't name every folder, and pkg-config can't read every name
-IS_PLAIN = case "$$PREFIX$$LIBDIR" in *[!A-Za-z0-9/._+,@%=:~-]*) \
+IS_PLAIN = case "$$PREFIX$$LIBRARY_FOLDER" in *[!A-Za-z0-9/._+,@%=:~-]*) \
 	echo "PREFIX and LIBDIR of the library can't have spaces, quotes or other special characters"; exit 1;; esac
 
 .PHONY: help check test build install uninstall lib install-lib uninstall-lib dist house statement wrong bench rocq
@@ -104,7 +106,7 @@ install-lib: $(MADE)/libvipr.a
 	@ln -sf $(SHARED) "$$LIB/$(SONAME)"
 	@ln -sf $(SONAME) "$$LIB/libvipr.so"
 	@install -d "$$LIB/pkgconfig"
-	@sed "s|@PREFIX@|$$PREFIX|; s|@LIBDIR@|$$LIBDIR|; s|@VERSION@|$(VERSION)|" include/vipr.pc.in > "$$LIB/pkgconfig/vipr.pc"
+	@sed "s|@PREFIX@|$$PREFIX|; s|@LIBDIR@|$$LIBRARY_FOLDER|; s|@VERSION@|$(VERSION)|" include/vipr.pc.in > "$$LIB/pkgconfig/vipr.pc"
 	@chmod 644 "$$LIB/pkgconfig/vipr.pc"
 	@printf '%s\n' "the library is installed in $$LIB"
 

@@ -70,6 +70,8 @@ def names(folder):
     copy = folder / 'copy'
     copy.mkdir()
     make = laid_out(copy)
+    said = make('--eval=show: ; @env', 'show')
+    check(said[0] == 0 and '\nLIBDIR=' not in said[1], f'a make below has the LIBDIR of this one: {said}')
     for name in NAMES:
         said = make('check', f'FILE={name}')
         check(said == (0, f'check\n--\n{name}\n', ''), f'make check of {name!r}: {said}')
