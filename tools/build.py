@@ -102,8 +102,10 @@ def first_builds():
     rt = kit.toolchain()
     if FIRST not in rt.rtlib.help_of('build'):
         return set()
+    # (some kits also keep work outside of the repository)
+    kept = getattr(rt, 'work_for', lambda crate: Path(crate.folder, 'out/incremental').exists())
     return {it.name for it in rt.rtlib.crates_below(str(TOP))
-            if not it.is_program and not Path(it.rlib).exists() and not rt.work_for(it)}
+            if not it.is_program and not Path(it.rlib).exists() and not kept(it)}
 
 
 def say(line):
