@@ -1,6 +1,7 @@
-"""Texts that are damaged: tokens replaced, bytes changed, and parts cut out, doubled or moved."""
+"""Texts that are damaged: tokens replaced, bytes changed, and parts cut out, doubled or moved; or one number changed."""
 import re
 
+LIMIT = 2**127 - 1
 SPARE = [
     b'0', b'1', b'2', b'3', b'-1', b'+1', b'00', b'1/2', b'-2/4', b'1/0', b'0/7', b'1/-2', b'0.5', b'-0', b'4294967295',
     b'4294967296', b'%d' % (2**127 - 1), b'%d' % 2**127, b'-%d/%d' % (2**127 - 1, 2**127 - 2), b'1/%d' % 2**127,
@@ -58,3 +59,16 @@ def changed(text, chance):
             to = chance.randrange(len(text) + 1)
             text[to:to] = part
     return bytes(text)
+
+
+def nearly(text, chance):
+    """The text with one number, sense or last reference changed."""
+    tokens = re.findall(rb'[^\t-\r ]+', text)
+    places = [at for at, token in enumerate(tokens) if re.fullmatch(rb'[-+]?[0-9]+(/[0-9]+)?|[ELG]', token)]
+    at = chance.choice(places)
+    if tokens[at] in (b'E', b'L', b'G'):
+        tokens[at] = chance.choice([b'E', b'L', b'G'])
+    else:
+        top = int(tokens[at].split(b'/')[0])
+        tokens[at] = b'%d' % chance.choice([top + 1, top - 1, -top, 2 * top, 0, LIMIT, -LIMIT, LIMIT + 1, len(tokens)])
+    return b' '.join(tokens)

@@ -1,7 +1,8 @@
 #!/usr/bin/env python3
 """What `vipr explain --long` says of mistakes that a person makes in the small problems of examples/problems.
 
-usage: tests/long.py [--write] [PROGRAM]     crates/vipr/out/vipr without it
+usage: tests/long.py [--write] [--texts N] [--seed S] [PROGRAM]
+Without them it is 2,000 texts, seed 1 and crates/vipr/out/vipr.
 
 Each mistake is made in a copy, which is explained from its file, from standard input, and from a pipe that gives a
 byte a read. The lines of `vipr explain` have to come first, byte for byte, with the same exit status; behind them the
@@ -11,8 +12,12 @@ an explanation is easily wrong: what a constraint rests on, what comes near a cl
 that are large in one respect, so that a page could be cut off there. Every byte that is printed behind the first lines
 is printable ASCII or a line feed, and there are 65,536 of them at most. A file is opened once, a named pipe too. One
 that can't be opened has the answer of `vipr explain`, and in front of it a line with its name and the reason. One
-entry of each sum of the problems is damaged, and each change with which the derivation follows, as the page says, is
-tried; most are the original.
+entry of each sum of the problems is damaged, and most of the changes with which the derivation follows, as the page says,
+are the original.
+
+What each page says is worked out again: page_model.py reads it line by line, with a reader and rules that share no code with the
+program. So are the pages of N texts that are examples with parts damaged, or with one number changed, by both profiles, and those
+of texts that are large in one respect.
 
 Each page is compared with the one that tests/long_pages.txt has of its text, so no word of it changes unseen; --write
 writes that file. There is a page for each cause, by each of the two profiles where they differ; and each text in the
@@ -20,20 +25,31 @@ sources of the pages is in one of them.
 
 Prints each fault, and last `long: N checks, F failed`; the exit status is 1 if one failed.
 """
+import argparse
 import collections
 import errno
 import hashlib
 import os
+import random
 import re
 import shutil
 import sys
 import tempfile
 import threading
+from fractions import Fraction
 from pathlib import Path
 
-from texts import TOP, Checks, fed, program, run
+import page_model
+from damage import changed, damaged, nearly
+from texts import TOP, Checks, examples, fed, program, run
 
-PROGRAM = program([word for word in sys.argv[1:] if word != '--write'])
+words_of = argparse.ArgumentParser(description=__doc__.split('\n', maxsplit=1)[0])
+words_of.add_argument('program', nargs='*')
+words_of.add_argument('--write', action='store_true')
+words_of.add_argument('--texts', type=int, default=2_000)
+words_of.add_argument('--seed', default='1')
+GIVEN = words_of.parse_args()
+PROGRAM = program(GIVEN.program)
 PAGES = TOP / 'tests/long_pages.txt'
 PROBLEMS = TOP / 'examples/problems'
 MOST_BYTES = 65536
@@ -506,10 +522,6 @@ UNREACHED = {
     "\nthe verdict isn't one of this text, so it isn't explained\n",
     "\na read failed behind what is refused, so it isn't explained\n", '.. the rest is left out\n',
 }
-# What a page says of a change with which a derivation follows: another multiplier, another constraint, one more entry.
-CHANGES = [re.compile(rf'  = help: with {it} the derivation follows') for it in (
-    r'the multiplier (\S+) in place of (\S+) at \[(\d+)\] \S+', r'\[(\d+)\] \S+ in place of \[(\d+)\] \S+ at entry (\d+)',
-    r'one more entry, (\S+) x \[(\d+)\] \S+,')]
 # What part of the damages to one entry has to be named, by what is damaged.
 LEAST = {'multiplier': 0.9, 'sign': 0.9, 'index': 0.9, 'entry': 0.7}
 CHECKS = Checks('long')
@@ -536,6 +548,7 @@ def page_of(path, name):
     summed = explained(['--sum', '--long', path])
     digest = f'sha256 {hashlib.sha256(data).hexdigest()}\n'.encode()
     check(summed == (long + digest, long_status), f'{name}: the digest behind the page')
+    is_true(long, data, name, path)
     page = long[len(short):]
     check(all(byte == 10 or 32 <= byte <= 126 for byte in page), f'{name}: every byte is shown')
     check(len(page) <= MOST_BYTES, f'{name}: the length')
@@ -543,6 +556,25 @@ def page_of(path, name):
     check(piped[len(short):].decode('ascii', 'replace') == named.replace(str(path), 'standard input'),
           f'{name}: the same text from standard input')
     return named
+
+
+def is_true(page, text, name, path='standard input', profile=1):
+    """Whether all that a page says is true of its text, and nothing is missing. Gives the sums that it offers."""
+    faults, offers = page_model.read(page.decode('utf-8', 'surrogateescape'), text, profile, str(path))
+    check(not faults, f'{name}, profile {profile}: {faults}')
+    return offers
+
+
+def damaged_texts():
+    """What is said of examples that are damaged is true."""
+    known = examples()
+    for number in range(GIVEN.texts):
+        chance = random.Random(f'{GIVEN.seed} {number}')
+        path, text = chance.choice(known)
+        text = chance.choice([damaged, nearly, nearly, nearly, changed])(text, chance)
+        for profile in (1, 2):
+            page = explained(['--long', '--profile', profile], text)[0]
+            is_true(page, text, f'text {number} of seed {GIVEN.seed}, {path.name} as {text}', profile=profile)
 
 
 def opened_once(path):
@@ -568,7 +600,7 @@ def keep(name, page, path):
 def compare():
     """Compares the pages with those of the file, or writes them there."""
     text = ''.join(f'==== {name}\n{page}' for name, page in pages.items())
-    if '--write' in sys.argv:
+    if GIVEN.write:
         PAGES.write_text(text, encoding='ascii')
     known = dict(part.split('\n', 1) for part in PAGES.read_text(encoding='ascii').split('==== ')[1:])
     for name, page in pages.items():
@@ -600,22 +632,7 @@ def text_of(lines, at, words):
     return '\n'.join([*lines[:at], ' '.join(words), *lines[at + 1:]]).encode()
 
 
-def offers(page, words, first):
-    """The sums that a page offers in place of the one of these words, each with which the derivation follows."""
-    for kind, pattern in enumerate(CHANGES):
-        for one, two, *three in pattern.findall(page):
-            if kind == 0:
-                place = next(it for it in range(first, len(words), 2) if words[it:it + 2] == [three[0], two])
-                yield [*words[:place + 1], one, *words[place + 2:]]
-            elif kind == 1:
-                place = first + 2 * int(three[0])
-                check(words[place] == two, f'{page}: entry {three[0]}')
-                yield [*words[:place], one, *words[place + 1:]]
-            else:
-                yield [*words[:first - 1], str(int(words[first - 1]) + 1), two, one, *words[first:]]
-
-
-def damages(words, first, count):
+def changed_sums(words, first, count):
     """Each sum with one entry damaged: its multiplier, its sign, its index, or it is left out."""
     for place in range(first, len(words) - 2, 2):
         index, multiplier = words[place:place + 2]
@@ -630,7 +647,7 @@ def damages(words, first, count):
 
 
 def changes_suffice():
-    """One entry of each sum of the problems is damaged. Each change that is offered is tried, and most are the original."""
+    """One entry of each sum of the problems is damaged. Most of the changes that are offered are the original."""
     refused, named = collections.Counter(), collections.Counter()
     for path in sorted(PROBLEMS.glob('*.vipr')):
         lines = run([PROGRAM, 'show', path]).stdout.decode().splitlines()
@@ -640,18 +657,13 @@ def changes_suffice():
             if '{' not in words:
                 continue
             first = words.index('{') + 3
-            for kind, damaged in damages(words, first, given + passed) if words[first - 2] in ('lin', 'rnd') else ():
-                page = explained(['--long'], text_of(lines, at, damaged))[0].decode()
-                place = page.partition('\n')[0].partition(' at ')[2]
-                cause = re.search(r'cause (34|36|38)\n', page)
-                if not cause or place != f'DER {given + passed}':
-                    continue
-                refused[kind] += 1
-                found = list(offers(page, damaged, first))
-                named[kind] += any(sum_of(it, first) == sum_of(words, first) for it in found)
-                for offered in found:
-                    answer = explained([], text_of(lines, at, offered))[0].decode()
-                    check(f' at {place}\n' not in answer, f'{answer} for {" ".join(offered)}, a change of {page}')
+            for kind, other in changed_sums(words, first, given + passed) if words[first - 2] in ('lin', 'rnd') else ():
+                page = explained(['--long'], text_of(lines, at, other))[0]
+                found = is_true(page, text_of(lines, at, other), f'{path.name}, a {kind} of line {at}')
+                place = page.decode().partition('\n')[0].partition(' at ')[2]
+                if re.search(rb'cause (34|36|38)\n', page) and place == f'DER {given + passed}':
+                    refused[kind] += 1
+                    named[kind] += any(sorted(it) == sum_of(words, first) for it in found)
             passed += 1
     for kind, least in LEAST.items():
         check(refused[kind] and named[kind] >= least * refused[kind], f'{kind}: {named[kind]} of {refused[kind]} are named')
@@ -659,7 +671,7 @@ def changes_suffice():
 
 def sum_of(words, first):
     """The entries of the sum of a derivation, in any order."""
-    return sorted(zip(words[first:-2:2], words[first + 1:-2:2]))
+    return sorted((int(index), Fraction(multiplier)) for index, multiplier in zip(words[first:-2:2], words[first + 1:-2:2]))
 
 
 def unread(path, reason):
@@ -711,7 +723,9 @@ def main():
             keep(ascii(data[:200]), page, path)
         for words, text, wanted, unwanted in TRUE:
             path.write_bytes(text.encode('latin-1'))
-            page = explained(['--long', *words, path])[0].decode('ascii', 'replace')
+            page = explained(['--long', *words, path])[0]
+            is_true(page, path.read_bytes(), text[:400], path, int(words[1]) if words else 1)
+            page = page.decode('ascii', 'replace')
             for part in wanted:
                 check(part in page, f'{text[:400]!r}: {part!r} in {page}')
             for part in unwanted:
@@ -730,6 +744,7 @@ def main():
             check(wanted in page and len(page) >= length, f'{text[:400]!r}: {wanted!r} in {page}')
         of_a_pipe(Path(folder) / 'pipe', PROBLEMS / 'cutoff.vipr')
         changes_suffice()
+        damaged_texts()
         path.write_text(LATE)
         check('write 9000 or -1 here' in page_of(path, 'a late reference'), 'a late reference')
     compare()

@@ -24,7 +24,7 @@ import tempfile
 from concurrent.futures import ThreadPoolExecutor
 from pathlib import Path
 
-from damage import changed, damaged
+from damage import changed, damaged, nearly
 from texts import TOP, Checks, examples, program, run, text_of
 import families
 
@@ -35,7 +35,6 @@ CLOSED = 'Closed under the global context'
 PROFILES = [], ['--profile', '2']
 # how many files the second program is given at once
 AT_ONCE = 100
-LIMIT = 2**127 - 1
 # wrong versions of the checker's tests: what it is, and what to replace in Check.v by what
 WRONG = {
     'sign of L in a sum': ('match sense (what s) with L => - snd e |', 'match sense (what s) with L => snd e |'),
@@ -66,19 +65,6 @@ def built():
     CHECKS.check(said.count(CLOSED) == asked > 0, f'make rocq: {asked} theorems have no axioms: {said}')
     CHECKS.check('Warning' not in said, f'make rocq warns: {said}')
     return done.returncode == 0
-
-
-def nearly(text, chance):
-    """The text with one number, sense or last reference changed."""
-    tokens = re.findall(rb'[^\t-\r ]+', text)
-    places = [at for at, token in enumerate(tokens) if re.fullmatch(rb'[-+]?[0-9]+(/[0-9]+)?|[ELG]', token)]
-    at = chance.choice(places)
-    if tokens[at] in (b'E', b'L', b'G'):
-        tokens[at] = chance.choice([b'E', b'L', b'G'])
-    else:
-        top = int(tokens[at].split(b'/')[0])
-        tokens[at] = b'%d' % chance.choice([top + 1, top - 1, -top, 2 * top, 0, LIMIT, -LIMIT, LIMIT + 1, len(tokens)])
-    return b' '.join(tokens)
 
 
 def texts():

@@ -1,0 +1,653 @@
+"""The forms of the lines of a page of `vipr explain --long`, and what each says of its text.
+
+A form is a function below `form`: its pattern, and what is tested of a line that has it. It gets the page so far and the groups of
+the pattern, which are numbers unless they are marked as texts. What a line says is worked out again from page_facts.py. A change
+of a sum that a page offers is made here, and the rule is applied to it.
+"""
+import re
+from collections import Counter
+from fractions import Fraction
+from math import ceil, floor
+
+from page_facts import (
+    EMPTY, ITEMS, KEYWORDS, MOST_CARETS, MOST_ENTRIES, MOST_NEAR, MOST_OF_SET, MOST_SHOWN, MOST_VALUES,
+    NOTHING, NUMBER, SIGNS, algebra, constraint_shown, difference, rules, same, shown, shown_name, true, variable,
+)
+
+
+FORMS = []
+LISTED = r'\[(\d+)\] (\S+)  (.+)  \(line (\d+)\)'
+
+
+def form(pattern, kind=None):
+    """Makes a function the test of the lines that a pattern fits: it gets the page so far, and the groups."""
+    def add(test):
+        FORMS.append((re.compile(pattern), kind or test.__name__, test))
+        return test
+    return add
+
+
+class Page:
+    """A page that is read, with what its lines said so far."""
+
+    def __init__(self, facts, file):
+        self.facts, self.file = facts, file
+        self.said = Counter()
+        self.place = None
+        self.entries, self.sources, self.near, self.cases, self.faults, self.values, self.offers = [], 0, [], [], [], [], []
+
+
+@form(r'error: (\w+): (.*)')
+def text_error(page, name: str, words: str):
+    facts = page.facts
+    true(facts.is_text_fault(), 'no fault of the text')
+    same('the cause', name, rules.CAUSES[facts.refused])
+    if facts.refused == 18:
+        same('what is wrong', words, 'text behind the last derivation')
+    else:
+        same('what is wanted', words, ('the text ends where this is wanted: ' if facts.is_end else 'wanted ') + wanted(facts))
+
+
+WANTED = {
+    'keyword': 'the keyword `{section}`', 'version': 'the version `1.0`', 'count': 'the number of {what}s, a count in digits',
+    'bound count': 'the number of bounds among the constraints, a count in digits', 'name': 'the name of {what} {index}',
+    'integer index': 'the index of a variable, {indices}', 'direction': '`min` or `max`', 'sense': 'the sense `E`, `L` or `G`',
+    'right-hand side': 'the right-hand side, a number', 'row count': 'the number of coefficients, a count in digits',
+    'row index': 'the index of a variable, {indices}', 'row coefficient': 'the {value} of pair {part} (of {parts}, counted from 0)',
+    'claim': '`infeas` or `range`', 'lower bound': 'the lower bound, a number or `-inf`',
+    'upper bound': 'the upper bound, a number or `inf`', 'open brace': '`{{`, a token of its own',
+    'reason': 'a reason: `asm`, `lin`, `rnd`, `uns` or `sol`', 'entry count': 'the number of entries, a count in digits',
+    'entry index': "the constraint's index of entry {part} (of {parts}, counted from 0)",
+    'multiplier': 'the multiplier of entry {part} (of {parts}, counted from 0)', 'close brace': '`}}`, a token of its own',
+    'last reference': "the last reference: a constraint's index or -1",
+}
+BRANCHES = ('i1 of `uns`: the constraint that holds in the first case', 'l1 of `uns`: the assumption of the first case',
+            'i2 of `uns`: the constraint that holds in the second case', 'l2 of `uns`: the assumption of the second case')
+
+
+def index_of(facts):
+    """The index of the item that is read, among all constraints for a derivation."""
+    return facts.role.item + (facts.given if facts.role.section == 'DER' else 0)
+
+
+def wanted(facts):
+    role = facts.role
+    if role.wanted == 'branch':
+        return BRANCHES[role.part]
+    count = facts.counts.get('VAR', 0)
+    return WANTED[role.wanted].format(
+        section=role.section, what=ITEMS.get(role.section), index=role.item is not None and index_of(facts),
+        indices=f'0 to {count - 1}' if count else 'but there is none', part=role.part, parts=role.parts,
+        value='value' if role.section == 'SOL' else 'coefficient')
+
+
+@form(r'( *)--> (.*):(\d+):(\d+)')
+def arrow(page, margin: str, file: str, line, column):
+    same('the file', file, shown(page.file.encode()))
+    same('the margin', len(margin), len(str(line)))
+    lines = page.facts.text.split(b'\n', line - 1 + 1)[:line]
+    true(len(lines) == line and column <= len(lines[-1]) + 1, 'there is no such place')
+    page.place = sum(map(len, lines[:-1])) + line - 1 + column - 1
+    page.line, page.excerpt = line, None
+
+
+@form(r'( *) \|')
+def bar(page, margin: str):
+    same('the margin', len(margin), len(str(page.line)))
+
+
+@form(r'(\d+) \| (.*)')
+def excerpt(page, line, text: str):
+    same('the line', line, page.line)
+    page.excerpt = text
+
+
+@form(r'( *) \| ( *)(\^+) (.+)')
+def carets(page, margin: str, front: str, marks: str, label: str):
+    facts = page.facts
+    same('the margin', len(margin), len(str(page.line)))
+    token = labelled(page, label)
+    same(f'the place of {label!r}', page.place, token.at)
+    true(page.excerpt is not None, 'no excerpt is in front of this')
+    # where the part of the line that is shown begins follows from the column of the carets
+    begin = facts.text.rfind(b'\n', 0, token.at) + 1
+    end = re.compile(rb'[\r\n]|$').search(facts.text, token.at).start()
+    window = facts.text[token.at:min(end, token.at + len(page.excerpt) + 1)]
+    width, is_part = 0, False
+    for at in range(token.at, max(begin, token.at - len(front)) - 1, -1):
+        width += len(shown(facts.text[at:at + 1])) if at < token.at else 0
+        cut = 2 * (at > begin)
+        if width + cut == len(front):
+            whole = '..'[:cut] + shown(facts.text[at:token.at] + window)
+            is_short = whole == page.excerpt and token.at + len(window) == end
+            is_cut = page.excerpt.endswith('..') and whole.startswith(page.excerpt[:-2]) and len(whole) > len(page.excerpt) - 2
+            is_part = is_part or is_short or is_cut
+    true(is_part, f'the excerpt {page.excerpt!r} is not of the line, or the carets are at another place of it')
+    seen = len(page.excerpt) - len(front) - 2 * (not is_short)
+    same('the carets', len(marks), max(1, min(MOST_CARETS, len(shown(token.bytes)), seen)))
+
+
+def labelled(page, label):
+    """The token that a label is about."""
+    facts = page.facts
+    page.said[f'label {label.split()[0]}'] += 1
+    if label == 'this was found':
+        true(facts.is_text_fault() and not facts.is_end, 'the text ends here')
+        return facts.token
+    if label in ('the text ends behind this', 'no token is here'):
+        true(facts.is_text_fault() and facts.is_end, 'the text does not end here')
+        same('whether there is a token', label != 'no token is here', facts.token != NOTHING)
+        return facts.token
+    if label == 'this derivation':
+        return facts.names['CON', facts.number()]
+    if label == 'this solution':
+        return facts.names['SOL', facts.number()]
+    found = re.fullmatch(r'write (\d+) or -1 here', label)
+    true(found and facts.refused == 32, f'an unknown label {label!r}')
+    index = int(facts.details['index'])
+    same(f'the last use of [{index}]', int(found[1]), facts.last_use(index))
+    return facts.lasts[index]
+
+
+@form(r'  = reading: (\w+)(?:, ([a-z ]+) (\d+) \((\d+) of (\d+)\)(?:, `(\S*)`)?)?')
+def reading(page, section, what: str, index, number, items, name: str):
+    facts, role = page.facts, page.facts.role
+    same('the section', section, role.section)
+    if role.item is None:
+        same('the item', what, None)
+        return
+    same('the item', (what, index, number, items), (ITEMS[section], index_of(facts), role.item + 1, role.items))
+    is_named = role.wanted not in ('name', 'integer index')
+    same('the name', name, shown_name(facts.name.bytes) if is_named else None)
+
+
+@form(r'  = see: docs/FORMAT\.md, cause (\d+)')
+def see(page, cause):
+    same('the cause', cause, page.facts.refused)
+
+
+# ---- pages of a solution
+
+@form(r'error: solution (\d+) `(\S+)` (.*)')
+def solution_error(page, number, name: str, words: str):
+    facts = page.facts
+    same('the place', f'SOL {number}', facts.place)
+    same('the name', name, shown_name(facts.solutions[number].name))
+    same('what is wrong', words, {21: 'is not whole at an integer variable', 22: 'breaks a constraint',
+                                  23: 'has a value past 2^127 - 1'}.get(facts.refused))
+
+
+@form(rf'  (\S+) \(variable (\d+)\) is ({NUMBER}) here, and has to be whole \(INT\)')
+def not_whole(page, name: str, index, value):
+    facts = page.facts
+    same('the variable', (21, index, name), (facts.refused, int(facts.details['variable'].split()[0]), variable(facts, index)))
+    same('the value', value, facts.solutions[facts.number()].values[index])
+
+
+@form(r'  constraint (\d+) `(\S+)`: (.+)  \(line (\d+)\)')
+def broken(page, index, name: str, text: str, line):
+    same('the constraint', (22, index), (page.facts.refused, int(page.facts.details['constraint'].split()[0])))
+    constraint_shown(page.facts, index, name, text, line)
+
+
+@form(rf'  (?:at the solution: (.+)|the row is empty); the left side is ({NUMBER}), which is not (<=|>=|=) ({NUMBER})(?:, off by ({NUMBER}))?')
+def left_side(page, values: str, left, sign, right, gap):
+    facts = page.facts
+    index = int(facts.details['constraint'].split()[0])
+    row, sense, bound = facts.plain(index)
+    point = facts.solutions[facts.number()].values
+    texts = [f'{variable(facts, it)} = {point.get(it, 0)}' for it in sorted(row)[:MOST_VALUES]]
+    more = f' .. ({len(row)} variables)' if len(row) > MOST_VALUES else ''
+    same('the values', values, ', '.join(texts) + more if row else None)
+    total = sum((value * Fraction(point.get(it, 0)) for it, value in row.items()), Fraction(0))
+    same('the sides', (left, sign, right), (total, SIGNS[sense], bound))
+    true(not rules.holds(total, sense, bound), 'the constraint holds')
+    same('the gap', gap, difference(bound, total))
+
+
+@form(r'  it is past the limit in (?:constraint (\d+)|the objective)')
+def past_limit(page, index):
+    same('the constraint', (23, None if index is None else str(index)),
+         (page.facts.refused, page.facts.details.get('constraint', '').split(' ')[0] or None))
+
+
+@form(rf'error: no listed solution attains the primal bound')
+def no_primal(page):
+    same('the cause', page.facts.refused, 52)
+
+
+@form(rf'  wanted: a solution whose objective is ({NUMBER}) or better')
+def wanted_value(page, bound):
+    same('the bound', bound, page.facts.checker.primal)
+
+
+@form(rf'  (primal )?solution (\d+) `(\S+)`: objective ({NUMBER})')
+def value(page, primal, number, name: str, objective):
+    facts = page.facts
+    same('the name', name, shown_name(facts.solutions[number].name))
+    same('the objective', objective, facts.objective(number))
+    if primal:
+        true(facts.refused is None, 'nothing is proved')
+        same('the best value', objective, facts.best())
+        same('the first of the best', number, [facts.objective(it) for it in range(len(facts.solutions))].index(objective))
+    else:
+        same('the next solution', (facts.refused, number), (52, len(page.values)))
+        page.values.append(number)
+
+
+@form(rf'  primal a listed solution: objective ({NUMBER})')
+def best_value(page, objective):
+    same('the best value', objective, page.facts.best())
+
+
+@form(r'  primal no solution is listed')
+def none_listed(page):
+    same('the solutions', page.facts.listed, 0)
+
+
+@form(rf'  = help: ({NUMBER}) is attained: is that the primal bound \(the upper one for min, the lower one for max\), is a better '
+      r'solution left out, or is a constant of the objective in the claim\? The format has none')
+def attained(page, best):
+    same('the best value', best, page.facts.best())
+
+
+@form(r'  the text lists no solution \(SOL 0\)')
+def lists_none(page):
+    same('the solutions', page.facts.listed, 0)
+
+
+@form(r'  = help: the lower bound of the claim is above the upper one: are they exchanged\?')
+def exchanged(page):
+    lower, upper = page.facts.checker.bounds
+    true(lower is not None and upper is not None and lower > upper, f'the bounds are {lower} and {upper}')
+
+
+# ---- pages of a derivation
+
+HEADS = {31: 'names constraint {index}, which is not earlier', 32: 'needs constraint {index}, which was dropped',
+         33: 'takes constraint {index} for an assumption, which it is not', 34: 'turns a sense around at entry {entry} of its sum',
+         35: 'passes 2^127 - 1 at entry {entry} of its sum', 36: "has a sum that can't be rounded",
+         37: 'has two assumptions that are no split', 38: 'does not follow from its reason', 39: 'needs a listed solution'}
+
+
+@form(r'error: derivation (\d+) `(\S+)` (.*)')
+def derivation_error(page, index, name: str, words: str):
+    facts = page.facts
+    same('the place', f'DER {index}', facts.place)
+    same('the name', name, shown_name(facts.own().constraint.name))
+    same('what is wrong', words, HEADS[facts.refused].format_map(facts.details))
+
+
+@form(r'  it states    (.+)')
+def states(page, text: str):
+    same('what it states', text, algebra(page.facts, page.facts.plain(page.facts.number())))
+
+
+@form(r'  its reason   (lin|rnd) of (\d+):')
+def sum_reason(page, word, count):
+    same('the reason', (word, count), (page.facts.own().reason, len(page.facts.own().entries)))
+
+
+@form(r'  its reason   (asm|sol)(, the cutoff at the best listed solution)?')
+def plain_reason(page, word, note):
+    same('the reason', (word, note is not None), (page.facts.own().reason, word == 'sol'))
+
+
+@form(rf'      ({NUMBER}) x (?:{LISTED}|\[(\d+)\], (this derivation itself|which is not before this derivation))(?: <-- entry (\d+))?')
+def entry(page, multiplier, index, name: str, text: str, line, later, what: str, marked):
+    facts = page.facts
+    position = len(page.entries) if marked is None else marked
+    page.entries.append(position)
+    index = later if index is None else index
+    same(f'entry {position}', (index, multiplier), facts.own().entries[position])
+    same('the mark of an entry', marked is not None, position == facts.entry_at_fault())
+    named(facts, index, name, text, line, what)
+
+
+def named(facts, index, name, text, line, what):
+    """A constraint that a reason names: an earlier one is listed."""
+    own = facts.number()
+    if what is None:
+        true(index < own, f'[{index}] is not earlier')
+        constraint_shown(facts, index, name, text, line)
+    else:
+        same(f'what [{index}] is', what, {True: 'this derivation itself', False: 'which is not before this derivation'}[index == own])
+        true(index >= own, f'[{index}] is earlier')
+
+
+@form(r'      \.\. \((\d+) entries\)')
+def entries_left(page, count):
+    same('the entries', count, len(page.facts.own().entries))
+    true(count > MOST_ENTRIES, 'few entries are all shown')
+
+
+CASES = '  case 1 gives ', '     assuming  ', '  case 2 gives ', '     assuming  '
+
+
+@form(rf'(  case [12] gives |     assuming  )(?:{LISTED} (asm|lin|rnd|uns|sol|given)|\[(\d+)\], (this derivation itself|which is not before this derivation))')
+def case(page, label: str, index, name: str, text: str, line, word, later, what: str):
+    facts = page.facts
+    index = later if index is None else index
+    same('the case', (label, index), (CASES[len(page.cases)], facts.own().indices[len(page.cases)]))
+    page.cases.append(index)
+    named(facts, index, name, text, line, what)
+    if word is not None:
+        same('its reason', word, 'given' if index < facts.given else facts.derivations[index - facts.given].reason)
+
+
+@form(r'    (computed|stated|sum|first|second) +(.+)')
+def constraint_of(page, label: str, text: str):
+    same(label, text, algebra(page.facts, page.facts.written(label)))
+    page.said[label] += 1
+
+
+@form(r'    difference (.*)')
+def compared(page, words: str):
+    facts = page.facts
+    (computed, sense, side), (stated, wanted_sense, bound) = facts.written('computed'), facts.written('stated')
+    different = facts.differences()
+    if different:
+        texts = [f'{variable(facts, it)} (variable {it}): computed {computed.get(it, 0)}, stated {stated.get(it, 0)}' for it in different]
+        more = f' .. ({len(texts)} differences)' if len(texts) > MOST_SHOWN else ''
+        same('the difference', words, f'the rows are not the same: {"; ".join(texts[:MOST_SHOWN])}{more}')
+    elif sense not in ('E', wanted_sense):
+        same('the difference', words, f'the sense: computed {SIGNS[sense]}, stated {SIGNS[wanted_sense]}')
+    else:
+        gap = difference(side, bound)
+        more = '' if gap is None else f', which says {gap} too much'
+        same('the difference', words, f'right-hand side: computed {side}, stated {bound}{more}')
+
+
+@form(r'      (\S+) comes from (.*)')
+def source(page, name: str, words: str):
+    facts = page.facts
+    index = facts.differences()[page.sources]
+    page.sources += 1
+    same('the variable', name, variable(facts, index))
+    terms = [f'{Fraction(multiplier)} x {facts.constraint(at).row[index]} of [{at}]'
+             for at, multiplier in facts.own().entries if index in facts.constraint(at).row]
+    listed = [it for it in re.sub(r' ?\.\.$', '', words).split(', ') if it not in ('', 'no entry')]
+    same('the entries of a coefficient', listed, [it for it in terms if it in listed][:len(listed)])
+    is_cut = words.endswith('..')
+    true(is_cut or listed == terms, f'it comes from {terms}')
+    true(not is_cut or len(facts.own().entries) > MOST_ENTRIES or len(terms) > len(listed), 'nothing is left out')
+    if words == 'no entry':
+        same('the entries', terms, [])
+
+
+@form(r'  = help: `rnd` in place of `lin` rounds the right-hand side to (-?\d+)')
+def round_instead(page, side):
+    facts = page.facts
+    row, sense, bound = facts.written('computed')
+    same('the reason', facts.own().reason, 'lin')
+    true(rules.whole_at(row, facts.problem.integers) and sense != 'E', 'the sum is not rounded')
+    same('the side', side, ceil(bound) if sense == 'G' else floor(bound))
+    own = facts.own()
+    true(facts.checker.accepts(facts.number(), facts.plain(facts.number()), 'rnd', facts.parts(own)), 'it does not follow by `rnd`')
+
+
+@form(rf'    the coefficient ({NUMBER}) of (\S+) is not whole')
+def coefficient_fault(page, number, name: str):
+    row_fault(page, 'coefficient', name, number)
+
+
+@form(r'    (\S+) is not an integer variable: list its index (\d+) in INT and make the count there 1 larger, or leave it out here')
+def variable_fault(page, name: str, index):
+    row_fault(page, 'variable', name, index)
+
+
+def row_fault(page, kind, name, number):
+    facts = page.facts
+    row = facts.written('sum' if facts.refused == 36 else 'first')[0]
+    known = list(facts.row_faults(row))[len(page.faults)]
+    same('the next fault of the row', (kind, name), (known[0], variable(facts, known[1])))
+    same(f'the {kind}', number, row[known[1]] if kind == 'coefficient' else known[1])
+    page.faults.append(known)
+
+
+@form(r'    they are about different rows: a split is of one row, at most k and at least k \+ 1')
+def other_rows(page):
+    true(page.facts.written('first')[0] != page.facts.written('second')[0], 'they are of one row')
+
+
+@form(rf'    a split is (.+); here it is (<=|>=|=) ({NUMBER}) and (<=|>=|=) ({NUMBER})')
+def split(page, words: str, sign, side, other_sign, other):
+    facts = page.facts
+    same('a split', words, ('<= k and >= k + 1 with k whole', '<= k and >= h, where h rounded up is at most k rounded down plus 1')[facts.profile - 1])
+    first, second = facts.written('first'), facts.written('second')
+    same('the sides', (sign, side, other_sign, other), (SIGNS[first[1]], first[2], SIGNS[second[1]], second[2]))
+
+
+@form(r'  = help: `--profile 2` accepts these')
+def second_profile(page):
+    true(is_second(page.facts), 'it does not')
+
+
+def is_second(facts):
+    """Whether two assumptions that are no split by the first profile are one by the second."""
+    return facts.profile == 1 and rules.covers(facts.written('first'), facts.written('second'), facts.problem.integers)
+
+
+@form(r'  constraint (\d+) was dropped behind the last reference that it states')
+def dropped(page, index):
+    facts = page.facts
+    same('the constraint', (32, index), (facts.refused, int(facts.details['index'])))
+    true(index >= facts.given and facts.derivations[index - facts.given].last < facts.number(), 'it was not dropped')
+
+
+@form(r'  = help: or is a constraint other than \[(\d+)\] meant\?')
+def other_constraint(page, index):
+    same('the constraint', index, int(page.facts.details['index']))
+
+
+@form(r'  = help: constraints count from 0: the problem has (none|\d+), so the first derivation is (\d+); is this line in front of one that it needs\?')
+def from_zero(page, count, first):
+    facts = page.facts
+    same('the constraints', (facts.refused, 0 if count == 'none' else count, first), (31, facts.given, facts.given))
+
+
+NAMED = r'\[(\d+)\] (\S+)'
+
+
+def offered(page, parts):
+    """A change that is offered is one with which the derivation follows."""
+    true(page.facts.refused in (34, 36, 38), 'no sum is changed')
+    page.offers.append(parts)
+    true(page.facts.accepts(parts), 'the derivation does not follow with this')
+
+
+@form(rf'  = help: with the multiplier ({NUMBER}) in place of ({NUMBER}) at {NAMED} the derivation follows')
+def other_multiplier(page, new, old, index, name: str):
+    parts = page.facts.parts(page.facts.own())
+    same('the name', name, shown_name(page.facts.constraint(index).name))
+    places = [at for at, it in enumerate(parts) if it == (index, old)]
+    true(places, 'there is no such entry')
+    for at in places:
+        changed = [*parts[:at], (index, new), *parts[at + 1:]]
+        if page.facts.accepts(changed):
+            break
+    offered(page, changed)
+
+
+@form(rf'  = help: with {NAMED} in place of {NAMED} at entry (\d+) the derivation follows')
+def other_index(page, new, new_name: str, old, old_name: str, at):
+    facts = page.facts
+    parts = facts.parts(facts.own())
+    true(new < facts.number(), f'[{new}] is not earlier')
+    same('the names', (new_name, old_name), tuple(shown_name(facts.constraint(it).name) for it in (new, old)))
+    same(f'entry {at}', old, parts[at][0])
+    offered(page, [*parts[:at], (new, parts[at][1]), *parts[at + 1:]])
+
+
+@form(rf'  = help: with one more entry, ({NUMBER}) x {NAMED}, the derivation follows')
+def one_more(page, multiplier, index, name: str):
+    facts = page.facts
+    true(index < facts.number(), f'[{index}] is not earlier')
+    same('the name', name, shown_name(facts.constraint(index).name))
+    offered(page, [*facts.parts(facts.own()), (index, multiplier)])
+
+
+# ---- pages of the claim
+
+@form(r'error: no constraint proves the claim')
+def no_proof(page):
+    same('the cause', page.facts.refused, 51)
+
+
+@form(r'  wanted: a constraint that rests on no assumption and (?:says (.+) or stronger|is absurd, as 0 >= 1)')
+def wanted_constraint(page, text: str):
+    facts = page.facts
+    same('what is wanted', text, None if facts.checker.bounds is None else algebra(facts, facts.checker.goal))
+
+
+@form(r'  no constraint (has this row|is absurd)')
+def none_near(page, words: str):
+    facts = page.facts
+    same('what is wanted', words, 'is absurd' if facts.checker.bounds is None else 'has this row')
+    same('the nearest', facts.nearest(), [])
+
+
+@form(r'  nearest:')
+def nearest(page):
+    true(page.facts.nearest(), 'nothing is near')
+
+
+@form(rf'    {LISTED}(?:, (strong enough|the other way round|too weak by {NUMBER}(?: when it is rounded)?))?'
+      r', rests on (?:no assumption|((?:\[\d+\] ?)+)(?:and (\d+) more)?)')
+def near(page, index, name: str, text: str, line, how: str, rest: str, more):
+    facts = page.facts
+    same('the next of the nearest', index, (facts.nearest() + [None] * MOST_NEAR)[len(page.near)])
+    page.near.append(index)
+    constraint_shown(facts, index, name, text, line)
+    gap = facts.gap(index)
+    if facts.checker.bounds is None:
+        same('how near it is', how, None)
+    elif facts.checker.meets(facts.plain(index)):
+        same('how near it is', how, 'strong enough')
+    elif gap is not None:
+        is_rounded = facts.rounds() and facts.constraint(index).bound.denominator != 1
+        same('how near it is', how, f'too weak by {gap}{" when it is rounded" if is_rounded else ""}')
+    else:
+        same('how near it is', how, 'the other way round' if facts.turned(index) else None)
+    wanted_set = facts.rest(index)
+    same('the assumptions', [int(it) for it in re.findall(r'\d+', rest or '')], wanted_set[:MOST_OF_SET])
+    same('how many more', more or 0, max(0, len(wanted_set) - MOST_OF_SET))
+
+
+@form(r'  = help: \[(\d+)\] rests on \[(\d+)\] and \[(\d+)\] on \[(\d+)\]: are l1 and l2 exchanged\? `uns (\d+) (\d+) (\d+) (\d+)`')
+def crossed(page, i1, l2, i2, l1, *join):
+    facts = page.facts
+    same('the join', list(join), [i1, l2, i2, l1])
+    true(any(facts.derivations[it - facts.given].indices == (i1, l1, i2, l2) for it in page.near if it >= facts.given), 'there is no such join')
+    true(is_crossed(facts, (i1, l1, i2, l2)), 'they are not exchanged')
+
+
+def is_crossed(facts, join):
+    """Whether each branch of a join rests on the other one's assumption, and not on its own."""
+    i1, l1, i2, l2 = join
+    first, second = facts.checker.sets[i1], facts.checker.sets[i2]
+    return l1 not in first and l2 in first and l2 not in second and l1 in second
+
+
+@form(r'  = help: \[(\d+)\] is an assumption itself: is its reason left out\?')
+def assumption(page, index):
+    facts = page.facts
+    true(index in page.near and index in facts.checker.assumptions and facts.checker.meets(facts.plain(index)), 'it is none, or not strong enough')
+
+
+def proved(facts):
+    """The first of the nearest that rests on no assumption, and has a gap to what is wanted."""
+    return next((it for it in facts.nearest() if not facts.checker.sets[it] and facts.gap(it) is not None), None)
+
+
+@form(r'  = help: is more claimed behind RTP than \[(\d+)\] says, or is a constant of the objective in the claim\? The format has none')
+def more_claimed(page, index):
+    same('what is proved', index, proved(page.facts))
+
+
+@form(r'  = help: \[(\d+)\] is the other way round: is `OBJ (min|max)` meant\?')
+def other_direction(page, index, word):
+    facts = page.facts
+    true(index in page.near and facts.turned(index) and not facts.checker.sets[index], 'it is not')
+    same('the other direction', word, 'max' if facts.checker.minimizes else 'min')
+
+
+@form(rf'  = help: add the derivation `NAME ([GL]) ({NUMBER}) 0 {{ lin 0 }} -1`, and 1 to the count behind DER')
+def add_derivation(page, sense, side):
+    facts = page.facts
+    same('what is wanted', ({}, sense, side), facts.checker.goal)
+    true(rules.dominates(({}, 'E', Fraction(0)), facts.checker.goal), 'it does not follow')
+
+
+# ---- pages of what is verified
+
+@form(r'proved: (.*)')
+def claim(page, words: str):
+    same('the claim', f'verified {words}', page.facts.lines[0])
+
+
+@form(rf'  goal   {LISTED}')
+def goal(page, index, name: str, text: str, line):
+    same('the goal', f'goal {index}', page.facts.lines[-1])
+    constraint_shown(page.facts, index, name, text, line)
+
+
+@form(r'  nothing has to be proved of the dual side')
+def no_goal(page):
+    same('the goal', 'goal none', page.facts.lines[-1])
+
+
+# ---- faults of the text: hints with a value
+
+@form(r'  = help: `(\w+)` was read as a name: is the count behind `(\w+)`, (\d+), too large, or is something missing in front of `(\w+)`\?')
+def read_as_name(page, word, section, count, again: str):
+    facts = page.facts
+    same('the name', (word, again), (facts.name.bytes.decode('latin-1'),) * 2)
+    same('the count', (section, count), (KEYWORDS[KEYWORDS.index(word) - 1] if word != 'RTP' else 'CON', facts.counts.get(section)))
+
+
+@form(r'  = help: is the file cut\? `(\w+)` is missing: write (.*)')
+def keyword_missing(page, section, words: str):
+    true(page.facts.is_end, 'the text does not end here')
+    same('what is missing', (section, words), (page.facts.role.section, EMPTY[section]))
+
+
+@form(r'  = help: keywords are in capitals: is `(\w+)` meant\?')
+def capitals(page, word):
+    token = page.facts.token.bytes.decode('latin-1')
+    true(word in KEYWORDS and token.upper() == word != token, 'the token is another one')
+
+
+@form(r'  = help: the section `(\w+)` was read before: is it here twice\?')
+def twice(page, word):
+    same('the token', word.encode(), page.facts.token.bytes)
+    true(KEYWORDS.index(word) < KEYWORDS.index(page.facts.role.section), 'it was not')
+
+
+@form(r'  = help: `(\w+)` is missing or in another place: in front of `(\w+)` write (.*)')
+def section_missing(page, section, found, words: str):
+    facts = page.facts
+    same('what is missing', (section, words), (facts.role.section, EMPTY[section]))
+    same('the token', found.encode(), facts.token.bytes)
+    true(KEYWORDS.index(found) > KEYWORDS.index(section), 'it is no later section')
+
+
+@form(r'  = help: `(\w+)` is the keyword of a section: is the count behind `INT`, (\d+), too large\?')
+def keyword_as_index(page, word, count):
+    same('the token', (word.encode(), count), (page.facts.token.bytes, page.facts.counts.get('INT')))
+    true(word in KEYWORDS, 'it is no keyword')
+
+
+@form(r'  = help: (?:indices count from 0: that of the last variable is (\d+)|the text has no variables \(VAR 0\))(; is this a constant\? An objective has none)?')
+def last_variable(page, index, constant):
+    facts = page.facts
+    same('the last variable', -1 if index is None else index, facts.counts['VAR'] - 1)
+    same('whether it is the objective', constant is not None, facts.role.section == 'OBJ')
+    true(facts.token.bytes.isdigit(), 'the token is no number')
+
+
+@form(rf'  = help: decimals are not in the format: write ({NUMBER})')
+def decimal(page, number):
+    token = page.facts.token.bytes
+    true(re.fullmatch(rb'[+-]?[0-9]*\.[0-9]*', token), 'the token is no decimal')
+    same('the number', number, Fraction(token.decode()))
