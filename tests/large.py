@@ -8,6 +8,8 @@ text is cut off or memory is said to be wanted. Every answer is known beforehand
 
 Prints each fault, and last `large: N runs, F failed`; the exit status is 1 if one failed.
 """
+import filecmp
+import hashlib
 import random
 import shutil
 import subprocess
@@ -123,13 +125,13 @@ def of_many_bytes(room):
 
 
 def of_its_digest(room):
-    """The digest of a text of 100 MB, as FILE and from a pipe, is that of `sha256sum`."""
+    """The digest of a text of 300 MB as FILE, and of one of 100 MB from a pipe, is that of Python's library."""
     path = room / 'summed'
-    path.write_bytes(b'% a comment, to be read and hashed\n' * 2_857_000 + (TOP / 'examples/infeasible.vipr').read_bytes())
-    digest = subprocess.run(['sha256sum', path], capture_output=True, text=True, check=True).stdout.split()[0]
-    lines = verdict(f'verified infeas\nsolutions 0 derived 1 peak 1\nsha256 {digest}')
-    expect('a digest', lines, ['check', '--sum', path])
-    expect('a digest, from a pipe', lines, ['check', '--sum'], path.read_bytes())
+    for count, words in (8_571_000, [path]), (2_857_000, []):
+        text = b'% a comment, to be read and hashed\n' * count + (TOP / 'examples/infeasible.vipr').read_bytes()
+        path.write_bytes(text)
+        lines = verdict(f'verified infeas\nsolutions 0 derived 1 peak 1\nsha256 {hashlib.sha256(text).hexdigest()}')
+        expect('a digest', lines, ['check', '--sum', *words], b'' if words else text)
 
 
 def of_one_name(room):
@@ -150,7 +152,7 @@ def of_one_name(room):
 
 
 def of_long_names(room):
-    """OUT of 40 MB, of a thousand names of 40 kB, new and FILE itself."""
+    """OUT of 40 MB, of a thousand names of 40 kB, new and FILE itself; and 300 MB to standard output."""
     text, kept = many(1, 0, 1000, True)
     text = text.replace(b'\nf', b'\n' + b'f' * 40_000)
     path, out = room / 'named', room / 'out'
@@ -158,6 +160,11 @@ def of_long_names(room):
     for target in out, path:
         expect('long names', (b'', b'kept %d removed 0 peak 1000 1000\n' % kept, 0), ['tighten', path, '--out', target])
         CHECKS.expect(f'a text with long names in {target.name}', target.read_bytes() == text, True)
+    path.write_bytes(many(1, 0, 5000, True)[0].replace(b'\nf', b'\n' + b'f' * 60_000))
+    with out.open('wb') as file:
+        done = subprocess.run([PROGRAM, 'show', path], stdout=file, stderr=subprocess.PIPE, timeout=SECONDS, check=False)
+    CHECKS.count += 1
+    CHECKS.expect('vipr show: 300 MB', (done.returncode, done.stderr, filecmp.cmp(path, out, shallow=False)), (0, b'', True))
 
 
 def beside_beginnings(room, proof, other):

@@ -4,11 +4,11 @@
 usage: tests/library.py [PROGRAM]     crates/vipr/out/vipr without it
 
 `make install-lib` installs it into a folder. tests/library.c, with the archive alone, makes each call on all examples,
-by both profiles, in both forms and with less room than they need, on beginnings of each and on a text of 5 MB; and
-with each of its growths refused. The callers of examples/c, cpp, python and rust check all examples with the shared
-library, and so do those in C, C++ and Rust with the archive. Memcheck and helgrind, if they are there, look at some of
-it. `make uninstall-lib` removes all of it. Prints each difference, and last `library: N texts, F different`. What
-isn't built for want of a compiler is named. The exit status is 1 if a text or a file differs.
+by both profiles, in both forms and with less room than they need, on beginnings of each and on a text of 5 MB; the call
+that checks on one of 300 MB; and with each of its growths refused. The callers of examples/c, cpp, python and rust check
+all examples with the shared library, and so do those in C, C++ and Rust with the archive. Memcheck and helgrind, if they
+are there, look at some of it. `make uninstall-lib` removes all of it. Prints each difference, and last `library: N texts,
+F different`. What isn't built for want of a compiler is named. The exit status is 1 if a text or a file differs.
 """
 import hashlib
 import os
@@ -258,6 +258,15 @@ def look_at_names(program):
         fail('the version, or too few names of causes')
 
 
+def look_at_length(program, room):
+    """The call that checks, on 300 MB: a comment in front of a proof."""
+    path = room / 'long'
+    path.write_bytes(b'%' + b' ' * 300_000_000 + b'\n' + (TOP / 'examples/infeasible.vipr').read_bytes())
+    words, answer_of_it = next(calls(path, False))
+    compare([program, path], [([*words, 0], answered(0, *answer_of_it))])
+    path.unlink()
+
+
 def look_at_memory(program, room):
     """Each growth refused in turn, and memcheck and helgrind, if they are there."""
     names = sorted((TOP / 'examples').rglob('*.vipr'))
@@ -295,6 +304,7 @@ def look_at_texts(prefix, room):
         jobs = [pool.submit(look_at_calls, program, *it) for it in texts(room)]
         count = len([job.result() for job in jobs])
     look_at_names(program)
+    look_at_length(program, room)
     return count
 
 
