@@ -22,7 +22,7 @@ import tempfile
 from pathlib import Path
 
 from sources import replaced
-from texts import TOP, Checks, program, run, text_of
+from texts import TOP, Checks, may_trace, program, run, text_of, traced
 import families
 
 PAGE = TOP / 'docs/SECURITY.md'
@@ -72,12 +72,9 @@ def filter_of(calls, name):
     return None if run([path.with_suffix(''), PROGRAM, '--version']).returncode == 99 else path.with_suffix('')
 
 
-def traced(words, text=b'', options=()):
+def calls_of(words, text=b'', options=()):
     """The calls of a run, each whole, those of the loader and those of the program."""
-    with tempfile.NamedTemporaryFile(dir=OUTSIDE) as file:
-        run(['strace', '-f', '-qq', *options, '-o', file.name, PROGRAM, *words], text, cwd=ROOM)
-        calls = [re.sub(r'^\d+ +', '', line) for line in Path(file.name).read_text(errors='replace').split('\n')]
-    calls = [line for line in calls if re.match(r'\w+\(', line)]
+    _, calls = traced([PROGRAM, *words], *options, text=text, cwd=ROOM)
     begins = next((n for n, line in enumerate(calls) if line.startswith(BEGINS)), len(calls))
     return calls[:begins], calls[begins:]
 
@@ -156,7 +153,7 @@ def main():
     rows = re.findall(r'^\| .* \| (.*) \|$', page.split(MARKS[0])[1].split(MARKS[1])[0], re.M)[1:]
     known = [set(re.findall(r'`(\w+)`', row)) for row in rows]
     for words, text, paths, is_out, options in runs():
-        loader, own = traced(words, text, options)
+        loader, own = calls_of(words, text, options)
         kept.append((words, text, is_out))
         found[None] |= names(loader)
         found[is_out] |= names(own)
@@ -180,8 +177,8 @@ def main():
 CHECKS = Checks('calls', 'runs')
 WRITES = '--write' in sys.argv
 PROGRAM = program([word for word in sys.argv[1:] if word != '--write'])
-with tempfile.TemporaryDirectory(prefix='vipr-calls-') as ROOM, tempfile.TemporaryDirectory() as OUTSIDE:
-    if not shutil.which('strace') or not any(traced(['--version'])):
+with tempfile.TemporaryDirectory(prefix='vipr-calls-') as ROOM:
+    if not may_trace():
         CHECKS.skip('strace that may trace', 'no call is looked at')
         STATUS = 0
     else:

@@ -21,7 +21,7 @@ import time
 from collections import Counter
 from pathlib import Path
 
-from texts import TOP, Checks, program, run
+from texts import TOP, Checks, program, run, traced
 
 SMALL = (TOP / 'examples/cutoff_loose.vipr').read_bytes()
 KINDS = 'new', 'there', 'FILE', 'link'
@@ -101,15 +101,8 @@ def tight(text):
 
 
 def calls_of(kind):
-    """The names of the system calls of a run, those of the loader too; None if they can't be seen."""
-    if not shutil.which('strace'):
-        return None
-    room = Room(kind, SMALL)
-    trace = room.folder / 'trace'
-    run(['strace', '-o', trace, *room.words()])
-    lines = trace.read_text().split('\n') if trace.exists() else []
-    names = [line.split('(')[0] for line in lines if '(' in line]
-    return names if 'openat' in names else None
+    """The names of the system calls of a run, those of the loader too; none if they can't be seen."""
+    return [line.split('(')[0] for line in traced(Room(kind, SMALL).words())[1]]
 
 
 def at_each_call(whole):
@@ -123,7 +116,7 @@ def at_each_call(whole):
         for name in names[1:]:
             met[name] += 1
             room = Room(kind, SMALL)
-            run(['strace', '-o', '/dev/null', '-e', f'inject={name}:signal=KILL:when={met[name]}', *room.words()])
+            traced(room.words(), '-e', f'inject={name}:signal=KILL:when={met[name]}')
             expect(f'killed at {name} {met[name]}', room, whole)
 
 

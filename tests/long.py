@@ -32,7 +32,6 @@ import hashlib
 import os
 import random
 import re
-import shutil
 import sys
 import tempfile
 import threading
@@ -41,7 +40,7 @@ from pathlib import Path
 
 import page_model
 from damage import changed, damaged, nearly
-from texts import TOP, Checks, examples, fed, program, run
+from texts import TOP, Checks, examples, fed, may_trace, program, run, traced
 
 words_of = argparse.ArgumentParser(description=__doc__.split('\n', maxsplit=1)[0])
 words_of.add_argument('program', nargs='*')
@@ -579,7 +578,8 @@ def damaged_texts():
 
 def opened_once(path):
     """A file is opened once, whatever is explained."""
-    count = run(['strace', '-f', '-e', 'trace=open,openat', PROGRAM, 'explain', '--long', path]).stderr.count(str(path).encode())
+    _, calls = traced([PROGRAM, 'explain', '--long', path], '-e', 'trace=open,openat')
+    count = sum(str(path) in line for line in calls)
     check(count == 1, f'{path}: opened {count} times')
 
 
@@ -685,6 +685,7 @@ def unread(path, reason):
 
 
 def main():
+    is_traced = may_trace()
     with tempfile.TemporaryDirectory() as folder:
         path = Path(folder) / 'copy.vipr'
         path.write_bytes(b'')
@@ -732,7 +733,7 @@ def main():
                 check(part not in page, f'{text[:400]!r}: {part!r} in {page}')
             if not words:
                 page_of(path, text[:40])
-            if shutil.which('strace'):
+            if is_traced:
                 opened_once(path)
             keep(' '.join([*words, text[:1000]]).replace('\n', ' ').encode('unicode_escape').decode(), page, path)
         for text in CAUSES:
@@ -749,8 +750,8 @@ def main():
         check('write 9000 or -1 here' in page_of(path, 'a late reference'), 'a late reference')
     compare()
     count_unreached()
-    if not shutil.which('strace'):
-        CHECKS.skip('strace', 'it is not known how often a file is opened')
+    if not is_traced:
+        CHECKS.skip('strace that may trace', 'it is not known how often a file is opened')
     return CHECKS.end()
 
 

@@ -347,7 +347,7 @@ def relative():
 
 def like_its_own():
     """A file whose name is that of a new file of a run, or is like one, is as any other: as FILE, as OUT and beside them."""
-    may_trace = shutil.which('strace') and not traced(['--version'])[0][2]
+    is_traced = texts.may_trace()
     for middle in 'keep', 'my-notes', '0123456789abcdef':
         name = f'.vipr-tighten-{middle}.tmp'
         folder, file = fresh()
@@ -360,7 +360,7 @@ def like_its_own():
         expect(f'{name} as FILE: it', (read(named), names(folder)), (LOOSE, sorted([name, 'a.vipr', 'out'])))
         out.unlink(missing_ok=True)
         for words in (named, '--out', out), (file, '--out', named):
-            if may_trace:
+            if is_traced:
                 got = traced(['tighten', *words], '-e', 'trace=fsync', '-e', 'inject=fsync:error=EIO:when=1')[0]
                 expect(f'{name} and a disk that fails', got, (b'', b'fault write after %d\n' % len(TIGHT), 3))
                 expect(f'{name} and a disk that fails: it', (read(named), names(folder)), (LOOSE, sorted([name, 'a.vipr'])))
@@ -472,11 +472,11 @@ LIMIT = 50
 def ends():
     """What OUT is after each end of a run is what the page has in its table."""
     page = (TOP / 'docs/SECURITY.md').read_text(encoding='utf-8')
-    may_trace = shutil.which('strace') and not traced(['--version'])[0][2]
+    is_traced = texts.may_trace()
     for end, *cells in ENDS:
         expect(f'the page: {end}', f'| {end} | {" | ".join(cells)} |' in page, True)
         for kind, cell in zip(('new', 'there', 'in place', '>'), cells):
-            if cell != 'never' and (may_trace or 'disk' not in end):
+            if cell != 'never' and (is_traced or 'disk' not in end):
                 one_end(end, kind, cell)
 
 
@@ -532,18 +532,16 @@ def lines():
 
 def traced(words, *settings, stdout=subprocess.PIPE):
     """A run under strace, with the calls that it made once FILE was opened."""
-    trace = Path(tempfile.mkdtemp(dir=WORK)) / 'trace'
     CHECKS.count += 1
-    got = texts.run(['strace', '-o', trace, *settings, PROGRAM, *words], stdout=stdout)
-    text = trace.read_text().split('\n') if trace.exists() else []
-    first = next((n for n, line in enumerate(text) if 'a.vipr' in line and 'openat' in line), len(text))
-    return got, [line for line in text[first:] if '(' in line]
+    got, lines_of = texts.traced([PROGRAM, *words], *settings, stdout=stdout)
+    first = next((n for n, line in enumerate(lines_of) if 'a.vipr' in line and 'openat' in line), len(lines_of))
+    return got, lines_of[first:]
 
 
 def calls():
     """The file is closed before the line is written; a call that fails is a failed write, and OUT as it was."""
     folder, file = fresh()
-    if not shutil.which('strace') or traced(['tighten', file], '-e', 'trace=openat')[0][2]:
+    if not texts.may_trace():
         CHECKS.skip('strace that may trace', 'the calls of a run are left out')
         return
     got, lines_of = traced(['tighten', file, '--out', file], '-e', 'trace=openat,flock,rename,close,write,fsync,fchmod')
@@ -606,10 +604,10 @@ def failing_calls(text, tight, kept):
 
 def call_at(file, word):
     """Which one of the calls that open a file has this word, in a run that writes to FILE."""
-    text, trace = file.read_bytes(), Path(WORK, 'openat')
-    texts.run(['strace', '-o', trace, '-e', 'trace=openat', PROGRAM, 'tighten', file, '--out', file])
+    text = file.read_bytes()
+    _, lines_of = texts.traced([PROGRAM, 'tighten', file, '--out', file], '-e', 'trace=openat')
     file.write_bytes(text)
-    return next(n for n, line in enumerate(trace.read_text().split('\n'), 1) if word in line)
+    return next(n for n, line in enumerate(lines_of, 1) if word in line)
 
 
 def failing_owner():

@@ -7,6 +7,7 @@ import resource
 import shutil
 import subprocess
 import sys
+import tempfile
 import termios
 import threading
 import time
@@ -77,6 +78,21 @@ def run(words, text=b'', **more):
     except subprocess.TimeoutExpired as ended:
         return Ran(ended.stdout, ended.stderr, None)
     return Ran(done.stdout, done.stderr, done.returncode)
+
+
+def traced(words, *options, **more):
+    """What a run answers under strace, and its calls, a line each; none if strace isn't here or may not trace."""
+    if not shutil.which('strace'):
+        return Ran(b'', b'', None), []
+    with tempfile.NamedTemporaryFile() as file:
+        got = run(['strace', '-f', '-qq', '-o', file.name, *options, *words], **more)
+        lines = [re.sub(r'^\d+ +', '', line) for line in Path(file.name).read_text(errors='replace').split('\n')]
+    return got, [line for line in lines if re.match(r'\w+\(', line)]
+
+
+def may_trace():
+    """Whether strace is here and shows the calls of a run."""
+    return bool(traced(['true'])[1])
 
 
 def is_unread(pipe):
