@@ -20,7 +20,7 @@ sys.path.insert(0, os.path.join(ROOT, 'tools'))
 import wrong  # noqa: E402
 import literals  # noqa: E402
 import statement  # noqa: E402
-from sources import crates, levels, read, replaced  # noqa: E402
+from sources import crates, head_of, levels, read, replaced  # noqa: E402
 
 WIDTH = 100
 LENGTH = 800
@@ -70,10 +70,6 @@ def private_lemmas():
                     yield '%s:%d: %s is public' % (shown(lib), n, m[1])
 
 
-DEFINED = re.compile(r'^(?:unfoldable |abbrev )?pub (?:abbrev |record |data )?([^\s:({]+)'
-                     r'|^(?:abbrev|unfoldable|record|data) (?:pub )?([^\s:({]+)')
-
-
 # the statement that can be read by itself: its words are its own
 BY_ITSELF = 'vipr_spec/specs/Short.antt'
 
@@ -86,9 +82,9 @@ def names_twice():
             continue
         here = set()
         for n, line in enumerate(read(path).split('\n'), 1):
-            m = DEFINED.match(line)
-            name = m and (m[1] or m[2])
-            if name and name not in ('use', 'mod', 'open', 'ruleset') and name not in MODEL_WORDS and name not in here:
+            m = head_of(line)
+            name = m and not m[1] and m[2] and m[3]
+            if name and name not in MODEL_WORDS and name not in here:
                 here.add(name)
                 places[name].append('%s:%d' % (shown(path), n))
     for name in sorted(places):
@@ -182,23 +178,19 @@ def unused_imports():
                     yield '%s:%d: %s' % (shown(path), text[:use.start()].count('\n') + 1, name)
 
 
-HEAD = re.compile(r'^(  )?(?:(?:pub|abbrev|unfoldable|record|data) )*([^\s:({]+)(?=[\s:({])')
-
-
 def heads(lines):
     """Of each lemma and each definition of a file its line, its name, and the lines that state and prove it."""
     n, in_module = 0, False
     while n < len(lines):
-        head = HEAD.match(lines[n])
+        head = head_of(lines[n])
         in_module = lines[n].startswith('module ') or in_module and lines[n][:1] in ('', ' ')
         indent = (head and head[1]) or ''
-        is_one = head and not lines[n].startswith(indent + '--') and head[2] not in ('use', 'mod', 'open', 'module')
         end = n + 1
-        if is_one and (not indent or in_module) and re.search(r' :( |$)', lines[n]):
-            own = re.compile(r'%s(?: |--|%s(?: |$))|$' % (indent, re.escape(head[2])))
+        if head and (not indent or in_module) and re.search(r' :( |$)', lines[n]):
+            own = re.compile(r'%s(?: |--|%s(?: |$))|$' % (indent, re.escape(head[3])))
             while end < len(lines) and own.match(lines[end]):
                 end += 1
-            yield n + 1, head[2], '\n'.join(lines[n:end])
+            yield n + 1, head[3], '\n'.join(lines[n:end])
         n = end
 
 

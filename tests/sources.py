@@ -57,6 +57,18 @@ def in_order(crate):
     return sorted(found, key=lambda it: rank.get(it.relative_to(folder).with_suffix('').parts[0], len(rank)))
 
 
+# how a definition or a lemma begins: its indent, the words that mark it, and its name
+HEAD = re.compile(r'(  )?((?:(?:pub|abbrev|unfoldable|record|data) )*)([^\s:({]+)(?=[\s:({]|$)')
+# what else a line of antt begins with
+NO_NAMES = {'use', 'mod', 'open', 'module', 'ruleset', 'unfolding', 'infix', 'infixl', 'infixr'}
+
+
+def head_of(line):
+    """The match of HEAD, if the line begins a definition or a lemma."""
+    found = HEAD.match(line)
+    return found if found and found[3] not in NO_NAMES and not found[3].startswith('--') else None
+
+
 def changed(edit):
     """The file of its crate that an edit changes."""
     found = re.search(r'^file: (.*)$', read(edit), re.M)

@@ -16,7 +16,7 @@ import re
 import sys
 import textwrap
 
-from sources import CRATES, TOP, files_of, functions, in_order, read, record_fields
+from sources import CRATES, TOP, files_of, functions, head_of, in_order, read, record_fields
 
 TARGET, EXAMPLES = TOP / 'docs/STATEMENT.md', TOP / 'tests/statement_examples.md'
 SPEC_CRATES = ['vipr_spec', 'vipr_bytes', 'vipr_cert', 'vipr_check', 'vipr_tighten']
@@ -259,13 +259,11 @@ def signatures(lines):
     """Name and kind of each definition of a paragraph: how its first line begins."""
     out = []
     for line in lines:
-        if line[0] in ' -' or re.match(r'(use|mod|pub use|pub mod|unfoldable pub use|infix|unfolding|open)\b', line):
-            continue
-        marked = re.match(r'(abbrev|unfoldable|pub (?:record|data)|record|data|abbrev pub|unfoldable pub)\b', line)
-        m = re.match(r'(?:(?:abbrev|unfoldable) )?(?:pub )?(?:(?:record|data) (?:pub )?)?(%s)' % NAME, line)
-        head = line[m.end():] if m else ''
-        if m and (marked or re.match(r' :', head)):
-            out.append((m[1], 'definition' if marked else 'proof'))
+        head = head_of(line)
+        if head and not head[1]:
+            marked = re.search(r'abbrev|unfoldable|record|data', head[2])
+            if marked or line[head.end():].startswith(' :'):
+                out.append((head[3], 'definition' if marked else 'proof'))
     return out
 
 
