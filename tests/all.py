@@ -56,7 +56,7 @@ SCRIPTS = [
     ['docs/architecture.py', '--check'],
 ]
 # what isn't run there: this script, what makes a page of its output, and modules of the others
-OTHERS = {'all', 'damage', 'gate', 'literals', 'many_files', 'mps_changes', 'page_facts', 'page_hints', 'page_lines', 'page_model', 'sources', 'statement', 'texts', 'toolchain', 'wrong_rules'}
+OTHERS = {'all', 'damage', 'gate', 'literals', 'many_files', 'mps_changes', 'page_facts', 'page_hints', 'page_lines', 'page_model', 'page_texts', 'sources', 'statement', 'texts', 'toolchain', 'wrong_rules'}
 TICKS = os.sysconf('SC_CLK_TCK')
 SECONDS_BETWEEN = 1
 

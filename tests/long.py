@@ -38,7 +38,9 @@ import threading
 from fractions import Fraction
 from pathlib import Path
 
+import page_facts
 import page_model
+import page_texts
 from damage import changed, damaged, nearly
 from texts import TOP, Checks, examples, fed, may_trace, program, run, traced
 
@@ -51,7 +53,7 @@ GIVEN = words_of.parse_args()
 PROGRAM = program(GIVEN.program)
 PAGES = TOP / 'tests/long_pages.txt'
 PROBLEMS = TOP / 'examples/problems'
-MOST_BYTES = 65536
+MOST_BYTES, CUT = 65536, b'.. the rest is left out\n'
 
 # The problem, what is replaced by what, where the long explanation points, and what it says to change.
 MISTAKES = [
@@ -576,6 +578,29 @@ def damaged_texts():
             is_true(page, text, f'text {number} of seed {GIVEN.seed}, {path.name} as {text}', profile=profile)
 
 
+def large_texts():
+    """What is said of texts that are large in one respect is true."""
+    for name, text in page_texts.texts():
+        for profile in (1, 2) if len(text) < 100_000 else (1,):
+            is_true(explained(['--long', '--profile', profile], text)[0], text, name, profile=profile)
+
+
+def cut_pages(path):
+    """A page is whole up to 65,512 bytes. Of a longer one the lines are there that fit, and a line behind them that says so."""
+    text = page_texts.with_long_page()
+    path.write_bytes(text)
+    front = len(explained([path])[0])
+    page, given = explained(['--long', path])[0][front:], str(path).encode()
+    room = (MOST_BYTES - len(CUT) - len(page.replace(given, b''))) // page.count(given)
+    for size in (room - 1, room, room + 1, room + 500):
+        named = page_texts.path_shown_in(path.parent, size)
+        named.write_bytes(text)
+        whole = page.replace(given, page_facts.shown(bytes(named)).encode())
+        lines = whole[:MOST_BYTES - len(CUT)].rpartition(b'\n')[0] + b'\n'
+        wanted = whole if len(whole) <= MOST_BYTES - len(CUT) else lines + CUT
+        check(explained(['--long', named])[0][front:] == wanted, f'a page of {len(whole)} bytes')
+
+
 def opened_once(path):
     """A file is opened once, whatever is explained."""
     _, calls = traced([PROGRAM, 'explain', '--long', path], '-e', 'trace=open,openat')
@@ -746,6 +771,8 @@ def main():
         of_a_pipe(Path(folder) / 'pipe', PROBLEMS / 'cutoff.vipr')
         changes_suffice()
         damaged_texts()
+        large_texts()
+        cut_pages(path)
         path.write_text(LATE)
         check('write 9000 or -1 here' in page_of(path, 'a late reference'), 'a late reference')
     compare()

@@ -122,7 +122,7 @@ class Facts:
     """What is known of a text by a profile: its verdict, its items as far as they can be read, and the places of tokens."""
 
     def __init__(self, text, profile):
-        self.text, self.profile = text, profile
+        self.text, self.profile, self.near = text, profile, None
         self.checker = Rules(text, profile)
         try:
             answer, self.refused = self.checker.run(), None
@@ -136,7 +136,7 @@ class Facts:
 
     def read_tokens(self):
         """Walks the tokens up to the one at a fault of the text: `role` and `token` are what is wanted there, and it."""
-        self.names, self.lasts, self.spots, self.counts = {}, {}, {}, {}
+        self.names, self.lasts, self.counts = {}, {}, {}
         self.token = self.name = NOTHING
         end = int(self.place.split()[1]) if self.is_text_fault() else len(self.text) + 1
         walk = roles()
@@ -160,7 +160,6 @@ class Facts:
             elif role.wanted == 'count':
                 self.counts[role.section] = count_of(found[0])
                 given = self.counts[role.section] if role.section == 'CON' else given
-            self.spots[role.wanted, kind, item, role.part] = self.token
             self.role = walk.send(found[0])
         self.given = given
 
@@ -264,6 +263,11 @@ class Facts:
 
     def nearest(self):
         """The constraints that come nearest to the claim, in their order."""
+        if self.near is None:
+            self.near = self.find_nearest()
+        return self.near
+
+    def find_nearest(self):
         goal = self.checker.goal
         is_like = rules.is_absurd if self.checker.bounds is None else lambda it: it[0] == goal[0]
         found = []

@@ -4,6 +4,7 @@ A form is a function below `form`: its pattern, and what is tested of a line tha
 the pattern, which are numbers unless they are marked as texts. What a line says is worked out again from page_facts.py. A change
 of a sum that a page offers is made here, and the rule is applied to it.
 """
+import os
 import re
 from collections import Counter
 from fractions import Fraction
@@ -83,7 +84,7 @@ def wanted(facts):
 
 @form(r'( *)--> (.*):(\d+):(\d+)')
 def arrow(page, margin: str, file: str, line, column):
-    same('the file', file, shown(page.file.encode()))
+    same('the file', file, shown(os.fsencode(page.file)))
     same('the margin', len(margin), len(str(line)))
     lines = page.facts.text.split(b'\n', line - 1 + 1)[:line]
     true(len(lines) == line and column <= len(lines[-1]) + 1, 'there is no such place')
@@ -113,18 +114,18 @@ def carets(page, margin: str, front: str, marks: str, label: str):
     begin = facts.text.rfind(b'\n', 0, token.at) + 1
     end = re.compile(rb'[\r\n]|$').search(facts.text, token.at).start()
     window = facts.text[token.at:min(end, token.at + len(page.excerpt) + 1)]
-    width, is_part = 0, False
+    width, ends = 0, set()
     for at in range(token.at, max(begin, token.at - len(front)) - 1, -1):
         width += len(shown(facts.text[at:at + 1])) if at < token.at else 0
         cut = 2 * (at > begin)
         if width + cut == len(front):
             whole = '..'[:cut] + shown(facts.text[at:token.at] + window)
-            is_short = whole == page.excerpt and token.at + len(window) == end
-            is_cut = page.excerpt.endswith('..') and whole.startswith(page.excerpt[:-2]) and len(whole) > len(page.excerpt) - 2
-            is_part = is_part or is_short or is_cut
-    true(is_part, f'the excerpt {page.excerpt!r} is not of the line, or the carets are at another place of it')
-    seen = len(page.excerpt) - len(front) - 2 * (not is_short)
-    same('the carets', len(marks), max(1, min(MOST_CARETS, len(shown(token.bytes)), seen)))
+            if whole == page.excerpt and token.at + len(window) == end:
+                ends.add(len(whole))
+            elif page.excerpt.endswith('..') and whole.startswith(page.excerpt[:-2]) and len(whole) > len(page.excerpt) - 2:
+                ends.add(len(page.excerpt) - 2)
+    true(ends, f'the excerpt {page.excerpt!r} is not of the line, or the carets are at another place of it')
+    same('the carets', len(marks), max(1, min(MOST_CARETS, len(shown(token.bytes)), max(ends) - len(front))))
 
 
 def labelled(page, label):
@@ -367,12 +368,14 @@ def source(page, name: str, words: str):
     terms = [f'{Fraction(multiplier)} x {facts.constraint(at).row[index]} of [{at}]'
              for at, multiplier in facts.own().entries if index in facts.constraint(at).row]
     listed = [it for it in re.sub(r' ?\.\.$', '', words).split(', ') if it not in ('', 'no entry')]
-    same('the entries of a coefficient', listed, [it for it in terms if it in listed][:len(listed)])
+    same('the entries of a coefficient', listed, terms[:len(listed)] if len(listed) == len(terms) else [it for it in terms if it in listed][:len(listed)])
+    shown_ones = {facts.own().entries[it][0] for it in page.entries}
+    is_unknown = any(it >= facts.given and it not in shown_ones for it, _ in facts.own().entries)
     is_cut = words.endswith('..')
     true(is_cut or listed == terms, f'it comes from {terms}')
-    true(not is_cut or len(facts.own().entries) > MOST_ENTRIES or len(terms) > len(listed), 'nothing is left out')
-    if words == 'no entry':
-        same('the entries', terms, [])
+    true(not is_cut or len(terms) > len(listed) or is_unknown, 'nothing is left out')
+    true(len(terms) == len(listed) or len(listed) >= MOST_SHOWN or is_unknown, 'more is left out than has to be')
+    same('whether there is none', words == 'no entry', not terms and not is_cut)
 
 
 @form(r'  = help: `rnd` in place of `lin` rounds the right-hand side to (-?\d+)')

@@ -12,8 +12,9 @@ from page_hints import HINTS, ends_text, is_near_miss, is_strong_near
 from page_lines import FORMS, Page, is_crossed, is_second, proved
 
 
-def required(facts):
-    """What a page has to say: the kind of a line, and how many lines of it there are."""
+def required(facts, said):
+    """What a page has to say: the kind of a line, and how many lines of it there are, None for one or more."""
+    yield from {'excerpt': said['arrow'], 'carets': said['arrow'], 'bar': 2 * said['arrow']}.items()
     cause = facts.refused
     if cause is None:
         yield 'claim', 1
@@ -25,22 +26,23 @@ def required(facts):
         return
     yield 'see', 1
     if facts.is_text_fault():
-        yield from {'text_error': 1, 'arrow': 1, 'excerpt': 1, 'carets': 1, 'reading': 1}.items()
+        yield from {'text_error': 1, 'arrow': 1, 'reading': 1, 'help': 1 + ends_text(facts)}.items()
         yield 'hint: the text ends with this token: is the file cut?', int(ends_text(facts))
     elif facts.place.startswith('SOL'):
-        yield from {'solution_error': 1, 'arrow': 1, 'excerpt': 1, 'carets': 1}.items()
-        yield from {21: ('not_whole',), 22: ('broken', 'left_side'), 23: ('past_limit',)}[cause] and (
-            (kind, 1) for kind in {21: ('not_whole',), 22: ('broken', 'left_side'), 23: ('past_limit',)}[cause])
+        kinds = {21: ('not_whole',), 22: ('broken', 'left_side'), 23: ('past_limit',)}[cause]
+        yield from dict.fromkeys((*kinds, 'solution_error', 'label this', 'help'), 1).items()
         if cause == 22 and facts.plain(int(facts.details['constraint'].split()[0]))[0] and facts.solutions[facts.number()].values:
             yield 'hint: is a value rounded, as one of floating point is? Write exact fractions', int(is_near_miss(facts))
     elif cause == 52:
         yield from {'no_primal': 1, 'wanted_value': 1, 'value': min(facts.listed, MOST_SOLUTIONS)}.items()
         yield ('attained' if facts.listed else 'lists_none'), 1
+        yield 'help', None
         lower, upper = facts.checker.bounds
         yield 'exchanged', int(lower is not None and upper is not None and lower > upper)
     elif cause == 51:
         count = len(facts.nearest())
         yield from {'no_proof': 1, 'wanted_constraint': 1, 'nearest': int(count > 0), 'none_near': int(count == 0), 'near': count}.items()
+        yield 'help', 1
         yield from required_advice(facts)
     else:
         yield from required_of_step(facts)
@@ -72,6 +74,8 @@ def required_of_step(facts):
         yield from {'sum_reason': 1, 'entry': min(count, MOST_ENTRIES) + is_late, 'entries_left': int(count > MOST_ENTRIES)}.items()
     else:
         yield ('case', 4) if own.reason == 'uns' else ('plain_reason', 1)
+    if cause != 37:
+        yield 'help', None
     if cause == 31:
         yield 'from_zero', 1
     if cause == 32:
@@ -187,10 +191,14 @@ def read(page_text, text, profile=1, file='standard input'):
     if not (page_text.startswith(front_lines + '\n') and page_text.endswith('\n')):
         return [f'it does not begin with the lines {facts.lines}, or the last line has no end'], []
     page, found = Page(facts, file), []
-    for line in page_text[len(front_lines) + 1:].split('\n')[:-1]:
+    lines = page_text[len(front_lines) + 1:].split('\n')[:-1]
+    for line in lines:
         fault = line_faults(page, line)
         found += [f'{line!r}: {fault}'] if fault else []
-    for kind, count in required(facts):
+    helps = [it for it in lines if it.startswith('  = ')]
+    page.said['help'] = sum(it.startswith('  = help: ') for it in helps)
+    found += ['a line is there twice'] if len(set(helps)) < len(helps) else []
+    for kind, count in required(facts, page.said):
         got = len(page.offers) if kind == 'offers' else page.said[kind]
         if (got == 0) if count is None else got != count:
             found.append(f'{got} lines of the kind {kind}, and there have to be {"some" if count is None else count}')
