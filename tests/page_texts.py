@@ -25,8 +25,8 @@ def many_derivations():
     yield 'a fault', front + 'bad G 2 1 0 1 { lin 1 0 one } -1\n'
     yield 'dropped', (f'{FRONT}RTP infeas SOL 0 DER {MANY + 3}\n{ONE * MANY}d G 1 1 0 1 {{ lin 1 0 1 }} {MANY + 2}\n'
                       f'e G 1 1 0 1 {{ lin 1 {MANY + 1} 1 }} -1\nf G 1 1 0 1 {{ lin 1 {MANY + 1} 1 }} -1\n')
-    yield 'verified', (f'{FRONT.replace("c G 1", "c G 4")}RTP range 4 inf SOL 0 DER {MORE + 1}\n'
-                       + ONE.replace('z G 1', 'z G 3') * MORE + 'g G 4 OBJ { lin 1 0 1 } -1\n')
+    yield 'verified', (f'{FRONT.replace("c G 1 1 0 1", "c G 8 1 0 2")}RTP range 4 inf SOL 0 DER {MORE + 1}\n'
+                       + 'z G 3 1 0 1 { lin 1 0 1/2 } -1\n' * MORE + 'g G 4 OBJ { lin 1 0 1/2 } -1\n')
     yield 'an assumption', (f'{FRONT}RTP range 9 inf SOL 0 DER {MANY + 2}\n{ONE * MANY}a E 18 1 0 2 {{ asm }} -1\n'
                             f'b G 9 OBJ {{ lin 1 {MANY + 1} 1/2 }} -1\n')
 
@@ -62,11 +62,12 @@ def long_sums():
     for count in (9, 10, 11, 12, 17, 1_000, 2_500):
         problem = f'VER 1.0 VAR 2 x y INT 0 OBJ min 0 CON 1 0 c G 1 2 0 1 1 {count} RTP infeas SOL 0 '
         yield f'{count} of the problem', f'{problem}DER 1 d G 1 1 0 {count} {{ lin {listed(count, *["0 1"] * count)} }} -1'
-        others = ' '.join(f'd{at} G 1 1 {int(at > 10)} 1 {{ lin 0 }} -1' for at in range(count))
-        others = others.replace('{ lin 0 }', '{ asm }')
+        yield f'{count} of two rows', (f'{problem.replace("CON 1 0", "CON 2 0 b G 1 1 0 1")}DER 1 d G 1 1 0 9 '
+                                       f'{{ lin {listed(count, *["0 1"] * (count - 3), *["1 1"] * 3)} }} -1')
+        others = ' '.join(f'd{at} G 1 1 {int(at > 10)} 1 {{ asm }} -1' for at in range(count))
         yield f'{count} derivations', f'{problem}DER {count + 1} {others} e G 1 1 0 {count + 1} {{ lin {pairs(count + 1)} }} -1'
-        yield f'{count}, the last turned', (f'{problem}DER {count + 1} {others} e G {count} 2 0 1 1 1 '
-                                            f'{{ lin {listed(count, *(f"{at + 1} {1 if at + 1 < count else -1}" for at in range(count)))} }} -1')
+        yield f'{count}, more of each second one', (f'{problem}DER {count + 1} {others} e G {count} 2 0 1 1 1 '
+                                            f'{{ lin {listed(count, *(f"{at + 1} {1 + at % 2}" for at in range(count)))} }} -1')
     for count in (11, 12, 13, 14, 300, 5_000):
         problem = f'VER 1.0 VAR {count} {listed(*(f"v{at}" for at in range(count)))} INT 0 OBJ max {pairs(count)} CON 1 0 c L 1 OBJ '
         yield f'a row of {count}', f'{problem}RTP infeas SOL 0 DER 1 d L 0 {pairs(count, 2)} {{ lin 1 0 1 }} -1'
