@@ -6,6 +6,8 @@ import tarfile
 import zipfile
 from pathlib import Path
 
+import build_manual
+
 TOP = Path(__file__).resolve().parent
 PROJECT = (TOP / 'pyproject.toml').read_text()
 VALUES = dict(re.findall(r'^([\w-]+) = "(.*)"$', PROJECT, re.M))
@@ -26,6 +28,7 @@ def build_wheel(wheel_directory, config_settings=None, metadata_directory=None):
 def write_wheel(folder, tag, built):
     """Writes a wheel of the package and of files that were built for one platform, by their names in it, and gives its name."""
     files = {path.relative_to(TOP).as_posix(): path.read_bytes() for path in sources()} | built
+    files |= {f'{NAME}.data/data/{path}': text.encode() for path, text in build_manual.files().items()}
     files[f'{NAME}.dist-info/METADATA'] = METADATA.encode()
     files[f'{NAME}.dist-info/WHEEL'] = (f'Wheel-Version: 1.0\nGenerator: vipr\nRoot-Is-Purelib: {"false" if built else "true"}\n'
                                         f'Tag: {tag}\n').encode()
@@ -48,6 +51,6 @@ def write_wheel(folder, tag, built):
 def build_sdist(sdist_directory, config_settings=None):
     name = f'{NAME}.tar.gz'
     with tarfile.open(Path(sdist_directory, name), 'w:gz') as archive:
-        for path in [*sources(), TOP / 'pyproject.toml', Path(__file__).resolve()]:
+        for path in [*sources(), *(TOP / name for name in ('pyproject.toml', 'build_manual.py', 'build_package.py'))]:
             archive.add(path, f'{NAME}/{path.relative_to(TOP)}')
     return name

@@ -9,13 +9,15 @@ nothing but what was installed is removed. The library isn't installed in a fold
 
 The archive is unpacked in an empty folder, or in ROOT and used there by chroot. Nothing but the system's own folders is on
 the path. Its sums are right; `vipr check` verifies an example, the man page is laid out if `man` is there, the callers in C
-(if there is a compiler) and Python answer as the program does, and the Python package's commands run. If dpkg-buildpackage
+(if there is a compiler) and Python answer as the program does, and the Python package's commands run, and have their man
+pages and completions. If dpkg-buildpackage
 and debhelper are there, it makes packages, and lintian, if it is there, finds no error in them. The archive made a second
 time has the same bytes, and so has the wheel, which is installed into an environment of its own, and the archive of the
 conformance cases, whose script runs the program on some. What isn't tried is named. It needs what `make lib` builds.
 
 Prints each fault, and last `archive: N checks, F failed`; the exit status is 1 if one failed.
 """
+import gzip
 import hashlib
 import re
 import shutil
@@ -25,6 +27,10 @@ import tempfile
 from pathlib import Path
 
 from texts import TOP, Checks
+
+sys.path.insert(0, str(TOP / 'python'))
+sys.dont_write_bytecode = True
+import build_manual  # noqa: E402
 
 VERSION = re.search(r'VIPR_VERSION "(.*)"', (TOP / 'include/vipr.h').read_text())[1]
 PATH = '/usr/sbin:/usr/bin:/sbin:/bin'
@@ -163,6 +169,10 @@ def tried_in_python(place):
     for command in sorted(wanted - {'vipr'}):
         status, out, fault = place.run(f'PYTHONDONTWRITEBYTECODE=1 PYTHONPATH=../unpacked/usr/lib/python3/dist-packages python3 ../unpacked/usr/bin/{command} --help')
         check(status == 0 and command in out, f'{command} --help: {out}{fault}')
+    for path, text in build_manual.files().items():
+        file = place.folder.parent / 'unpacked/usr' / path.replace('site-functions', 'vendor-completions')
+        there = gzip.decompress(file.with_name(f'{file.name}.gz').read_bytes()).decode() if '/man/' in path else file.read_text()
+        check(there == text, f'python3-vipr has another {path}')
     status, out, fault = place.run('PYTHONDONTWRITEBYTECODE=1 PYTHONPATH=../unpacked/usr/lib/python3/dist-packages VIPR_LIBRARY=lib/libvipr.so '
                                    f'python3 ../unpacked/usr/bin/vipr-html {EXAMPLE}')
     check(status == 0 and ': verified' in out, f'vipr-html: {out:.300}{fault}')
@@ -182,6 +192,8 @@ def tried_wheel(folder):
         return done.returncode, done.stdout, done.stderr
     status, out, fault = run('pip', 'install', '--no-index', '--quiet', wheel)
     check(status == 0, out + fault)
+    pages = {**build_manual.files(), 'share/man/man1/vipr.1': (TOP / 'man/vipr.1').read_text()}
+    check(all((folder / 'venv' / path).read_text() == text for path, text in pages.items()), 'the wheel has other man pages or completions')
     example = TOP / 'examples/infeasible.vipr'
     check(run('vipr', 'check', example) == (0, VERDICT, ''), f'the wheel has another program: {run("vipr", "check", example)}')
     status, out, fault = run('vipr-html', example)

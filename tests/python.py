@@ -13,6 +13,7 @@ usage: tests/python.py [PROGRAM]     crates/vipr/out/vipr without it
   packed file that is cut is status 3.
 - stats gives the goal of `vipr explain`, and as many needed derivations as `vipr tighten` keeps.
 - picture writes well-formed XML, with a box for each derivation, and the page's picture is as it is in docs/.
+- Each command's man page and completions say what its parser does: each flag and what it is for, and the words of a value.
 - Short texts that stand for long rows or large sets of assumptions are read within limits of memory and processor time.
 - check-all is tried by tests/many_files.py: each file has a row, what can't be seen too, and goes on after a stop.
 
@@ -35,6 +36,7 @@ import shutil
 import sys
 import tempfile
 import xml.etree.ElementTree
+from collections import Counter
 from concurrent.futures import ThreadPoolExecutor
 from pathlib import Path
 
@@ -45,12 +47,13 @@ import many_files
 PROGRAM = program(sys.argv[1:])
 sys.path.insert(0, str(TOP / 'python'))
 sys.dont_write_bytecode = True
+import build_manual  # noqa: E402
 import vipr  # noqa: E402
 from vipr import compare_mps, mps, picture, proof as structure, stats  # noqa: E402
 from mps_changes import CHANGES  # noqa: E402
 
 EXAMPLES = {path: path.read_bytes() for path in sorted((TOP / 'examples').rglob('*.vipr'))}
-NAMES = ('check-all', 'compare-mps', 'picture', 'stats')
+NAMES = ('audit', 'check-all', 'compare-mps', 'html', 'picture', 'stats')
 PIECES = [b'0', b'1', b'-1', b'OBJ', b'{', b'}', b'inf', b'-inf', b'1/0', b'3.5', b'9' * 39, b'4294967296', b'00007', b'+3/6',
           b'VER', b'%', b'lin', b'uns', b'G', b'x' * 65536, b'\xff\x1b']
 LARGE = 4_000_000
@@ -563,6 +566,65 @@ def commands(room, words):
     packed(room, words['compare-mps'], model, example)
 
 
+# (what a command's help has, as `-o TABLE, --out TABLE`, `--profile {1,2}` or `PATH`, and what it says of it)
+HELPED = re.compile(r'^  (\S.*?)(?:  +|\n +)(\S.*(?:\n   .*)*)', re.M)
+
+
+def manual(room, words):
+    """The man page and the completions of each command agree with its help, and change with its parser."""
+    check([f'vipr-{name}' for name in NAMES] == sorted(build_manual.COMMANDS), f'the commands are {build_manual.COMMANDS}')
+    made = build_manual.files()
+    for path, text in made.items():
+        (room / 'usr' / path).parent.mkdir(parents=True, exist_ok=True)
+        (room / 'usr' / path).write_text(text)
+    for name in NAMES:
+        command, said = f'vipr-{name}', run([*words[name], '--help']).stdout.decode()
+        if (room / 'site').is_dir():
+            check(all((room / 'site' / path).read_text() == made[path] for path in made if command in path), f'{command} is installed with other pages')
+        page, _, lists = said[said.index('\n\n'):].partition('positional arguments:')
+        wanted, every = page.replace('`', '').split(), []
+        for shown, about in HELPED.findall(lists):
+            flags, values = re.findall(r'(?<!\S)--?[a-z-]+', shown), re.search(r'{(.*?)}', shown)
+            wanted, every = wanted + about.split() + flags[-1:], every + flags
+            if values:
+                completed(room / 'usr', command, f'{flags[-1]} ', values[1].split(','))
+        completed(room / 'usr', command, '-', every)
+        manned(room / f'usr/share/man/man1/{command}.1', wanted)
+        parser = build_manual.parser_of(command)
+        parser.add_argument('--planted', metavar='N', type=int, help='a flag that was planted')
+        for path, text in build_manual.files_of(command, parser).items():
+            check('planted' in text.replace('\\-', '-') and text != made[path], f'{path} has nothing of a flag that was planted')
+
+
+def manned(page, wanted):
+    """A man page is laid out without a warning, and has these words of the help."""
+    if not shutil.which('groff'):
+        print('python: groff is not here, and no man page is laid out')
+        return
+    out, fault, status = run(['groff', '-man', '-ww', '-Tascii', '-P-cbou', '-rHY=0', '-rLL=2000n'], page.read_bytes())
+    check(status == 0 and not fault, f'{page.name}: {fault}')
+    missing = Counter(it.casefold().strip('.') for it in wanted) - Counter(it.casefold().strip('.') for it in out.decode().split())
+    check(not missing, f'{page.name} lacks {missing}')
+
+
+def completed(usr, command, typed, wanted):
+    """What bash and fish complete a line to has these words."""
+    words = [command, *typed.split(' ')]
+    function = '_' + command.replace('-', '_')
+    script = (f'compopt() {{ :; }}; source {usr}/share/bash-completion/completions/{command}; COMP_WORDS=({" ".join(map(repr, words))}); '
+              f'COMP_CWORD={len(words) - 1}; {function}; printf "%s\\n" "${{COMPREPLY[@]}}"')
+    answers = {'bash': run(['bash', '-c', script])}
+    if shutil.which('fish'):
+        script = f'source {usr}/share/fish/vendor_completions.d/{command}.fish; complete -C "{command} {typed}"'
+        answers['fish'] = run(['fish', '--no-config', '-c', script], env={**os.environ, 'HOME': str(usr)})
+    for shell, (out, fault, _) in answers.items():
+        got = {line.split('\t')[0] for line in out.decode().split('\n')}
+        check(wanted and got.issuperset(wanted) and not fault, f'{shell} completes {command} {typed!r} to {got}, wanted {wanted}: {fault}')
+    if shutil.which('zsh'):
+        out, fault, status = run(['zsh', '-n', usr / f'share/zsh/site-functions/_{command}'])
+        check(status == 0 and not fault, f'zsh: {fault}')
+
+
 def packed(room, words, model, example):
     """A packed file is unpacked, and one that is cut isn't read as far as it goes."""
     text = gzip.decompress(model.read_bytes()) + b'*' + b'a line that counts for nothing\n* ' * 10_000
@@ -639,6 +701,7 @@ def main():
         pictures(texts)
         hostile(room, words)
         commands(room, words)
+        manual(room, words)
         many_files.check_all(check, room, words['check-all'], PROGRAM)
         large(room, words)
     return CHECKS.end()

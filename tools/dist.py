@@ -111,7 +111,12 @@ def write_wheel(folder, version):
     """Writes the wheel with the program and the library, and gives its name."""
     sys.path.insert(0, str(TOP / 'python'))
     import build_package
-    built = {'vipr/libvipr.so': f'crates/vipr_c/out/libvipr.so.{version}', f'{build_package.NAME}.data/scripts/vipr': 'crates/vipr/out/vipr'}
+    data = f'{build_package.NAME}.data'
+    built = {'vipr/libvipr.so': f'crates/vipr_c/out/libvipr.so.{version}', f'{data}/scripts/vipr': 'crates/vipr/out/vipr',
+             f'{data}/data/share/man/man1/vipr.1': 'man/vipr.1',
+             f'{data}/data/share/bash-completion/completions/vipr': 'completions/vipr.bash',
+             f'{data}/data/share/zsh/site-functions/_vipr': 'completions/_vipr',
+             f'{data}/data/share/fish/vendor_completions.d/vipr.fish': 'completions/vipr.fish'}
     files = {name: (TOP / file).read_bytes() for name, file in built.items()}
     return build_package.write_wheel(folder, WHEEL_TAG, files | {'vipr/BUILD': build_of(version).encode()})
 

@@ -114,7 +114,7 @@ def command(words: argparse.Namespace) -> int:
     return VERIFIED if found.verdict and found.is_same else REFUSED
 
 
-def main() -> int:
+def parser() -> Parser:
     made = Parser('audit', __doc__)
     made.add_argument('model', metavar='MODEL.mps', help='the MPS file, also .gz, .xz, .bz2 or .zst')
     made.add_argument('certificate', metavar='CERT', help='the certificate, likewise')
@@ -122,7 +122,11 @@ def main() -> int:
     made.add_argument('--maximize', action='store_true', help='the file gives no direction, and is to be maximized')
     made.add_argument('--integers', choices=['one', 'inf'], help='the upper bound of an integer column that no line gives one')
     made.add_argument('--profile', type=int, choices=[1, 2], default=1, help='by which profile of the rules; 1 without it')
-    words = made.parse_args()
+    return made
+
+
+def main() -> int:
+    words = parser().parse_args()
     return run(lambda: command(words))
 
 

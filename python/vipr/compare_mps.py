@@ -287,7 +287,7 @@ def command(words: argparse.Namespace) -> int:
     return status
 
 
-def parser() -> argparse.ArgumentParser:
+def parser() -> Parser:
     made = Parser('compare-mps', __doc__)
     made.add_argument('model', metavar='MODEL.mps', help='an MPS file; .gz, .xz, .bz2 and .zst are unpacked; - is standard input')
     made.add_argument('certificate', metavar='CERT', help='a certificate, or - for standard input')

@@ -128,12 +128,16 @@ def command(words: argparse.Namespace) -> int:
     return VERIFIED
 
 
-def main() -> int:
+def parser() -> Parser:
     made = Parser('html', __doc__)
     made.add_argument('certificate', metavar='CERT', help='a certificate, also .gz, .xz, .bz2 or .zst; - is standard input')
     made.add_argument('-o', '--out', metavar='FILE', help='where the page is written; standard output without it')
     made.add_argument('--profile', type=int, choices=(1, 2), default=1, help='by which profile of the rules; 1 without it')
-    words = made.parse_args()
+    return made
+
+
+def main() -> int:
+    words = parser().parse_args()
     return run(lambda: command(words))
 
 

@@ -332,7 +332,7 @@ def command(words: argparse.Namespace) -> int:
     return VERIFIED
 
 
-def main() -> int:
+def parser() -> Parser:
     made = Parser('picture', __doc__)
     made.add_argument('certificate', metavar='CERT', help='a certificate, also .gz, .xz, .bz2 or .zst; - is standard input')
     made.add_argument('-o', '--out', metavar='FILE', help='where the picture is written; standard output without it')
@@ -340,7 +340,11 @@ def main() -> int:
                       help=f'up to how many derivations have a box each; {MOST_BOXES} without it')
     made.add_argument('--splits', type=number, default=MOST_SPLITS, metavar='N',
                       help=f'how many splits of a larger certificate are opened; {MOST_SPLITS} without it')
-    words = made.parse_args()
+    return made
+
+
+def main() -> int:
+    words = parser().parse_args()
     return run(lambda: command(words))
 
 

@@ -110,11 +110,15 @@ def command(words: argparse.Namespace) -> int:
     return VERIFIED
 
 
-def main() -> int:
+def parser() -> Parser:
     made = Parser('stats', __doc__)
     made.add_argument('certificate', metavar='CERT', help='a certificate, also .gz, .xz, .bz2 or .zst; - is standard input')
     made.add_argument('--json', action='store_true', help='one JSON object')
-    words = made.parse_args()
+    return made
+
+
+def main() -> int:
+    words = parser().parse_args()
     return run(lambda: command(words))
 
 
