@@ -9,6 +9,8 @@ import mmap
 import re
 from dataclasses import dataclass
 from fractions import Fraction
+from itertools import islice
+from operator import length_hint
 from typing import Callable, Dict, List, Optional, Set, Tuple, TypeVar, Union
 
 from .verdict import Cause, Claim, Place, Refusal
@@ -22,8 +24,12 @@ LARGEST = 2**127 - 1
 LARGEST_COUNT = 2**32 - 1
 LONGEST_TOKEN = 65535
 MOST_KNOWN, MOST_INDICES = 1 << 16, 1 << 18
+PIECE = 1 << 16
+SENSES = {word.encode(): word for word in ('E', 'L', 'G')}
+REASONS = {word.encode(): word for word in ('asm', 'lin', 'rnd', 'uns', 'sol')}
 _COMMENTS = re.compile(rb'[\t-\r ]*(?:%[^\n]*(?:\n|$)[\t-\r ]*)*')
 _TOKEN = re.compile(rb'[^\t-\r ]+')
+_WHITE = re.compile(rb'[\t-\r ]')
 _NUMBER = re.compile(rb'([+-]?)([0-9]+)(?:/([0-9]+))?')
 
 
@@ -96,30 +102,52 @@ class _Reader:
     """The tokens of a text, one after the other. Short tokens that spell the same number give one object."""
 
     def __init__(self, text: bytes):
-        self.end = len(text)
         begin = _COMMENTS.match(text)
-        self.matches = _TOKEN.finditer(text, begin.end() if begin else 0)
-        self.match: Optional[re.Match[bytes]] = None
+        self.text = text
+        # the tokens of a piece of the text: all of them and those that are to come, where it begins, and where it ends
+        self.piece: List[bytes] = []
+        self.tokens = iter(self.piece)
+        self.start = self.end = begin.end() if begin else 0
         self.known: Dict[bytes, Number] = {}
         self.indices: Dict[bytes, int] = {}
-        self.held: Optional[bytes] = None
 
     def next(self) -> bytes:
         """The next token; its place is kept for a fault."""
-        if self.held is not None:
-            token, self.held = self.held, None
-            return token
-        match = next(self.matches, None)
-        if match is None:
-            raise _Fault(Cause.TRUNCATED, self.end)
-        self.match, token = match, match[0]
-        if len(token) > LONGEST_TOKEN:
-            raise self.fault(Cause.TOKEN_TOO_LONG)
-        return token
+        return next(self.tokens, b'') or self.first_of_next()
+
+    def first_of_next(self) -> bytes:
+        """The first token of the next piece that has one."""
+        self.piece = []
+        while not self.piece:
+            if self.end == len(self.text):
+                raise _Fault(Cause.TRUNCATED, self.end)
+            white = _WHITE.search(self.text, self.end + PIECE)
+            self.start, self.end = self.end, white.start() if white else len(self.text)
+            self.piece = self.text[self.start:self.end].split()
+        if max(map(len, self.piece)) > LONGEST_TOKEN:
+            self.end_before_long()
+        self.tokens = iter(self.piece)
+        return next(self.tokens)
+
+    def end_before_long(self) -> None:
+        """Ends the piece before its first token that is too long, which is a fault if it is the first."""
+        at = next(at for at, token in enumerate(self.piece) if len(token) > LONGEST_TOKEN)
+        self.end = self.offset(at)
+        if at == 0:
+            raise _Fault(Cause.TOKEN_TOO_LONG, self.end)
+        del self.piece[at:]
+
+    def offset(self, at: int) -> int:
+        """Where a token of the piece begins, by its number."""
+        return next(islice(_TOKEN.finditer(self.text, self.start), at, None)).start()
+
+    def last(self) -> int:
+        """The number in the piece of the token that was read last."""
+        return len(self.piece) - length_hint(self.tokens) - 1
 
     def fault(self, cause: Cause) -> _Fault:
         """A fault of the token that was read last."""
-        return _Fault(cause, self.match.start() if self.match else 0)
+        return _Fault(cause, self.offset(self.last()))
 
     def word(self, wanted: Dict[bytes, str], cause: Cause) -> str:
         token = self.next()
@@ -141,7 +169,10 @@ class _Reader:
         return value
 
     def count(self, most: int = LARGEST_COUNT) -> int:
-        return self.whole(self.next(), Cause.BAD_COUNT, Cause.COUNT_TOO_LARGE, most)
+        return self.count_of(self.next(), most)
+
+    def count_of(self, token: bytes, most: int = LARGEST_COUNT) -> int:
+        return self.whole(token, Cause.BAD_COUNT, Cause.COUNT_TOO_LARGE, most)
 
     def reference(self) -> int:
         return self.whole(self.next(), Cause.BAD_REFERENCE, Cause.BAD_REFERENCE)
@@ -176,9 +207,9 @@ class _Reader:
             raise self.fault(Cause.NUMBER_TOO_LARGE)
         return int(digits or b'0')
 
-    def vector(self, variables: int) -> Row:
+    def vector(self, variables: int, count: int) -> Row:
         row: Row = {}
-        for _ in range(self.count()):
+        for _ in range(count):
             token = self.next()
             index = self.indices.get(token)
             if index is None:
@@ -188,16 +219,15 @@ class _Reader:
             if index in row:
                 raise self.fault(Cause.REPEATED_INDEX)
             row[index] = self.number()
-        return {index: value for index, value in row.items() if value}
+        return row if all(row.values()) else {index: value for index, value in row.items() if value}
 
     def constraint(self, variables: int, objective: Row) -> Constraint:
         name = self.next()
-        sense = self.word({b'E': 'E', b'L': 'L', b'G': 'G'}, Cause.BAD_SENSE)
+        sense = self.word(SENSES, Cause.BAD_SENSE)
         bound, token = self.number(), self.next()
         if token == b'OBJ':
             return Constraint(name, sense, bound, objective)
-        self.held = token
-        return Constraint(name, sense, bound, self.vector(variables))
+        return Constraint(name, sense, bound, self.vector(variables, self.count_of(token)))
 
     def bound(self, infinite: bytes) -> Optional[Fraction]:
         token = self.next()
@@ -216,7 +246,7 @@ class _Reader:
         integers = {self.whole(self.next(), Cause.BAD_INDEX, Cause.BAD_INDEX, len(names) - 1) for _ in range(self.count())}
         self.keyword(b'OBJ')
         direction = self.word({b'min': 'min', b'max': 'max'}, Cause.BAD_OBJECTIVE_SENSE)
-        objective = self.vector(len(names))
+        objective = self.vector(len(names), self.count())
         self.keyword(b'CON')
         count, bounds = self.count(), self.count()
         constraints = [self.constraint(len(names), objective) for _ in range(count)]
@@ -224,12 +254,12 @@ class _Reader:
         return Problem(names, integers, direction == 'max', objective, bounds, constraints, self.claim())
 
     def solution(self, variables: int) -> Solution:
-        return Solution(self.next(), self.vector(variables))
+        return Solution(self.next(), self.vector(variables, self.count()))
 
     def derivation(self, variables: int, objective: Row) -> Derivation:
         constraint = self.constraint(variables, objective)
         self.word({b'{': ''}, Cause.BAD_BRACE)
-        reason = self.word({word.encode(): word for word in ('asm', 'lin', 'rnd', 'uns', 'sol')}, Cause.BAD_REASON)
+        reason = self.word(REASONS, Cause.BAD_REASON)
         entries: List[Tuple[int, Number]] = []
         indices: List[int] = []
         if reason in ('lin', 'rnd'):
@@ -251,8 +281,8 @@ class _Reader:
         self.keyword(b'DER')
         count = self.count(LARGEST_COUNT - len(problem.constraints))
         derivations = [self.derivation(variables, problem.objective) for _ in range(count)]
-        behind = next(self.matches, None)
-        if behind is not None:
+        behind = _TOKEN.search(self.text, self.offset(self.last()) + len(self.piece[self.last()]))
+        if behind:
             raise _Fault(Cause.TRAILING_TEXT, behind.start())
         return Certificate(problem, solutions, derivations)
 

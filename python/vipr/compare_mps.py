@@ -21,6 +21,7 @@ understood, and 3 if a file can't be read.
 from __future__ import annotations
 
 import argparse
+import gc
 import os
 import sys
 from itertools import chain, islice
@@ -50,9 +51,11 @@ class Rows:
         self.objective = self.number(problem.objective)
 
     def number(self, row: Row) -> int:
+        if len(row) == 1:
+            [(index, value)] = row.items()
+            if value == 1:
+                return index
         indices = tuple(sorted(row))
-        if len(indices) == 1 and row[indices[0]] == 1:
-            return indices[0]
         key = indices, tuple(map(row.__getitem__, indices))
         found = self.numbers.setdefault(key, self.first + len(self.keys))
         if found == self.first + len(self.keys):
@@ -174,8 +177,7 @@ class Comparison:
     def numbers(self) -> Tuple[List[int], List[int]]:
         """The rows of the file's conditions, and those of the certificate's."""
         file = [self.rows.number(self.objective if name == self.file.objective else self.row(name)) for name in self.file.rows]
-        file += [self.rows.number({self.index[name]: 1}) for name in self.file.columns]
-        return file, [self.rows.of(it.row) for it in self.problem.constraints]
+        return file + self.variables, [self.rows.of(it.row) for it in self.problem.constraints]
 
     def of_file(self, numbers: List[int]) -> Iterator[Tuple[int, Sides]]:
         """The conditions of the file: its rows, and its columns."""
@@ -302,6 +304,8 @@ def parser() -> Parser:
 
 
 def main() -> int:
+    # (nothing here is a ring, and to look for rings among millions of numbers takes a fifth of the time)
+    gc.disable()
     made = parser()
     words = made.parse_args()
     if words.model == words.certificate == '-':

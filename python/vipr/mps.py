@@ -281,6 +281,8 @@ class _Reader:
             yield row, value
 
     def number(self, token: bytes) -> Number:
+        if len(token) < 39 and token.isdigit():
+            return int(token)
         try:
             value = decimal(token)
         except OverflowError:
