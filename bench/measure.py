@@ -1,15 +1,14 @@
 #!/usr/bin/env python3
 """Times the program over the families of families.py, in one interleaved run.
 
-usage: measure.py [--program PATH] [--bytes N] [--runs N] [--against NAME=COMMAND].. [--svg FILE] [--growth] [--hostile]
-                  [--page]
+usage: measure.py [--program PATH] [--bytes N] [--runs N] [--against NAME=COMMAND].. [--growth] [--hostile] [--page] [--picture]
 
 Each round runs every program once on every family: `check`, `show` and `tighten` where the program has it, `wc -w` and
-`cat` on the same file, and what --against names, whose words get the file's path behind them. Of the rounds the least
-processor time counts, and the greatest peak of memory. Prints MB/s, and memory in MB. --svg draws the throughput of
-`check` by family. --growth measures texts of 1, 2 and 4 times the size: how time and memory grow. --hostile takes the
-families that are made to cost more than their length. --page measures all of it, and bench/gmp_check.cpp beside it, for
-which it needs g++ and GMP with its header gmpxx.h, and writes docs/BENCHMARKS.md with its picture.
+`cat` on the same file, and what --against names, whose words get the file's path behind them. All runs are on one core. Of
+the rounds the least processor time counts, and the greatest peak of memory. Prints MB/s, and memory in MB. --growth
+measures texts of 1, 2 and 4 times the size: how time and memory grow. --hostile takes the families that are made to cost
+more than their length. --page measures all of it, and bench/gmp_check.cpp beside it, for which it needs g++ and GMP with its
+header gmpxx.h, and writes docs/BENCHMARKS.md with its picture. --picture measures nothing, and draws the page's table anew.
 """
 import argparse
 import datetime
@@ -26,6 +25,10 @@ import families
 
 TOP = Path(__file__).resolve().parent.parent
 GNU_TIME = shutil.which('time')
+DOCS = TOP / 'docs'
+# a row of the page's table of two checkers: the family, MB in a second of each, and how many times the time the other takes
+BESIDE = re.compile(r'^\| (\w+) \| (\d+), [\d.]+ \| (\d+), [\d.]+ \| ([\d.]+) \| [\d.]+ \|$', re.M)
+COLORS = ('vipr check', '#4878a8'), ('gmp_check', '#d8923c')
 
 
 def once(words, path):
@@ -70,19 +73,24 @@ def table(programs, paths, found):
         yield f'| {path.stem} | {size:.1f} | ' + ' | '.join(cells) + ' |'
 
 
-def picture(paths, found, to):
-    """A bar for each family: MB of text that `check` takes in a second of processor time."""
-    speeds = [(path.stem, path.stat().st_size / 1e6 / max(found['check', path][0], 0.001)) for path in paths]
-    most = max(speed for _, speed in speeds)
-    lines = [f'<svg xmlns="http://www.w3.org/2000/svg" width="640" height="{40 + 28 * len(speeds)}"'
+def picture(page):
+    """The page's table of two checkers, drawn: a pair of bars for each family, and how many times the time the second takes."""
+    rows = [(name, int(ours), int(theirs), times) for name, ours, theirs, times in BESIDE.findall(page)]
+    most = max(speed for row in rows for speed in row[1:3])
+    lines = [f'<svg xmlns="http://www.w3.org/2000/svg" width="640" height="{60 + 44 * len(rows)}"'
              ' font-family="sans-serif" font-size="13">', '<rect width="100%" height="100%" fill="white"/>',
-             '<text x="12" y="20">check: MB of certificate in a second of processor time</text>']
-    for n, (name, speed) in enumerate(speeds):
-        at = 34 + 28 * n
-        lines.append(f'<text x="12" y="{at + 15}">{name}</text>')
-        lines.append(f'<rect x="100" y="{at}" width="{470 * speed / most:.0f}" height="20" fill="#4878a8"/>')
-        lines.append(f'<text x="{106 + 470 * speed / most:.0f}" y="{at + 15}">{speed:.0f}</text>')
-    Path(to).write_text('\n'.join(lines + ['</svg>', '']), encoding='utf-8')
+             '<text x="12" y="20">MB of certificate in a second of processor time</text>']
+    for at, (name, color) in enumerate(COLORS):
+        lines += [f'<rect x="{100 + 120 * at}" y="30" width="12" height="12" fill="{color}"/>',
+                  f'<text x="{118 + 120 * at}" y="41">{name}</text>']
+    for number, (name, *speeds, times) in enumerate(rows):
+        top = 54 + 44 * number
+        lines.append(f'<text x="12" y="{top + 22}">{name}</text>')
+        for at, (speed, words) in enumerate(zip(speeds, (f'{speeds[0]}', f'{speeds[1]}: {times} times the time'))):
+            width = 400 * speed / most
+            lines.append(f'<rect x="100" y="{top + 17 * at}" width="{width:.0f}" height="15" fill="{COLORS[at][1]}"/>')
+            lines.append(f'<text x="{106 + width:.0f}" y="{top + 12 + 17 * at}">{words}</text>')
+    return '\n'.join([*lines, '</svg>', ''])
 
 
 def growth(check, runs, size, which):
@@ -130,13 +138,13 @@ What `vipr` takes on this date and machine: {date}, {machine}. The page and its 
 
 ## Throughput
 
-![MB of certificate in a second of processor time, by family](benchmarks.svg)
+![MB of certificate in a second of processor time, by family, of vipr check and of another checker](benchmarks.svg)
 
-Each family of `bench/families.py` is one certificate of about {size} MB. A cell has the MB of text in a second of processor time, and the peak of memory in MB. `wc -w` and `cat` read the same files.
+The picture is drawn from the [last table](#beside-another-checker). Each family of `bench/families.py` is one certificate of about {size} MB. A cell has the MB of text in a second of processor time, and the peak of memory in MB. `wc -w` and `cat` read the same files.
 
 {table}
 
-Method: each round runs every program once on every file, so that a slow moment of the machine meets all of them. The least processor time of {runs} rounds counts, and the greatest memory. Nothing here is proved, and no test is timed.
+Method: each round runs every program once on every file, so that a slow moment of the machine meets all of them. All runs are on one core. The least processor time of {runs} rounds counts, and the greatest memory. Nothing here is proved, and no test is timed.
 
 ## How cost grows
 
@@ -174,16 +182,21 @@ def page(given, programs):
         families.make(folder, given.bytes)
         paths = sorted(Path(folder).iterdir())
         found = measured(programs | {'gmp_check': [other]}, paths, given.runs)
-        picture(paths, found, TOP / 'docs/benchmarks.svg')
         throughput = '\n'.join(table(programs, paths, found))
         others, times, memories = beside(paths, found)
     check, small, least = [given.program, 'check'], given.bytes // 4, given.bytes // 16
-    (TOP / 'docs/BENCHMARKS.md').write_text(PAGE.format(
+    (DOCS / 'BENCHMARKS.md').write_text(PAGE.format(
         date=datetime.date.today(), machine=machine(), size=f'{given.bytes / 1e6:g}', runs=given.runs,
         small=f'{small / 1e6:g}', least=f'{least / 1e6:g}', table=throughput,
         beside=others, times=times, memories=memories,
         growth='\n'.join(growth(check, given.runs, small, families.FAMILIES)),
         hostile='\n'.join(growth(check, given.runs, least, families.HOSTILE))), encoding='utf-8')
+    draw()
+
+
+def draw():
+    """Writes the page's picture."""
+    (DOCS / 'benchmarks.svg').write_text(picture((DOCS / 'BENCHMARKS.md').read_text(encoding='utf-8')), encoding='utf-8')
 
 
 def main():
@@ -192,11 +205,15 @@ def main():
     words.add_argument('--bytes', type=int, default=4_000_000)
     words.add_argument('--runs', type=int, default=3)
     words.add_argument('--against', action='append', default=[])
-    words.add_argument('--svg')
     words.add_argument('--growth', action='store_true')
     words.add_argument('--hostile', action='store_true')
     words.add_argument('--page', action='store_true')
+    words.add_argument('--picture', action='store_true')
     given = words.parse_args()
+    if given.picture:
+        draw()
+        return
+    os.sched_setaffinity(0, {max(os.sched_getaffinity(0))})
     which = families.HOSTILE if given.hostile else families.FAMILIES
     commands = subprocess.run([given.program, '--help'], capture_output=True, text=True, check=True).stdout
     programs = {name: [given.program, name] for name in ('check', 'show', 'tighten') if f'\n  {name} ' in commands}
@@ -215,8 +232,7 @@ def main():
         found = measured(programs, paths, given.runs)
         for line in table(programs, paths, found):
             print(line)
-        if given.svg:
-            picture(paths, found, given.svg)
 
 
-main()
+if __name__ == '__main__':
+    main()

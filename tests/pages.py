@@ -14,7 +14,8 @@ In README.md, CONTRIBUTING.md and the pages of docs/ and examples/ it looks at
   one piece of the file that the line names, and `check` prints the last column as its first line;
 - the tables of examples/README.md: each file has a row, with the verdict that `check` prints, and behind it what `explain`
   prints, or its model under bench/ where the program hasn't that command; a file that a script makes is what it makes;
-- links to files of the repository: they exist, and so does the heading after a `#`.
+- links to files of the repository: they exist, and so does the heading after a `#`;
+- the picture of docs/BENCHMARKS.md, which is drawn from one of its tables.
 
 In the sources it looks at blocks in doc comments that are marked with a file's name: they are a part of that file, at
 whatever indentation. Each call of DOCUMENTED has one.
@@ -45,6 +46,7 @@ from pathlib import Path
 from texts import TOP, Checks, program, run
 from plain_check import explained
 import kit
+import measure
 
 PROGRAM = program(sys.argv[1:])
 PAGES = ['README.md', 'CONTRIBUTING.md', 'CHANGELOG.md', 'docs/TUTORIAL.md', 'docs/FORMAT.md', 'docs/USE.md',
@@ -447,6 +449,9 @@ def main():
             look_at(page, (TOP / page).read_text(), room)
         examples(commands)
         documented()
+    page = 'docs/BENCHMARKS.md'
+    check((TOP / 'docs/benchmarks.svg').read_text() == measure.picture((TOP / page).read_text()), page, '',
+          'the picture is of another table: bench/measure.py --picture')
     if not shutil.which('git'):
         CHECKS.skip('git', 'no block marked `sh` was run')
     elif not sys.argv[1:]:
