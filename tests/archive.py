@@ -135,6 +135,11 @@ def made(folder):
 def use(place):
     status, out, fault = place.run('sha256sum -c --quiet SHA256SUMS')
     check(status == 0, out + fault)
+    build = (place.folder / 'BUILD').read_text()
+    check(build == (place.folder / 'share/doc/vipr/BUILD').read_text(), 'the pages have another BUILD')
+    for file in ('bin/vipr', 'lib/libvipr.a', f'lib/libvipr.so.{VERSION}'):
+        name, path = Path(file).name, place.folder / file
+        check(f'sha256 {name}: {hashlib.sha256(path.read_bytes()).hexdigest()}\n' in build, f'BUILD has another sum of {name}: {build}')
     check(place.run('command -v rt')[0] != 0, 'the kit is on the path')
     check(place.run(f'./bin/vipr check {EXAMPLE}') == (0, VERDICT, ''), place.run(f'./bin/vipr check {EXAMPLE}'))
     status, out, _ = place.run('./bin/vipr explain --long share/doc/vipr/examples/overflow.vipr')
@@ -204,6 +209,10 @@ def tried_wheel(folder):
     check((status, report[0]) == (0, page[3]) and 'commit ' in report[2] and 'kit ' in report[2], f'vipr-audit of the wheel: {out}{fault}')
     status, out, fault = run('vipr-audit', TOP / page[1], example)
     check(status == 1 and 'nothing is proved of this model' in out, f'vipr-audit of another model: {out}{fault}')
+    build = next((folder / 'venv').rglob('BUILD'))
+    build.write_text(build.read_text().replace(f'.so.{VERSION}: ', f'.so.{VERSION}: 0'))
+    status, out, fault = run('vipr-audit', *(TOP / page[at] for at in (1, 2)))
+    check(status == 0 and 'commit ' not in out and 'sha256 ' in out, f'vipr-audit beside the BUILD of another library: {out}{fault}')
     status, out, fault = run('vipr-check-all', example)
     check(status == 0 and 'verified' in out + fault, f'vipr-check-all of the wheel: {out}{fault}')
     code = 'import sys, vipr; print(vipr.check(open(sys.argv[1], "rb").read()))'
@@ -226,6 +235,8 @@ def packages(place):
         return
     status, out, fault = place.run('dpkg-buildpackage -b -us -uc')
     check(status == 0, (out + fault)[-2000:])
+    if status:
+        return
     found = sorted(it.name.split('_')[0] for it in place.folder.parent.glob('*.deb'))
     check(found == ['libvipr-dev', 'libvipr1', 'python3-vipr', 'vipr'], f'the packages are {found}')
     tried_in_python(place)

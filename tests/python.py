@@ -228,7 +228,7 @@ def types(room):
             done = run([tool, *words], env={**os.environ, 'MYPYPATH': str(TOP / 'python')})
             check(done.returncode == 0, done.stdout.decode())
         else:
-            print(f'python: {tool} is not here, and the package is not looked at by it')
+            CHECKS.skip(tool, 'the package is not looked at by it')
 
 
 def causes():
@@ -578,7 +578,7 @@ def manual(room, words):
         (room / 'usr' / path).parent.mkdir(parents=True, exist_ok=True)
         (room / 'usr' / path).write_text(text)
     for name in NAMES:
-        command, said = f'vipr-{name}', run([*words[name], '--help']).stdout.decode()
+        command, said = f'vipr-{name}', run([*words[name], '--help'], env={**os.environ, 'COLUMNS': '2000'}).stdout.decode()
         if (room / 'site').is_dir():
             check(all((room / 'site' / path).read_text() == made[path] for path in made if command in path), f'{command} is installed with other pages')
         page, _, lists = said[said.index('\n\n'):].partition('positional arguments:')

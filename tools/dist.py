@@ -7,9 +7,10 @@ usage: tools/dist.py VERSION [FOLDER]     FOLDER is dist without it
 `make dist` calls it once the program and the library are built. FOLDER gets a wheel of the Python
 package that has the program and the library in it, and vipr-VERSION-linux-x86_64.tar.gz, whose files lie in a folder
 vipr-VERSION: bin, lib, include and share as `make install` lays them out, python, and debian, so that
-`dpkg-buildpackage -b` makes packages of them. SHA256SUMS has the sum of each file, and BUILD the kit, its logic and the
-commit. vipr-conformance-1.0.tar.xz has the folder conformance and the licence; its number is the format's version. The same
-files and commit give the same bytes. The exit status is 1 if a command fails.
+`dpkg-buildpackage -b` makes packages of them. SHA256SUMS has the sum of each file. BUILD, which is beside the pages, too, has
+the kit, its logic, the commit, and the sums of the program and the libraries. vipr-conformance-1.0.tar.xz has the folder
+conformance and the licence; its number is the format's version. The same files and commit give the same bytes. The exit
+status is 1 if a command fails.
 """
 import gzip
 import hashlib
@@ -57,10 +58,11 @@ def said(*words):
 
 
 def build_of(version):
-    """What BUILD says: the version, the commit and the kit."""
+    """What BUILD says: the version, the commit, the kit, and the sums of the program and the libraries."""
     commit, changed = said('git', 'rev-parse', 'HEAD'), said('git', 'status', '--porcelain', '-uno')
+    built = [TOP / 'crates/vipr/out/vipr', *(TOP / 'crates/vipr_c/out' / name for name in ('libvipr.a', f'libvipr.so.{version}'))]
     return (f'version: {version}\ncommit: {commit or "none"}{" with changes" * bool(changed)}\n'
-            f'kit: {said(os.environ.get("RT", "rt"), "version")}\n')
+            f'kit: {said(os.environ.get("RT", "rt"), "version")}\n' + ''.join(f'sha256 {it.name}: {kit.sum_of(it)}\n' for it in built))
 
 
 def lay_out(tree, version):
@@ -75,7 +77,8 @@ def lay_out(tree, version):
     for name in ('python', 'debian'):
         shutil.copytree(TOP / name, tree / name, ignore=shutil.ignore_patterns('__pycache__', 'build', '*.egg-info'))
     day = int(said('git', 'log', '-1', '--format=%ct') or 0)
-    (tree / 'BUILD').write_text(build_of(version))
+    for place in ('BUILD', 'share/doc/vipr/BUILD'):
+        (tree / place).write_text(build_of(version))
     (tree / 'INSTALL').write_text(INSTALL.format(version=version))
     maintainer = next(it[len('Maintainer: '):] for it in (tree / 'debian/control').read_text().split('\n')
                       if it.startswith('Maintainer: '))

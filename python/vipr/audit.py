@@ -5,8 +5,8 @@
   verdict      what `vipr check` prints: the library checks these bytes, and that is proved
   problem      whether the certificate's problem is the file's, as `vipr-compare-mps` prints it; this isn't proved
   optimum      the claim in decimals, rounded outward
-  program      the version of the library, its SHA-256, and the commit and kit of its build, as the file BUILD of
-               the archive, the wheel and the Debian package has them
+  program      the version of the library, its SHA-256, and the commit and kit of its build, if the file BUILD of
+               the archive, the wheel or the Debian package has this SHA-256
 
 The exit status is 0 only if the certificate is verified and its problem is the file's, 1 if not, 2 if the command line isn't
 understood, and 3 if a file can't be read or the library isn't there.
@@ -22,10 +22,10 @@ from dataclasses import dataclass
 from fractions import Fraction
 from math import ceil, floor
 from pathlib import Path
-from typing import Dict, List, Optional
+from typing import Dict, List
 
 from . import library
-from .compare_mps import compared
+from .compare_mps import compared, infinity
 from .files import FAILED, REFUSED, VERIFIED, Parser, printable, read_file, run
 from .verdict import Claim, Verdict
 
@@ -51,15 +51,17 @@ def optimum(claim: Claim) -> str:
 
 
 def build() -> Dict[str, str]:
-    """What is known of the library's build."""
-    found = {'version': library.version()}
-    file = library.file()
-    if file:
-        found['sha256'] = hashlib.sha256(file.read_bytes()).hexdigest()
-    for folder in [*([file.parent.parent] if file else []), Path(__file__).parent]:
+    """What is known of the library's build. A file BUILD counts if it has the library's sum."""
+    found, file = {'version': library.version()}, library.file()
+    if file is None:
+        return found
+    found['sha256'] = hashlib.sha256(file.read_bytes()).hexdigest()
+    top = file.parent.parent
+    for folder in (top, top / 'share/doc/vipr', Path(__file__).parent):
         if (folder / 'BUILD').is_file():
-            rows = (line.partition(': ') for line in (folder / 'BUILD').read_text().split('\n'))
-            return found | {name: value for name, _, value in rows if name in ('commit', 'kit')}
+            rows = dict(line.partition(': ')[::2] for line in (folder / 'BUILD').read_text().split('\n'))
+            if found['sha256'] in rows.values():
+                return found | {name: rows[name] for name in ('commit', 'kit')}
     return found
 
 
@@ -94,16 +96,16 @@ class Audit:
                 'verdict': str(self.verdict).rstrip('\n').split('\n'), 'problem': self.problem, 'optimum': self.optimum, 'build': self.build}
 
 
-def audited(model: bytes, text: bytes, profile: int, integers: Optional[str], maximize: bool) -> Audit:
+def audited(model: bytes, text: bytes, words: argparse.Namespace) -> Audit:
     """What is found of the two texts. Raises library.Error."""
-    status, problem = compared(model, text, integers, maximize)
-    return Audit(hashlib.sha256(model).hexdigest(), library.digest(text), library.check(text, profile), status == VERIFIED, problem, build())
+    status, problem = compared(model, text, words.integers, words.maximize, words.infinity)
+    return Audit(hashlib.sha256(model).hexdigest(), library.digest(text), library.check(text, words.profile), status == VERIFIED, problem, build())
 
 
 def command(words: argparse.Namespace) -> int:
     names = [printable(os.fsencode(it)) for it in (words.model, words.certificate)]
     try:
-        found = audited(read_file(words.model), read_file(words.certificate), words.profile, words.integers, words.maximize)
+        found = audited(read_file(words.model), read_file(words.certificate), words)
     except library.Error as fault:
         print(fault, file=sys.stderr)
         return FAILED
@@ -121,6 +123,8 @@ def parser() -> Parser:
     made.add_argument('--json', action='store_true', help='one object in place of the lines')
     made.add_argument('--maximize', action='store_true', help='the file gives no direction, and is to be maximized')
     made.add_argument('--integers', choices=['one', 'inf'], help='the upper bound of an integer column that no line gives one')
+    made.add_argument('--infinity', type=infinity, default=0, metavar='NUMBER',
+                      help='bounds of this size or more are infinite, as for vipr-compare-mps')
     made.add_argument('--profile', type=int, choices=[1, 2], default=1, help='by which profile of the rules; 1 without it')
     return made
 

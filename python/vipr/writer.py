@@ -19,7 +19,7 @@ from array import array
 from enum import Enum
 from fractions import Fraction
 from types import TracebackType
-from typing import IO, Dict, Iterable, Iterator, List, Mapping, Optional, Tuple, Type, Union
+from typing import IO, Iterable, Iterator, List, Mapping, Optional, Tuple, Type, Union
 
 from .certificate import LARGEST, LONGEST_TOKEN, Number
 from .library import check, explain_long
