@@ -4,19 +4,20 @@
 usage: tests/browser.py
 
 Of each example the page's data are those of the certificate, read once more: names, constraints, what each names and what
-names it, and what the goal needs. A page loads nothing, and names with markup stay names. In Chromium, without a window, if
-it is there: a row for each constraint, folding, the search, links and the way back, a refused certificate with its
+names it, and what the goal needs. A page loads nothing, and names with markup stay names. In Chromium and Firefox, without a
+window, if they are there: a row for each constraint, folding, the search, links and the way back, a refused certificate with its
 refusal and links in it (if the library for C is built here), names that would run a script, and a proof of 100,000
 derivations, of which only the rows that are seen are in the page's tree.
 
 Prints each fault, and last `browser: N checks, F failed`; the exit status is 1 if one failed.
 """
-import html
+import http.server
 import io
 import json
 import os
 import re
 import shutil
+import signal
 import subprocess
 import sys
 import tempfile
@@ -34,7 +35,11 @@ from vipr.html import Page, verdict_of  # noqa: E402
 
 CHECKS = Checks('browser')
 check = CHECKS.check
-CHROMIUM = shutil.which('chromium') or shutil.which('chromium-browser') or shutil.which('google-chrome')
+NAMES = {'Chromium': ('chromium', 'chromium-browser', 'google-chrome'), 'Firefox': ('firefox-esr', 'firefox')}
+FOUND = {name: next(filter(None, map(shutil.which, names)), None) for name, names in NAMES.items()}
+BROWSERS = {name: program for name, program in FOUND.items() if program}
+WORDS = {'Chromium': ['--headless', '--no-sandbox', '--disable-gpu', '--user-data-dir=ROOM/user', '--window-size=1000,700', '--dump-dom'],
+         'Firefox': ['--headless', '--no-remote', '--profile', 'ROOM', '--window-size=1000,700', '--screenshot', 'ROOM/page.png']}
 SECONDS = 120
 MARKUP = ['</script><script>document.title="run"</script>', '<img/src=x/onerror=document.title="run">', '&lt;b&gt;', '"\'`${1}', ']]>--!>']
 # what is done in the page, and what it has to answer
@@ -46,7 +51,9 @@ const look = words => { element('find').value = words; element('find').dispatchE
 say(document.title); say(items.length); say(texts().length); say(chosen); say(element('detail').textContent);
 say(document.querySelectorAll('script[src], link, img, iframe').length);
 USES
-document.title = JSON.stringify(seen);
+const post = new XMLHttpRequest();
+post.open('POST', 'http://127.0.0.1:PORT', false);
+try { post.send(JSON.stringify(seen)); } catch (fault) { }  // (the answer is not for a page that is a file)
 </script></html>'''
 
 
@@ -81,32 +88,49 @@ def says_what_is_there(path, text):
               f'{path}: what is below row {at}')
 
 
+class Answers(http.server.BaseHTTPRequestHandler):
+    """Takes what a page posts."""
+
+    def do_POST(self):
+        self.server.got.append(json.loads(self.rfile.read(int(self.headers['Content-Length']))))
+        self.send_response(200)
+        self.end_headers()
+
+    def log_message(self, *_):
+        pass
+
+
 def browsed(page, uses):
-    """What a page answers in Chromium to what is done there."""
-    with tempfile.TemporaryDirectory(prefix='vipr-browser-') as room:
-        file = Path(room, 'page.html')
-        file.write_text(page.replace('</html>', USE.replace('USES', uses)), encoding='utf-8')
-        words = [CHROMIUM, '--headless', '--no-sandbox', '--disable-gpu', f'--user-data-dir={room}/user', '--window-size=1000,700', '--dump-dom', file.as_uri()]
-        done = subprocess.run(words, stdin=subprocess.DEVNULL, stdout=subprocess.PIPE, stderr=subprocess.DEVNULL, timeout=SECONDS, check=False)
-    title = re.search(r'<title>(.*?)</title>', done.stdout.decode(errors='replace'), re.S)
-    try:
-        return json.loads(html.unescape(title[1]))
-    except (TypeError, ValueError):
-        return [f"no answer: {title and title[1]}"] * 20
+    """What a page answers, in each browser that is here, to what is done there. It is opened as a file, and posts its answers."""
+    for name, program in BROWSERS.items():
+        with tempfile.TemporaryDirectory(prefix='vipr-browser-', ignore_cleanup_errors=True) as room, \
+                http.server.HTTPServer(('127.0.0.1', 0), Answers) as server:
+            server.got, server.timeout = [], SECONDS
+            file = Path(room, 'page.html')
+            use = USE.replace('USES', uses).replace('PORT', str(server.server_port))
+            # (the page's own policy lets it ask for nothing)
+            open_page = page.replace("default-src 'none'", "default-src 'none'; connect-src http:")
+            file.write_text(open_page.replace('</html>', use), encoding='utf-8')
+            words = [program, *(it.replace('ROOM', room) for it in WORDS[name]), file.as_uri()]
+            with subprocess.Popen(words, stdin=subprocess.DEVNULL, stdout=subprocess.DEVNULL, stderr=subprocess.DEVNULL,
+                                  start_new_session=True, env={**os.environ, 'HOME': room}) as browser:
+                server.handle_request()
+                os.killpg(browser.pid, signal.SIGKILL)
+        yield [*server.got, [f'no answer of {name}'] * 20][0]
 
 
 def small():
     """Folding, the search, links and the way back in a proof of two branches."""
     text = (TOP / 'examples/branch_and_bound.vipr').read_bytes()
-    got = browsed(made(text), '''
+    for got in browsed(made(text), '''
 fold(6, true); say(texts().length); key('ArrowRight'); say(texts().length);
 document.querySelector('#detail a').click(); say(chosen); key('Backspace'); say(chosen);
 key('Home'); say(chosen); key('End'); say(chosen); choose(6); key('Enter'); say(chosen);
 look('leaf_up'); say(texts()); look('nothing of the kind'); say(texts()); look('');
-element('flat').click(); say(texts().map(it => it.slice(0, 3)).join(''));''')
-    check(got[1:4] == [7, 7, 6] and 'uns  [4] if [2], [5] if [3]' in got[4] and got[5] == 0, got)
-    check(got[6:12] == [3, 7, 4, 6, 0, 3] and got[12] == 4, got)
-    check(len(got[13]) == 1 and 'leaf_up' in got[13][0] and got[14] == [] and got[15] == '[0][1][2][3][4][5][6]', got)
+element('flat').click(); say(texts().map(it => it.slice(0, 3)).join(''));'''):
+        check(got[1:4] == [7, 7, 6] and 'uns  [4] if [2], [5] if [3]' in got[4] and got[5] == 0, got)
+        check(got[6:12] == [3, 7, 4, 6, 0, 3] and got[12] == 4, got)
+        check(len(got[13]) == 1 and 'leaf_up' in got[13][0] and got[14] == [] and got[15] == '[0][1][2][3][4][5][6]', got)
 
 
 def hostile():
@@ -119,8 +143,7 @@ def hostile():
         proof.claim(None, None)
     page = made(file.getvalue(), MARKUP[0])
     check(page.count('<script') == 2 and page.count('</script') == 2, 'a name adds a script')
-    if CHROMIUM:
-        got = browsed(page, "element('all').click(); say(items.map(it => it.name));")
+    for got in browsed(page, "element('all').click(); say(items.map(it => it.name));"):
         check(MARKUP[0] in got[0] and got[-1] == [*MARKUP, MARKUP[1]] and got[5] == 0, got)
 
 
@@ -143,9 +166,9 @@ def large():
         for _ in range(7):
             node(11)
         proof.claim(0, None)
-    got = browsed(made(file.getvalue()), "element('all').click(); choose(100000); say(texts().length); say(chosen);"
-                  "say(document.querySelectorAll('*').length < 500); look('[777]'); say(texts().length);")
-    check(got[1] > 100000 and 0 < got[2] < 100 and 0 < got[6] < 100 and got[7:] == [100000, True, 1], got)
+    for got in browsed(made(file.getvalue()), "element('all').click(); choose(100000); say(texts().length); say(chosen);"
+                       "say(document.querySelectorAll('*').length < 500); look('[777]'); say(texts().length);"):
+        check(got[1] > 100000 and 0 < got[2] < 100 and 0 < got[6] < 100 and got[7:] == [100000, True, 1], got)
 
 
 def refused():
@@ -153,8 +176,7 @@ def refused():
     text = (TOP / 'examples/false_claims/sense.vipr').read_bytes()
     page = made(text)
     check('refused 38 at DER 2' in page and 'does not follow from its reason' in page, 'the refusal is missing')
-    if CHROMIUM:
-        got = browsed(page, "say(document.querySelectorAll('#page a').length > 0); say(document.querySelector('.fault').textContent);")
+    for got in browsed(page, "say(document.querySelectorAll('#page a').length > 0); say(document.querySelector('.fault').textContent);"):
         check(got[3] == 2 and got[6] is True and got[7].startswith('[2]'), got)
 
 
@@ -172,11 +194,12 @@ def main():
     else:
         print('browser: no library is built here, so no refused certificate was tried')
     hostile()
-    if CHROMIUM:
+    if BROWSERS:
         small()
         large()
-    else:
-        CHECKS.skip('Chromium', 'no page was looked at in a browser')
+    for name in NAMES:
+        if name not in BROWSERS:
+            CHECKS.skip(name, 'no page was looked at in it')
     return CHECKS.end()
 
 
