@@ -1,4 +1,4 @@
-use Rattle.std.proofs.Common.{◌≡◌, ◌*◌, pos, ◌∙◌, arith, to_z, of_z}
+use Rattle.std.proofs.Common.{◌≡◌, ◌*◌, pos, ◌∙◌, to_z, of_z}
 use Rattle.std.specs.Prelude.{int_div}
 use Rattle.std.specs.Int.{w128}
 use Rattle.std.proofs.lemmas.Int.{to_z-of_z}
@@ -6,7 +6,6 @@ use Rattle.vipr_spec.specs.Gcd.{gcd}
 use Rattle.vipr_frac.specs.Parts.{both_parts, sum_gcd, sum_denom}
 use Rattle.vipr_frac.proofs.Sums.{sum-is, IsReduced-sum}
 use Rattle.vipr_frac.proofs.Small.{left_fits, right_fits, both_fits, both_back, small_sum_fits}
-use Rattle.vipr_frac.proofs.Small.{sum_denom_small}
 use Rattle.vipr_frac.proofs.Views.{facts_of, Facts}
 use Rattle.vipr_frac.proofs.frac.small_sum.Goals as goal
 use Rattle.vipr_frac.proofs.frac.small_sum.Goals.{After-quotient-4}
@@ -51,11 +50,6 @@ module _ (c : After-quotient-4) where
 
   q_is : c.quotient-3.result * c.quotient-4.result ≡ sum_denom c.args.a c.args.b
   q_is = rw (c.quotient-3.ensures, c.quotient-4.ensures, a.denom, b.denom, gcd_is, h_is)
-
-pub overflow_mul-quotient : goal.overflow_mul-quotient
-overflow_mul-quotient c =
-    let k = (goal.at.overflow_mul-quotient c).After-quotient-4 in
-    rw (q_is k) (let h = sum_denom_small c.args.a c.args.b c.requires.left c.requires.right in omega arith)
 
 pub of_parts-requires : goal.of_parts-requires
 of_parts-requires c =

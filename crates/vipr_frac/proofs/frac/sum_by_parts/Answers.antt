@@ -10,12 +10,6 @@ use Rattle.vipr_frac.proofs.Views.{as-is, facts_of, Facts, refused}
 use Rattle.vipr_frac.proofs.frac.sum_by_parts.Goals as goal
 use Rattle.vipr_frac.proofs.frac.sum_by_parts.Goals.{After-quotient-2, After-divided}
 
-pub sum_of_parts-requires : goal.sum_of_parts-requires
-sum_of_parts-requires c =
-    let a : Facts c.args.a c.parts-q.result.0 c.parts-q.result.1 = facts_of _ _ _ c.parts-q.ensures.numer c.parts-q.ensures.denom c.parts-q.ensures.reduced in
-    let b : Facts c.args.b c.parts-s.result.0 c.parts-s.result.1 = facts_of _ _ _ c.parts-s.ensures.numer c.parts-s.ensures.denom c.parts-s.ensures.reduced in
-    c.gcd_of-g.ensures.value ∙ rw (a.denom, b.denom)
-
 module _ (c : After-quotient-2) where
   a : Facts c.args.a c.parts-q.result.0 c.parts-q.result.1
   a = facts_of _ _ _ c.parts-q.ensures.numer c.parts-q.ensures.denom c.parts-q.ensures.reduced

@@ -1,12 +1,11 @@
 use Rattle.std.proofs.Common.{◌≡◌, ◌/◌, ◌∙◌, subst, refl, to_z, of_z, ℕ, ℤ, ◌≤◌, pos}
 use Rattle.std.specs.Prelude.{◌+ℤ◌, ◌*ℤ◌, unsigned_abs}
 use Rattle.std.specs.Int.{w128}
-use Rattle.std.proofs.lemmas.Bool.{false≢true}
 use Rattle.vipr_spec.specs.Fraction.{ℚ, most}
 use Rattle.vipr_spec.specs.Gcd.{gcd}
 use Rattle.vipr_frac.specs.Parts.{left_part, right_part, both_parts}
 use Rattle.vipr_frac.proofs.Steps.{gcd-some}
-use Rattle.vipr_frac.proofs.Views.{as-is, facts_of, Facts, refused}
+use Rattle.vipr_frac.proofs.Views.{as-is, facts_of, Facts}
 use Rattle.vipr_frac.proofs.frac.sum_of_parts.Goals as goal
 
 pub quotient-requires : goal.quotient-requires
@@ -23,24 +22,6 @@ left_is x y p g r s e f h k = rw (e, k, f, h)
 right_is : (x y : ℚ) (p : ℤ) (g r s : ℕ) → to_z w128 (of_z w128 p) ≡ y.numer → s ≡ x.denom
     → g ≡ gcd x.denom y.denom → r ≡ s / g → to_z w128 (of_z w128 p) *ℤ pos r ≡ right_part x y
 right_is x y p g r s e f h k = rw (e, k, f, h)
-
-pub returns-in_err-left-clause-fits : goal.returns-in_err-left-clause-fits
-returns-in_err-left-clause-fits c =
-    let a : Facts c.args.a c.parts-p.result.0 c.parts-p.result.1 = facts_of _ _ _ c.parts-p.ensures.numer c.parts-p.ensures.denom c.parts-p.ensures.reduced in
-    let b : Facts c.args.b c.parts-r.result.0 c.parts-r.result.1 = facts_of _ _ _ c.parts-r.ensures.numer c.parts-r.ensures.denom c.parts-r.ensures.reduced in
-    let left = left_is c.args.a c.args.b c.parts-p.result.0 c.args.g c.quotient.result c.parts-r.result.1 a.back b.denom c.requires c.quotient.ensures in (
-      λ ok. refused _ c.from_residual.ensures.0 ok,
-      λ f. absurd (false≢true (c.in_err-left.ensures.fits.1 (rw left f.left))),
-    )
-
-pub returns-in_err-right-clause-fits : goal.returns-in_err-right-clause-fits
-returns-in_err-right-clause-fits c =
-    let a : Facts c.args.a c.parts-p.result.0 c.parts-p.result.1 = facts_of _ _ _ c.parts-p.ensures.numer c.parts-p.ensures.denom c.parts-p.ensures.reduced in
-    let b : Facts c.args.b c.parts-r.result.0 c.parts-r.result.1 = facts_of _ _ _ c.parts-r.ensures.numer c.parts-r.ensures.denom c.parts-r.ensures.reduced in
-    let right = right_is c.args.a c.args.b c.parts-r.result.0 c.args.g c.quotient-2.result c.parts-p.result.1 b.back a.denom c.requires c.quotient-2.ensures in (
-      λ ok. refused _ c.from_residual-in_err-right.ensures.0 ok,
-      λ f. absurd (false≢true (c.in_err-right.ensures.fits.1 (rw right f.right))),
-    )
 
 pub returns : goal.returns
 returns c =

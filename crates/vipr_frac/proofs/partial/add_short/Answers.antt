@@ -1,4 +1,4 @@
-use Rattle.std.proofs.Common.{rules, ◌≡◌, ◌≤◌, ◌∙◌, refl, ap, subst, arith, pos, FitsSigned, lit≤, inl}
+use Rattle.std.proofs.Common.{rules, ◌≡◌, ◌≤◌, ◌∙◌, refl, ap, subst, arith, pos, FitsSigned, lit≤}
 use Rattle.std.proofs.Common.{to_z, of_z}
 use Rattle.std.specs.Prelude.{unsigned_abs}
 use Rattle.std.specs.Int.{w64, w128, int_wrapping_add}
@@ -6,29 +6,8 @@ use Rattle.std.proofs.Math.Nat.{le_trans}
 use Rattle.std.proofs.lemmas.Int.{to_z-of_z}
 use Rattle.vipr_spec.specs.Fraction.{over, most}
 use Rattle.vipr_frac.proofs.OneDenominator.{sum_by_equal, sum_from_zero}
-use Rattle.vipr_frac.proofs.Unreduced.{word_abs}
 use Rattle.vipr_frac.proofs.Views.{as-is}
 use Rattle.vipr_frac.proofs.partial.add_short.Goals as goal
-
-pub invariant_of-sum : goal.invariant_of-sum
-invariant_of-sum c =
-    let word = c.is_word.ensures.0 c.if-is_word.true in
-    record {
-      some = c.sum.invariant.some;
-      numer_bounded = le_trans (word_abs _ word) (lit≤ tt);
-      denom_bounded = c.sum.invariant.denom_bounded;
-      words_or_lowest = inl (record { numer = word; denom = omega arith });
-    }
-
-pub invariant_of-sum-then-sum-eq0 : goal.invariant_of-sum-then-sum-eq0
-invariant_of-sum-then-sum-eq0 c =
-    let word = c.is_word-2.ensures.0 c.if-not-is_word.false in
-    record {
-      some = omega arith;
-      numer_bounded = le_trans (word_abs _ word) (lit≤ tt);
-      denom_bounded = omega arith;
-      words_or_lowest = inl (record { numer = word; denom = omega arith });
-    }
 
 pub returns-then-is_word : goal.returns-then-is_word
 returns-then-is_word c =
@@ -55,9 +34,6 @@ returns-then-sum-eq0 c =
       sum = λ _. rw (as-is t small, c.from-then-sum-eq0.ensures) both.1;
       kept = search rules;
     }
-
-pub overflow_cast-p : goal.overflow_cast-p
-overflow_cast-p c = c.is_word-2.ensures.0 c.if-not-is_word.false
 
 pub returns-clause-fits : goal.returns-clause-fits
 returns-clause-fits c =
