@@ -8,14 +8,14 @@ mod LineTokens
 mod WordTokens
 mod SameRows
 mod RowEntries
-mod SectionTokens
+mod Spelling
 mod WholeText
 mod Weighing
 mod ExampleText
 mod SpelledNumbers
 mod SpelledRows
 mod SpelledTokens
-mod SpelledSections
+mod SpelledParts
 mod Kept
 mod StepLengths
 mod StepReasons

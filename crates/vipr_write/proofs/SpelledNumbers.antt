@@ -1,13 +1,12 @@
 -- What is spelled as a number is bounded
-use Rattle.std.proofs.Common.{◌≡◌, ℕ, zero, suc, ◌<◌, ◌≤◌, Bool, true, false, List, Option, Some}
-use Rattle.std.proofs.Common.{None, IfSome, ℤ, nat_abs, arith, refl, sym, subst}
+use Rattle.std.proofs.Common.{◌≡◌, ℕ, zero, suc, ◌<◌, ◌≤◌, Bool, true, false, List}
+use Rattle.std.proofs.Common.{ℤ, nat_abs, arith, refl, sym, subst}
 use Rattle.std.proofs.lemmas.Int.{ints}
 use Rattle.std.proofs.Math.Nat.{div-le_self, le_trans}
 use Rattle.vipr_spec.specs.Gcd.{gcd}
 use Rattle.vipr_spec.specs.Lowest.{abs_div}
 use Rattle.vipr_spec.specs.Fraction.{ℚ, over, most, IsBounded}
 use Rattle.vipr_spec.specs.Number.{signed_integer, denominator, SpellsNumber}
-use Rattle.vipr_spec.specs.Grammar.{SpellsBound}
 
 -- reduction keeps the bound
 over_bounded : (p : ℤ) (q : ℕ) → 0 < q → nat_abs p ≤ most → q ≤ most → IsBounded (over p q)
@@ -21,8 +20,3 @@ signed_abs false p = refl
 
 pub number_bounded : (t : List ℕ) (x : ℚ) → SpellsNumber t x → IsBounded x
 number_bounded t x s = subst IsBounded (sym s.value) (over_bounded _ (denominator s.bottom) (omega arith) (rw signed_abs s.top_fits) s.bottom_fits)
-
-pub bound_bounded : (infinite t : List ℕ) (o : Option ℚ) → SpellsBound infinite t o
-    → IfSome o IsBounded
-bound_bounded infinite t None s = tt
-bound_bounded infinite t (Some x) s = number_bounded t x s

@@ -2,20 +2,19 @@
 use Rattle.std.proofs.Common.{◌≡◌, ℕ, ◌<◌, ◌≤◌, inl, inr, Bool, true, false, ◌&&◌, nat_lt, nat_le}
 use Rattle.std.proofs.Common.{List, [], ◌∷◌, ◌++◌, length, All, Option, Some, None, IfSome, arith}
 use Rattle.std.proofs.Common.{refl, sym, subst}
-use Rattle.std.specs.List.{flat_map, list_all}
+use Rattle.std.specs.List.{list_all}
 use Rattle.std.specs.Char.{digit_value}
 use Rattle.std.specs.Fmt.{decimal}
 use Rattle.std.specs.Str.Parse.{AllDigits, IsNumeral}
 use Rattle.std.proofs.lemmas.Bool.Decides.{nat_tests}
 use Rattle.std.proofs.lemmas.Fmt.{decimal_is_IsNumeral, length-decimal-le}
 use Rattle.std.proofs.lemmas.List.{length-append}
-use Rattle.std.proofs.lemmas.List.Elements.{All-nil, All-cons, All-append, All-head, All-tail}
+use Rattle.std.proofs.lemmas.List.Elements.{All-nil, All-cons, All-append}
 use Rattle.vipr_spec.specs.Fraction.{ℚ, IsBounded}
 use Rattle.vipr_spec.specs.Number.{IsSign, under, SpellsNumber, number_text}
 use Rattle.vipr_spec.specs.Tokens.{is_white, IsToken}
 use Rattle.vipr_spec.specs.Reading.{most_count}
-use Rattle.vipr_spec.specs.Grammar.{SpellsNatural, SpellsCount, SpellsVariable, word, one, ◌then◌}
-use Rattle.vipr_spec.specs.Grammar.{each}
+use Rattle.vipr_spec.specs.Grammar.{SpellsNatural}
 use Rattle.vipr_spec.proofs.Laws.{text_spelled, text_short}
 
 -- ---- tokens
@@ -27,7 +26,7 @@ solid_token : (bs : List ℕ) → 0 < length bs → length bs ≤ 65535 → Soli
 solid_token bs some short solid = record { run = record { some = some; solid = λ k h. solid k 0 h }; short = short }
 
 -- words of letters, digits and signs, as a test
-abbrev IsPlain : List ℕ → Type 0
+abbrev pub IsPlain : List ℕ → Type 0
 IsPlain bs = (nat_lt 0 (length bs) && nat_le (length bs) 65535 && list_all (λ b. nat_lt 32 b) bs) ≡ true
 
 above_space : (b : ℕ) → nat_lt 32 b ≡ true → is_white b ≡ false
@@ -92,38 +91,3 @@ number_token x b =
     let k = number_solid (number_text x) x (text_spelled x b) in
     let l = text_short x b in
     solid_token (number_text x) k.0 (omega arith) k.1
-
--- ---- shapes
-
-pub record Written (P : List (List ℕ) → Type 0) (ws : List (List ℕ)) : Type 0 where
-  pub tokens : All IsToken ws
-  pub shape : P ws
-
-pub word_written : (w : List ℕ) → IsToken w → Written (word w) (w ∷ [])
-word_written w h = record { tokens = All-cons IsToken w [] h (All-nil IsToken); shape = refl }
-
-pub fixed_written : (w : List ℕ) → IsPlain w → Written (word w) (w ∷ [])
-fixed_written w h = word_written w (plain_token w h)
-
-pub one_written : {A : Type 0} (P : List ℕ → A → Type 0) (x : A) (t : List ℕ) → IsToken t → P t x
-    → Written (one P x) (t ∷ [])
-one_written P x t h p = record { tokens = All-cons IsToken t [] h (All-nil IsToken); shape = (t, refl, p) }
-
-pub then_written : {P Q : List (List ℕ) → Type 0} {a b : List (List ℕ)} → Written P a → Written Q b
-    → Written (P then Q) (a ++ b)
-then_written {a = a} {b = b} p q = record { tokens = All-append IsToken a b p.tokens q.tokens; shape = (a, b, refl, p.shape, q.shape) }
-
-pub each_written : {A : Type 0} (P : A → List (List ℕ) → Type 0) (f : A → List (List ℕ))
-    (xs : List A) → All (λ x. Written (P x) (f x)) xs → Written (each P xs) (flat_map f xs)
-each_written P f [] h = record { tokens = All-nil IsToken; shape = refl }
-each_written P f (x ∷ xs) h = then_written (All-head (λ x. Written (P x) (f x)) x xs h) (each_written P f xs (All-tail (λ x. Written (P x) (f x)) x xs h))
-
-pub count_written : (n : ℕ) → n ≤ most_count → Written (one SpellsCount n) (decimal n ∷ [])
-count_written n h = one_written SpellsCount n (decimal n) (decimal_token n h) (decimal_natural n h, h)
-
-pub variable_written : (n i : ℕ) → n ≤ most_count → i < n
-    → Written (one (SpellsVariable n) i) (decimal i ∷ [])
-variable_written n i few h = let small : i ≤ most_count = omega arith in one_written (SpellsVariable n) i (decimal i) (decimal_token i small) (decimal_natural i small, h)
-
-pub number_written : (x : ℚ) → IsBounded x → Written (one SpellsNumber x) (number_text x ∷ [])
-number_written x b = one_written SpellsNumber x (number_text x) (number_token x b) (text_spelled x b)
