@@ -34,6 +34,7 @@ Those of PRODUCTS have a product of large factors in a short text, which a progr
   joined_sets            sums that join the same two large sets of assumptions, kept to the end
   growing_at_the_front   sets of assumptions that grow in front of all others, kept to the end
   growing_in_the_middle  sets of assumptions that grow between all others
+  own_in_front          one sum over many sets, each a large one and an assumption of its own before all others
 
 Those of STEPS have a product of large factors that has no shorter way, so each of its steps is to be short:
 
@@ -396,6 +397,15 @@ def joined_sets(size):
     yield from proof(steps + [f'f G 0 0 {lin([(i, 1) for i in tops])} -1'] * count)
 
 
+def own_in_front(size):
+    count = size // 110
+    steps = ['a G 0 0 { asm } -1'] * count + gathered(count, count)
+    shared, first = len(steps) - 1, len(steps)
+    steps += [f'f G 0 0 {lin([(shared, 1), (k, 1)])} -1' for k in range(count)]
+    yield from problem(1, [], [], 'range -inf inf')
+    yield from proof(steps + [f's G 0 0 {lin([(first + k, 1) for k in range(count)])} -1'])
+
+
 def names(size, solutions=()):
     yield from (line[:1] if line[0] == 'x' else line for line in problem(size // 2, [], [], 'range -inf inf'))
     yield from proof([], solutions)
@@ -452,7 +462,8 @@ def long_sum(size):
 
 
 PRODUCTS = [objective_tested, columns_and_objective, objective_stated, objective_kept, weak_goals, split_on_objective,
-            same_set, alternating_sets, nine_sets, joined_sets, growing_at_the_front, growing_in_the_middle]
+            same_set, alternating_sets, nine_sets, joined_sets, growing_at_the_front, growing_in_the_middle,
+            own_in_front]
 STEPS = [split_on_rows, wide_divisors]
 KEPT = [names, names_and_solutions, empty_constraints, long_named, short_constraints, long_constraint, integer_indices,
         empty_solutions, empty_sums, assumptions, long_sum]

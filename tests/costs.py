@@ -43,7 +43,8 @@ LESS = {('empty_solutions', 'tighten'): 4}
 NOISE = 256 << 10
 # the lengths of the shorter texts; sets show what they cost in longer ones
 LENGTH, LONG = 8_000, {'same_set': 400_000, 'alternating_sets': 400_000, 'nine_sets': 400_000, 'joined_sets': 400_000,
-                       'growing': 100_000, 'growing_at_the_front': 100_000, 'growing_in_the_middle': 100_000}
+                       'own_in_front': 700_000, 'growing': 100_000, 'growing_at_the_front': 100_000,
+                       'growing_in_the_middle': 100_000}
 MEMORY_LENGTH, KEPT_LENGTH, WRITTEN_LENGTH = 200_000, 500_000, 100_000
 # instructions that a text of this length may take whose steps have no shorter way
 STEPS_LENGTH, STEPS_MOST = 20_000, {'split_on_rows': 13_000_000, 'wide_divisors': 300_000_000}

@@ -310,11 +310,3 @@ pub or_part : (a b : Bool) → (b ≡ true → a ≡ true) → a ≡ (a || b)
 or_part true b h = refl
 or_part false true h = absurd (let e = h refl in cc)
 or_part false false h = refl
-
-pub joined_with_part : (xs ys : List ℕ) → IsRising xs
-    → ((q : ℕ) → has ys q ≡ true → has xs q ≡ true) → IsUnion xs ys xs
-joined_with_part xs ys r within = record { rising = r; members = λ q. or_part (has xs q) (has ys q) (within q) }
-
-pub joined_with_whole : (xs ys : List ℕ) → IsRising ys
-    → ((q : ℕ) → has xs q ≡ true → has ys q ≡ true) → IsUnion xs ys ys
-joined_with_whole xs ys r within = record { rising = r; members = λ q. or_part (has ys q) (has xs q) (within q) ∙ or_turned (has ys q) (has xs q) }

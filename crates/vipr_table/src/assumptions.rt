@@ -15,7 +15,7 @@ ghost use Rattle.vipr_table.specs.IndexList.{listed_items, IsListOf};
 ghost use Rattle.vipr_table.specs.Rising.{IsRising, has};
 
 use crate::assumptions::list::IndexList;
-use crate::assumptions::merge::{all_but, has_all, is_in, join, join_but_last};
+use crate::assumptions::merge::{all_but, has_all, is_in, join};
 pub use crate::assumptions::union::Union;
 use std::alloc::{AllocError, Global};
 use std::borrow::CowSlice;
@@ -101,6 +101,9 @@ impl Assumptions {
         if is_in(self.list.second(), index) {
             return true;
         }
+        if is_in(self.list.third(), index) {
+            return true;
+        }
         is_in(self.list.more(), index)
     }
 
@@ -144,6 +147,9 @@ impl Assumptions {
     pub fn without(&self, alloc: Global, index: u32) -> Result<Self, AllocError>
         ensures { IfOk result (λ s. s ≡ set.remove self.now index) }
     {
+        if let Some(rest) = self.without_last(index)? {
+            return Ok(rest);
+        }
         if !self.contains(index) {
             return self.clone();
         }
@@ -165,10 +171,15 @@ impl Assumptions {
         ensures { IfOk result (λ s.
             s ≡ set.union (set.remove self.now index) (set.remove other.now other_index)) }
     {
-        match self.join_but_last(alloc, index, other, other_index)? {
-            Some(items) => Assumptions::of_rising(alloc, items),
-            None => self.union_of_rests(alloc, index, other, other_index),
-        }
+        let theirs = other.without(alloc, other_index)?;
+        let Ok(ours) = self.without(alloc, index) else {
+            drop(theirs);
+            return Err(AllocError);
+        };
+        let union = ours.union(alloc, &theirs);
+        drop(ours);
+        drop(theirs);
+        union
     }
 
     // The set without an index that only its short list has. Its other lists stay whole.
@@ -181,31 +192,12 @@ impl Assumptions {
         if is_in(self.list.second(), index) {
             return Ok(None);
         }
+        if is_in(self.list.third(), index) {
+            return Ok(None);
+        }
         let more = all_but(alloc, self.list.more(), index)?;
         let list = self.list.with_more(alloc, more)?;
         Ok(Some(Assumptions { list }))
-    }
-
-    // Joins two sets, each without an index, by the set that is left of each.
-    fn union_of_rests(
-        &self,
-        alloc: Global,
-        index: u32,
-        other: &Assumptions,
-        other_index: u32,
-    ) -> Result<Self, AllocError>
-        ensures { IfOk result (λ s.
-            s ≡ set.union (set.remove self.now index) (set.remove other.now other_index)) }
-    {
-        let theirs = other.without(alloc, other_index)?;
-        let Ok(ours) = self.without(alloc, index) else {
-            drop(theirs);
-            return Err(AllocError);
-        };
-        let union = ours.union(alloc, &theirs);
-        drop(ours);
-        drop(theirs);
-        union
     }
 
     // Whether both share their indices. `true` says that the sets are equal.
@@ -215,26 +207,25 @@ impl Assumptions {
         self.list.is_one(&other.list)
     }
 
-    // The union of two sets whose first lists are one, so that only the others are joined.
+    // The union of two sets whose first two lists are one, so that only the others are joined.
     fn joined_alike(&self, alloc: Global, other: &Assumptions) -> Result<Option<Self>, AllocError>
         ensures { IfOk result (λ o. IfSome o (λ s. s ≡ set.union self.now other.now)) }
     {
-        if !self.list.has_first_of(&other.list) {
+        if !self.list.has_pair_of(&other.list) {
             return Ok(None);
         }
-        let (ours, theirs) = (self.list.second(), other.list.second());
         let more = join(alloc, self.list.more(), other.list.more())?;
-        if self.takes(more.len()) && self.list.has_second_of(&other.list) {
+        if self.takes(more.len()) && self.list.has_third_of(&other.list) {
             let list = self.list.with_more(alloc, more)?;
             return Ok(Some(Assumptions { list }));
         }
-        if self.takes(more.len()) && other.list.has_second_of(&self.list) {
+        if self.takes(more.len()) && other.list.has_third_of(&self.list) {
             let list = other.list.with_more(alloc, more)?;
             return Ok(Some(Assumptions { list }));
         }
-        let seconds = join(alloc, ours, theirs)?;
-        let second = join(alloc, &seconds, &more)?;
-        let list = self.list.with_second(alloc, second)?;
+        let thirds = join(alloc, self.list.third(), other.list.third())?;
+        let third = join(alloc, &thirds, &more)?;
+        let list = self.list.with_third(alloc, third)?;
         Ok(Some(Assumptions { list }))
     }
 
@@ -335,32 +326,14 @@ impl Assumptions {
         Ok(Some(Assumptions { list }))
     }
 
-    // The indices of both, but for one of each, if these are the last ones.
-    fn join_but_last(
-        &self,
-        alloc: Global,
-        index: u32,
-        other: &Assumptions,
-        other_index: u32,
-    ) -> Result<Option<Vec<u32>>, AllocError>
-        ensures { IfOk result (λ o. IfSome o (λ v. IsListOf
-            (set.union (set.remove self.now index) (set.remove other.now other_index)) v.items)) }
+    // The set without an index, if that is the last one of one list.
+    fn without_last(&self, index: u32) -> Result<Option<Self>, AllocError>
+        ensures { IfOk result (λ o. IfSome o (λ s. s ≡ set.remove self.now index)) }
     {
-        let ours = self.flat(alloc)?;
-        let Ok(theirs) = other.flat(alloc) else {
-            drop(ours);
-            return Err(AllocError);
-        };
-        let union = join_but_last(
-            alloc,
-            ours.as_slice(),
-            index,
-            theirs.as_slice(),
-            other_index,
-        );
-        drop(ours);
-        drop(theirs);
-        union
+        match self.list.without_last(index)? {
+            Some(list) => Ok(Some(Assumptions { list })),
+            None => Ok(None),
+        }
     }
 
     // The set of these indices, in any order, of which some may occur twice.
@@ -409,7 +382,8 @@ impl Assumptions {
     fn merged(&self, alloc: Global) -> Result<Vec<u32>, AllocError>
         ensures { IfOk result (λ items. IsListOf self.now items.items) }
     {
-        let rest = join(alloc, self.list.second(), self.list.more())?;
+        let rest = join(alloc, self.list.third(), self.list.more())?;
+        let rest = join(alloc, self.list.second(), &rest)?;
         join(alloc, self.list.first(), &rest)
     }
 

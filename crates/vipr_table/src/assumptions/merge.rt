@@ -1,6 +1,6 @@
 //! Unions and removals on lists of numbers in rising order.
 
-ghost use Rattle.std.specs.Prelude.{◌≡◌, ◌++◌, ℕ, true, not, nat_eq, filter, IfOk, IfSome};
+ghost use Rattle.std.specs.Prelude.{◌≡◌, ◌++◌, ℕ, true, length, not, nat_eq, filter, IfOk};
 ghost use Rattle.vipr_table.specs.Rising.{IsRising, IsUnion, has};
 
 use std::alloc::{AllocError, Global};
@@ -13,17 +13,37 @@ pub(crate) fn is_in(xs: &[u32], index: u32) -> bool
     xs.binary_search(&index).is_ok()
 }
 
-/// Whether each item of `ys` is in `xs`, too. Mostly `xs` begins with them.
+/// Whether each item of `ys` is in `xs`, too. Mostly `xs` begins or ends with them.
 pub(crate) fn has_all(xs: &[u32], ys: &[u32]) -> bool
     ensures { result ≡ true → (q : ℕ) → has ys.now q ≡ true → has xs.now q ≡ true }
 {
     if xs.len() < ys.len() {
         return false;
     }
-    if &xs[..ys.len()] == ys {
+    if is_same(&xs[..ys.len()], ys) {
+        return true;
+    }
+    if is_same(&xs[xs.len() - ys.len()..], ys) {
         return true;
     }
     has_each(xs, ys)
+}
+
+// Whether two lists of one length are equal. Items are compared several at once.
+fn is_same(xs: &[u32], ys: &[u32]) -> bool
+    requires { length xs.now ≡ length ys.now }
+    ensures { result ≡ true → xs.now ≡ ys.now }
+{
+    if xs.first() != ys.first() || xs.last() != ys.last() {
+        return false;
+    }
+    let mut same = true;
+    let mut i = 0;
+    while i < xs.len() {
+        same &= xs[i] == ys[i];
+        i += 1;
+    }
+    same
 }
 
 // Whether each item of `ys` is in `xs`, item by item.
@@ -59,43 +79,6 @@ pub(crate) fn join(alloc: Global, xs: &[u32], ys: &[u32]) -> Result<Vec<u32>, Al
         return concat(alloc, ys, xs);
     }
     merge(alloc, xs, ys)
-}
-
-/// Joins two rising lists without the last item of each, if these are `x` and `y`.
-pub(crate) fn join_but_last(
-    alloc: Global,
-    xs: &[u32],
-    x: u32,
-    ys: &[u32],
-    y: u32,
-) -> Result<Option<Vec<u32>>, AllocError>
-    requires left { IsRising xs.now }
-    requires right { IsRising ys.now }
-    ensures { IfOk result (λ o. IfSome o (λ v. IsUnion (filter (λ n. not (nat_eq n x)) xs.now)
-        (filter (λ n. not (nat_eq n y)) ys.now) v.items)) }
-{
-    let Some(xs) = but_last(xs, x) else {
-        return Ok(None);
-    };
-    let Some(ys) = but_last(ys, y) else {
-        return Ok(None);
-    };
-    Ok(Some(join_alike(alloc, xs, ys)?))
-}
-
-// Joins two rising lists, of which one often has all items of the other.
-fn join_alike(alloc: Global, xs: &[u32], ys: &[u32]) -> Result<Vec<u32>, AllocError>
-    requires left { IsRising xs.now }
-    requires right { IsRising ys.now }
-    ensures { IfOk result (λ v. IsUnion xs.now ys.now v.items) }
-{
-    if has_all(xs, ys) {
-        return xs.to_vec(alloc);
-    }
-    if has_all(ys, xs) {
-        return ys.to_vec(alloc);
-    }
-    join(alloc, xs, ys)
 }
 
 /// Whether all items of one rising list come before those of another. Neither is empty then.
@@ -143,17 +126,6 @@ fn merge(alloc: Global, xs: &[u32], ys: &[u32]) -> Result<Vec<u32>, AllocError>
         all.push(low)?;
     }
     extended(all, &xs[i..], &ys[j..])
-}
-
-// The items before the last one, if that is `index`.
-fn but_last(xs: &[u32], index: u32) -> Option<&[u32]>
-    requires { IsRising xs.now }
-    ensures { IfSome result (λ rest. rest.now ≡ filter (λ x. not (nat_eq x index)) xs.now) }
-{
-    match xs.split_last() {
-        Some((last, rest)) if *last == index => Some(rest),
-        _ => None,
-    }
 }
 
 /// The items other than `index`.

@@ -12,4 +12,4 @@ returns c =
     let theirs = one_is_list c.other.inside.list _ _ c.other.invariant c.other.view_is c.in-Some.ensures in
     let joined = rw c.more-2.ensures at c.in_ok-more.ensures in
     let made = c.in_ok-with_more.ensures in
-    more_seen c.self.inside.list c.in_ok-with_more.field-0 _ _ _ _ c.self.view_is theirs.is_set joined made.0 made.1 made.2
+    more_seen c.self.inside.list c.in_ok-with_more.field-0 _ _ _ _ c.self.view_is theirs.is_set joined made.0 made.1 made.2 made.3
