@@ -75,6 +75,7 @@ pub(crate) fn combine<S: Rows>(
 
 // Tests that the sum, or its rounding, dominates the stated constraint. The sum becomes a
 // constraint only where it doesn't, for what is reported then.
+#[inline(always)]
 fn check_computed(
     alloc: Global,
     scratch: &mut Combination,
@@ -99,6 +100,28 @@ fn check_computed(
     if follows {
         return Ok(());
     }
+    check_finished(alloc, scratch, ints, stated, computed)
+}
+
+// Makes the sum a constraint, and tests that.
+#[inline(never)]
+fn check_finished(
+    alloc: Global,
+    scratch: &mut Combination,
+    ints: &Ints,
+    stated: &Constraint,
+    computed: Computed,
+) -> Result<(), RuleError>
+    requires fresh { scratch.old.spent ≡ false }
+    ensures tests { (P : Profile) (c : Certificate) (d : Derivation) (es : List (ℕ × ℚ))
+        → IsSum c es (held_condition scratch.old) → c.problem.integers ≡ ints.now
+        → condition_of stated.now ≡ condition d.stated
+        → MatchResult result (λ _. PassesTestsIn P c d (computed_tests computed es))
+        (λ e. (e ≡ Memory) ⊎ StopsIn P c d (computed_tests computed es) e) }
+    ensures follows { OnOk result
+        (DominatesBy computed ints.now (held_condition scratch.old) (condition_of stated.now)) }
+    ensures variables { length scratch.new.sums ≡ length scratch.old.sums }
+{
     let sum = finish(alloc, scratch)?;
     match computed {
         Computed::Sum => {
