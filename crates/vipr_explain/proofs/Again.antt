@@ -76,6 +76,18 @@ pub ok_and : {T U E : Type 0} (r : Result T E) (x : U) (P : U → Type 0) → On
 ok_and (Ok y) x P h = h
 ok_and (Err e) x P h = tt
 
+-- both results are Ok, so what they say holds
+pub first_ok : {T U E : Type 0} (r : Result T E) (s : Result U E) (x : U) (P : Type 0)
+    → result_and r s ≡ Ok x → OnOk r P → P
+first_ok (Ok y) s x P e h = h
+first_ok (Err m) s x P e h = absurd (cc e)
+
+pub second_ok : {T U E : Type 0} (r : Result T E) (s : Result U E) (x : U) (P : Type 0)
+    → result_and r s ≡ Ok x → OnOk s P → P
+second_ok (Ok y) (Ok z) x P e h = h
+second_ok (Ok y) (Err m) x P e h = absurd (cc e)
+second_ok (Err m) s x P e h = absurd (cc e)
+
 -- ---- a reader behind so many
 
 pub still_knows : (old new : Reader) (p : Problem) → Remembers old new → Knows old p → Knows new p

@@ -3,7 +3,6 @@ mod Dropping
 mod Lacks
 mod Tokens
 mod Walking
-mod Crossing
 mod NearOrder
 mod Nearing
 mod Valuing

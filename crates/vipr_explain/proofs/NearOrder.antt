@@ -1,5 +1,5 @@
 -- The order of the constraints that come near to a claim, lists in that order, and their first ones
-use Rattle.std.proofs.Common.{◌≡◌, ℕ, zero, suc, ◌+◌, ◌<◌, Bool, true, false, cond, not, ◌&&◌, ◌||◌}
+use Rattle.std.proofs.Common.{◌≡◌, ℕ, zero, suc, ◌+◌, ◌<◌, Bool, true, false, cond, not, ◌&&◌, ◌||◌, nat_lt}
 use Rattle.std.proofs.Common.{List, [], ◌∷◌, length, take, drop, Option, Some, None}
 use Rattle.std.proofs.Common.{refl, sym, ap, ◌∙◌, subst, inl, inr, arith, All, Contains}
 use Rattle.std.specs.Prelude.{◌⊎◌, insert, if◌then◌else◌}
@@ -9,6 +9,7 @@ use Rattle.std.specs.declared.cmp.Ordering.{Ordering}
 use Rattle.std.specs.declared.cmp.Ordering.TheVariants.{Less, Equal, Greater}
 use Rattle.std.specs.Ordering.{ordering_reverse}
 use Rattle.std.proofs.lemmas.Bool.{cases_lt}
+use Rattle.std.proofs.lemmas.Bool.Decides.{nat_tests}
 use Rattle.std.proofs.lemmas.List.{length-take-le, length-drop, take-append-drop}
 use Rattle.std.proofs.lemmas.List.Elements.{All-nil, All-cons, All-weaker}
 use Rattle.std.proofs.lemmas.List.Elements.{All-append, All-take, All-drop, All-contains}
@@ -20,42 +21,38 @@ use Rattle.vipr_spec.specs.Certificate.{Certificate, constraint_at}
 use Rattle.vipr_spec.proofs.Laws.{cmp_total}
 use Rattle.vipr_rules.specs.declared.claim.Target.{Target}
 use Rattle.vipr_page.specs.Algebra.{size}
-use Rattle.vipr_explain.specs.Near.{closer_by, misses_less, comes_before, with_near, in_order}
+use Rattle.vipr_explain.specs.Near.{closer_by, misses_less, rank_of, comes_before, with_near, in_order}
 use Rattle.vipr_explain.specs.Near.{AreInOrder, IsLike, IsNear, AreLike, of_none, of_like, of_unlike}
 use Rattle.vipr_explain.specs.Near.{AreNearest, HasPlace}
 use Rattle.vipr_explain.specs.declared.near.Near.{Near}
 
 -- ---- what comes before what
 
-freer_trans : (a b c : Bool) → (a && not b) ≡ true → (b && not c) ≡ true → (a && not c) ≡ true
-freer_trans true true c h k = absurd (cc h)
-freer_trans true false c h k = absurd (cc k)
-freer_trans false b c h k = absurd (cc h)
+freer_trans : (a b c : ℕ) → nat_lt b a ≡ true → nat_lt c b ≡ true → nat_lt c a ≡ true
+freer_trans a b c h k = grind (arith, nat_tests)
 
-freer_asym : (a b : Bool) → (a && not b) ≡ true → (b && not a) ≡ false
-freer_asym true true h = refl
-freer_asym true false h = refl
-freer_asym false b h = absurd (cc h)
+freer_asym : (a b : ℕ) → nat_lt b a ≡ true → nat_lt a b ≡ false
+freer_asym a b h = grind (arith, nat_tests)
 
-module _ (x y z : ℚ) (a b c : Bool) where
-  closer_trans : (o p : Ordering) → cmp_ℚ x y ≡ o → cmp_ℚ y z ≡ p → closer_by o (a && not b) ≡ true
-      → closer_by p (b && not c) ≡ true → closer_by (cmp_ℚ x z) (a && not c) ≡ true
-  closer_trans Less Less e f h k = ap (λ o. closer_by o (a && not c)) (cmp_total.trans x y z e f)
-  closer_trans Less Equal e f h k = ap (λ o. closer_by o (a && not c)) (sym (alike_right cmp_total y z x f) ∙ e)
-  closer_trans Equal Less e f h k = ap (λ o. closer_by o (a && not c)) (cmp_total.congr x y z e ∙ f)
-  closer_trans Equal Equal e f h k = ap (λ o. closer_by o (a && not c)) (cmp_total.congr x y z e ∙ f) ∙ freer_trans a b c h k
+module _ (x y z : ℚ) (a b c : ℕ) where
+  closer_trans : (o p : Ordering) → cmp_ℚ x y ≡ o → cmp_ℚ y z ≡ p → closer_by o (nat_lt b a) ≡ true
+      → closer_by p (nat_lt c b) ≡ true → closer_by (cmp_ℚ x z) (nat_lt c a) ≡ true
+  closer_trans Less Less e f h k = ap (λ o. closer_by o (nat_lt c a)) (cmp_total.trans x y z e f)
+  closer_trans Less Equal e f h k = ap (λ o. closer_by o (nat_lt c a)) (sym (alike_right cmp_total y z x f) ∙ e)
+  closer_trans Equal Less e f h k = ap (λ o. closer_by o (nat_lt c a)) (cmp_total.congr x y z e ∙ f)
+  closer_trans Equal Equal e f h k = ap (λ o. closer_by o (nat_lt c a)) (cmp_total.congr x y z e ∙ f) ∙ freer_trans a b c h k
   closer_trans Greater p e f h k = absurd (cc h)
   closer_trans Less Greater e f h k = absurd (cc k)
   closer_trans Equal Greater e f h k = absurd (cc k)
 
-closer_asym : (x y : ℚ) (a b : Bool) (o : Ordering) → cmp_ℚ x y ≡ o → closer_by o (a && not b) ≡ true
-    → closer_by (cmp_ℚ y x) (b && not a) ≡ false
-closer_asym x y a b Less e h = ap (λ o. closer_by o (b && not a)) (cmp_total.antisymm y x ∙ ap ordering_reverse e)
-closer_asym x y a b Equal e h = ap (λ o. closer_by o (b && not a)) (cmp_total.antisymm y x ∙ ap ordering_reverse e) ∙ freer_asym a b h
+closer_asym : (x y : ℚ) (a b : ℕ) (o : Ordering) → cmp_ℚ x y ≡ o → closer_by o (nat_lt b a) ≡ true
+    → closer_by (cmp_ℚ y x) (nat_lt a b) ≡ false
+closer_asym x y a b Less e h = ap (λ o. closer_by o (nat_lt a b)) (cmp_total.antisymm y x ∙ ap ordering_reverse e)
+closer_asym x y a b Equal e h = ap (λ o. closer_by o (nat_lt a b)) (cmp_total.antisymm y x ∙ ap ordering_reverse e) ∙ freer_asym a b h
 closer_asym x y a b Greater e h = absurd (cc h)
 
-misses_trans : (x y z : Option ℚ) (a b c : Bool) → misses_less x y (a && not b) ≡ true
-    → misses_less y z (b && not c) ≡ true → misses_less x z (a && not c) ≡ true
+misses_trans : (x y z : Option ℚ) (a b c : ℕ) → misses_less x y (nat_lt b a) ≡ true
+    → misses_less y z (nat_lt c b) ≡ true → misses_less x z (nat_lt c a) ≡ true
 misses_trans (Some x) (Some y) (Some z) a b c h k = closer_trans (size x) (size y) (size z) a b c _ _ refl refl h k
 misses_trans (Some x) y None a b c h k = refl
 misses_trans (Some x) None (Some z) a b c h k = absurd (cc k)
@@ -63,18 +60,18 @@ misses_trans None (Some y) z a b c h k = absurd (cc h)
 misses_trans None None (Some z) a b c h k = absurd (cc k)
 misses_trans None None None a b c h k = freer_trans a b c h k
 
-misses_asym : (x y : Option ℚ) (a b : Bool) → misses_less x y (a && not b) ≡ true
-    → misses_less y x (b && not a) ≡ false
+misses_asym : (x y : Option ℚ) (a b : ℕ) → misses_less x y (nat_lt b a) ≡ true
+    → misses_less y x (nat_lt a b) ≡ false
 misses_asym (Some x) (Some y) a b h = closer_asym (size x) (size y) a b _ refl h
 misses_asym (Some x) None a b h = refl
 misses_asym None (Some y) a b h = absurd (cc h)
 misses_asym None None a b h = freer_asym a b h
 
--- by what is strong, by how much it misses, and what is free
-abbrev pub leads : Bool → Option ℚ → Bool → Bool → Option ℚ → Bool → Bool
-leads s x a t y b = if s then not t || (a && not b) else not t && misses_less x y (a && not b)
+-- by what is strong, by how much it misses, and the rank
+abbrev pub leads : Bool → Option ℚ → ℕ → Bool → Option ℚ → ℕ → Bool
+leads s x a t y b = if s then not t || (nat_lt b a) else not t && misses_less x y (nat_lt b a)
 
-leads_trans : (s t u : Bool) (x y z : Option ℚ) (a b c : Bool) → leads s x a t y b ≡ true
+leads_trans : (s t u : Bool) (x y z : Option ℚ) (a b c : ℕ) → leads s x a t y b ≡ true
     → leads t y b u z c ≡ true → leads s x a u z c ≡ true
 leads_trans true true true x y z a b c h k = freer_trans a b c h k
 leads_trans true t false x y z a b c h k = refl
@@ -83,7 +80,7 @@ leads_trans false true u x y z a b c h k = absurd (cc h)
 leads_trans false false true x y z a b c h k = absurd (cc k)
 leads_trans false false false x y z a b c h k = misses_trans x y z a b c h k
 
-leads_asym : (s t : Bool) (x y : Option ℚ) (a b : Bool) → leads s x a t y b ≡ true
+leads_asym : (s t : Bool) (x y : Option ℚ) (a b : ℕ) → leads s x a t y b ≡ true
     → leads t y b s x a ≡ false
 leads_asym true true x y a b h = freer_asym a b h
 leads_asym true false x y a b h = refl
@@ -91,10 +88,10 @@ leads_asym false true x y a b h = absurd (cc h)
 leads_asym false false x y a b h = misses_asym x y a b h
 
 before_trans : (l m n : Near) → comes_before l m ≡ true → comes_before m n ≡ true → comes_before l n ≡ true
-before_trans l m n h k = leads_trans l.is_strong m.is_strong n.is_strong l.gap m.gap n.gap l.is_free m.is_free n.is_free h k
+before_trans l m n h k = leads_trans l.is_strong m.is_strong n.is_strong l.gap m.gap n.gap (rank_of l) (rank_of m) (rank_of n) h k
 
 before_asym : (m n : Near) → comes_before m n ≡ true → comes_before n m ≡ false
-before_asym m n h = leads_asym m.is_strong n.is_strong m.gap n.gap m.is_free n.is_free h
+before_asym m n h = leads_asym m.is_strong n.is_strong m.gap n.gap (rank_of m) (rank_of n) h
 
 -- what doesn't come before m doesn't come before what does
 behind_first : (l m n : Near) → comes_before l m ≡ true → comes_before n m ≡ false → comes_before n l ≡ false

@@ -2,7 +2,7 @@
 use Rattle.std.proofs.Common.{◌≡◌, ℕ, zero, suc, ◌+◌, ◌<◌, Bool, true, false, List, []}
 use Rattle.std.proofs.Common.{◌∷◌, ◌++◌, length, map, take, get_or, Option, None, Some, refl, sym, ap}
 use Rattle.std.proofs.Common.{◌∙◌, append_assoc, subst, inl, inr, arith, IsTrue}
-use Rattle.std.specs.Prelude.{◌↔◌, ◌≢◌, if◌then◌else◌}
+use Rattle.std.specs.Prelude.{◌↔◌, ◌≢◌, if◌then◌else◌, All, option_and_then}
 use Rattle.std.specs.FinSet as set
 use Rattle.std.specs.FinSet.{FinSet, contains, contains-empty, same_set, nat_cmp-IsAntisymmetric}
 use Rattle.std.specs.Cmp.{nat_cmp_total}
@@ -34,12 +34,13 @@ use Rattle.vipr_rules.specs.Apply.{entry_resting_on}
 use Rattle.vipr_rules.specs.Claim.{IsTargetIn}
 use Rattle.vipr_rules.specs.declared.claim.Target.{Target}
 use Rattle.vipr_explain.specs.Near.{IsLike, comes_before, with_near, in_order, IsNear, AreNearest}
-use Rattle.vipr_explain.specs.Near.{IsCrossed, crossed_in}
+use Rattle.vipr_explain.specs.Near.{IsOpenJoin, join_of}
 use Rattle.vipr_explain.specs.Near.{of_like, of_unlike, without_solutions, IsNextEntry, HasPassedAll}
+use Rattle.vipr_explain.specs.Near.{HasReplayed}
+use Rattle.vipr_explain.specs.declared.changes.Replay.{Replay}
 use Rattle.vipr_explain.specs.declared.near.Join.{Join}
 use Rattle.vipr_explain.specs.declared.near.Near.{Near}
 use Rattle.vipr_explain.specs.declared.near.NearSearch.{NearSearch}
-use Rattle.vipr_explain.proofs.Crossing.{crossed_next}
 use Rattle.vipr_explain.proofs.NearOrder.{next_near}
 
 -- ---- one constraint more
@@ -129,42 +130,61 @@ back_next c d back earlier k = elim (cases_lt k (count c)) [
   ]
 ]
 
--- it is kept so, and its constraint was added
-pub passed_next : (P : Profile) (p : Problem) (ds : List Derivation) (d : Derivation) (e : Entry)
-    (s t : NearSearch) (i : ℕ) (crossed : Option Join) → i ≡ s.rows.next
-    → crossed ≡ crossed_in s.rows d.reason → t.target ≡ s.target → t.rows ≡ step s.rows e
-    → length t.scratch.sums ≡ length s.scratch.sums → NamesBelow (variables p) (condition d.stated).row
-    → ((c : Certificate) → constraint_at c i ≡ condition_of e.constraint
-    → ((a : ℕ) → IsTrue (contains e.assumptions a) ↔ RestsOn c i a)
-    → ((j : Join) → (crossed ≡ Some j) ↔ IsCrossed c i j) → AreNearest c s.target i s.near.items → AreNearest c s.target (i + 1) t.near.items)
-    → IsNextEntry (without_solutions p ds) d e → HasPassedAll P p ds s
-    → HasPassedAll P p (ds ++ d ∷ []) t
-passed_next P p ds d e s t i crossed index joins target rows scratch names added next so_far =
+-- the next one was passed
+pub replayed_next : (p : Problem) (ds : List Derivation) (d : Derivation) (e : Entry) (s t : Replay)
+    → t.rows ≡ step s.rows e → length t.scratch.sums ≡ length s.scratch.sums
+    → NamesBelow (variables p) (condition d.stated).row → IsNextEntry (without_solutions p ds) d e
+    → HasReplayed p ds s → HasReplayed p (ds ++ d ∷ []) t
+replayed_next p ds d e s t rows scratch names next so_far =
     let c = without_solutions p ds in
     let now = with_next c d in
-    let here : count c ≡ i = sym (index ∙ so_far.rows.next) in
+    record {
+      rows = subst (IsTableOf now) (sym rows) (IsTableOf-step c d e s.rows so_far.rows so_far.back next.entry);
+      back = back_next c d so_far.back next.earlier;
+      below = subst (DerivedBelow (variables p)) (sym rows) (DerivedBelow-step (variables p) s.rows e so_far.below (subst (λ (x : Condition). NamesBelow (variables p) x.row) (sym (constraint_next c d) ∙ next.entry.says) names));
+      scratch = scratch ∙ so_far.scratch;
+    }
+
+-- it is kept so, and its constraint was added
+pub passed_next : (P : Profile) (p : Problem) (ds : List Derivation) (d : Derivation) (e : Entry)
+    (s t : NearSearch) (i : ℕ) (join : Option Join) → i ≡ s.replay.rows.next
+    → join ≡ join_of d.reason → t.target ≡ s.target → t.replay.rows ≡ step s.replay.rows e
+    → length t.replay.scratch.sums ≡ length s.replay.scratch.sums → NamesBelow (variables p) (condition d.stated).row
+    → ((c : Certificate) → constraint_at c i ≡ condition_of e.constraint
+    → ((a : ℕ) → IsTrue (contains e.assumptions a) ↔ RestsOn c i a)
+    → AreNearest c s.target i s.near.items → AreNearest c s.target (i + 1) t.near.items)
+    → ((c : Certificate) → option_and_then join_of (reason_at c i) ≡ join
+    → ((a : ℕ) → IsTrue (contains e.assumptions a) ↔ RestsOn c i a)
+    → All (IsOpenJoin c) s.joins.items → All (IsOpenJoin c) t.joins.items)
+    → IsNextEntry (without_solutions p ds) d e → HasPassedAll P p ds s
+    → HasPassedAll P p (ds ++ d ∷ []) t
+passed_next P p ds d e s t i join index joins target rows scratch names added keeps next so_far =
+    let c = without_solutions p ds in
+    let now = with_next c d in
+    let here : count c ≡ i = sym (index ∙ so_far.replayed.rows.next) in
     let behind : i + 1 ≡ count now = ap (λ k. k + 1) (sym here) ∙ sym (count_next c d) in
     let says = next.entry.says in
-    let back = back_next c d so_far.back next.earlier in
+    let back = back_next c d so_far.replayed.back next.earlier in
+    let l : count c < count now = omega (arith, count_next c d) in
+    let moved : (more : List Derivation) → ds ++ d ∷ more ≡ (ds ++ d ∷ []) ++ more = λ more. simp append_assoc in
+    let same : (more : List Derivation) (a : ℕ) → IsTrue (contains e.assumptions a) ↔ RestsOn (with_more now more) i a = λ more a.
+    let kept = rests_more now more back (count c) a l in
+    subst (λ k. IsTrue (contains e.assumptions a) ↔ RestsOn (with_more now more) k a) here (λ h. kept.1 ((next.entry.rests a).0 h), λ r. (next.entry.rests a).1 (kept.0 r)) in
     record {
       target = subst (IsTargetIn P p) (sym target) so_far.target;
-      rows = subst (IsTableOf now) (sym rows) (IsTableOf-step c d e s.rows so_far.rows so_far.back next.entry);
-      back = back;
-      below = subst (DerivedBelow (variables p)) (sym rows) (DerivedBelow-step (variables p) s.rows e so_far.below (subst (λ (x : Condition). NamesBelow (variables p) x.row) (sym (constraint_next c d) ∙ says) names));
-      scratch = scratch ∙ so_far.scratch;
+      replayed = replayed_next p ds d e s.replay t.replay rows scratch names next so_far.replayed;
       near = λ more.
           let all = with_more now more in
-          let l : count c < count now = omega (arith, count_next c d) in
-          let moved : ds ++ d ∷ more ≡ (ds ++ d ∷ []) ++ more = simp append_assoc in
-          let before = subst (λ xs. AreNearest (without_solutions p xs) s.target (count c) s.near.items) moved (so_far.near (d ∷ more)) in
-          let same : (a : ℕ) → IsTrue (contains e.assumptions a) ↔ RestsOn all (count c) a = λ a.
-          let kept = rests_more now more back (count c) a l in
-          (λ h. kept.1 ((next.entry.rests a).0 h), λ r. (next.entry.rests a).1 (kept.0 r)) in
+          let before = subst (λ xs. AreNearest (without_solutions p xs) s.target (count c) s.near.items) (moved more) (so_far.near (d ∷ more)) in
           let nearest = added all (subst (λ k. constraint_at all k ≡ condition_of e.constraint) here (constraint_before now more (count c) l ∙ says))
-          (λ a. subst (λ k. IsTrue (contains e.assumptions a) ↔ RestsOn all k a) here (same a))
-          (λ j. subst (λ k. (crossed ≡ Some j) ↔ IsCrossed all k j) here (rw joins (crossed_next c d more s.rows so_far.rows so_far.back back next.live j)))
+          (same more)
           (subst (λ k. AreNearest all s.target k s.near.items) here before) in
           subst (λ x. AreNearest all x (count now) t.near.items) (sym target) (subst (λ k. AreNearest all s.target k t.near.items) behind nearest);
+      joins = λ more.
+          let all = with_more now more in
+          let is = reason_before now more (count c) l ∙ reason_next c d in
+          keeps all (subst (λ k. option_and_then join_of (reason_at all k) ≡ join) here (ap (option_and_then join_of) is ∙ sym joins)) (same more)
+          (subst (λ xs. All (IsOpenJoin (without_solutions p xs)) s.joins.items) (moved more) (so_far.joins (d ∷ more)));
     }
 
 -- what a solution cuts off

@@ -1,39 +1,16 @@
 -- The derivations before one that is refused, one after the other
-use Rattle.std.proofs.Common.{◌≡◌, ℕ, List, [], ◌∷◌, ◌++◌, length, sym, subst, ◌∙◌, Option, Some}
+use Rattle.std.proofs.Common.{◌≡◌, ℕ, List, [], ◌∷◌, ◌++◌, Option, Some}
 use Rattle.std.proofs.Common.{None, Result, Ok, Err, IfOk}
 use Rattle.std.specs.Prelude.{IfSome}
-use Rattle.vipr_spec.specs.Constraint.{Condition, NamesBelow, Profile, condition}
-use Rattle.vipr_spec.specs.Certificate.{Problem, Derivation, count, variables}
-use Rattle.vipr_spec.specs.Steps.{with_next}
-use Rattle.vipr_spec.proofs.Laws.{constraint_next}
-use Rattle.vipr_table.specs.Table.{DerivedBelow, step}
-use Rattle.vipr_table.specs.History.{IsTableOf}
-use Rattle.vipr_table.proofs.Laws.{DerivedBelow-step, IsTableOf-step}
-use Rattle.vipr_table.specs.declared.rows.Entry.{Entry}
+use Rattle.vipr_spec.specs.Constraint.{Profile}
+use Rattle.vipr_spec.specs.Certificate.{Problem, Derivation, count}
 use Rattle.vipr_read.specs.Items.{Items as Reader}
 use Rattle.vipr_scan.specs.declared.error.TextError.{TextError}
-use Rattle.vipr_explain.specs.Changes.{AreChanges, FollowEach, FollowsWith, FollowsIn, HasReplayed}
+use Rattle.vipr_explain.specs.Changes.{AreChanges, FollowEach, FollowsWith, FollowsIn}
 use Rattle.vipr_explain.specs.Found.{AreDerivationsRead, text_rest}
 use Rattle.vipr_explain.specs.declared.changes.Change.{Change}
 use Rattle.vipr_explain.specs.declared.changes.Changes.{Changes}
-use Rattle.vipr_explain.specs.Near.{IsNextEntry, without_solutions}
-use Rattle.vipr_explain.specs.declared.changes.Replay.{Replay}
-use Rattle.vipr_explain.proofs.Nearing.{back_next}
-
--- the next one was passed
-pub replayed_next : (p : Problem) (ds : List Derivation) (d : Derivation) (e : Entry) (s t : Replay)
-    → t.rows ≡ step s.rows e → length t.scratch.sums ≡ length s.scratch.sums
-    → NamesBelow (variables p) (condition d.stated).row → IsNextEntry (without_solutions p ds) d e
-    → HasReplayed p ds s → HasReplayed p (ds ++ d ∷ []) t
-replayed_next p ds d e s t rows scratch names next so_far =
-    let c = without_solutions p ds in
-    let now = with_next c d in
-    record {
-      rows = subst (IsTableOf now) (sym rows) (IsTableOf-step c d e s.rows so_far.rows so_far.back next.entry);
-      back = back_next c d so_far.back next.earlier;
-      below = subst (DerivedBelow (variables p)) (sym rows) (DerivedBelow-step (variables p) s.rows e so_far.below (subst (λ (x : Condition). NamesBelow (variables p) x.row) (sym (constraint_next c d) ∙ next.entry.says) names));
-      scratch = scratch ∙ so_far.scratch;
-    }
+use Rattle.vipr_explain.specs.Near.{without_solutions}
 
 if_some : {X : Type 0} (o : Option X) (A B : X → Type 0) → ((x : X) → A x → B x) → IfSome o A → IfSome o B
 if_some (Some x) A B f h = f x h

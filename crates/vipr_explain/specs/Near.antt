@@ -1,7 +1,8 @@
 -- The constraints that come nearest to a claim: what is known of each, and their order
 use Rattle.std.specs.Prelude.{◌≡◌, ◌≢◌, ◌↔◌, ◌⊎◌, ◌+◌, ◌++◌, ℕ, ℤ, Bool, true, false, not}
 use Rattle.std.specs.Prelude.{◌&&◌, ◌||◌, IsTrue, List, [], ◌∷◌, length, take, insert, Option}
-use Rattle.std.specs.Prelude.{Some, None, All, Contains, if◌then◌else◌, ⊤}
+use Rattle.std.specs.Prelude.{Some, None, All, Contains, if◌then◌else◌, ⊤, nat_lt, ◌^◌}
+use Rattle.std.specs.Prelude.{option_and_then}
 use Rattle.std.specs.FinSet.{contains}
 use Rattle.std.specs.List.{position_or_len}
 use Rattle.std.specs.declared.cmp.Ordering.{Ordering}
@@ -17,7 +18,7 @@ use Rattle.vipr_spec.specs.Steps.{with_more, with_next, RefersBack, Refuses, Ste
 use Rattle.vipr_spec.specs.Reading.{Rest}
 use Rattle.vipr_read.specs.Items.{Items as Reader}
 use Rattle.vipr_linear.specs.Constraint.{condition_of}
-use Rattle.vipr_table.specs.Table.{DerivedBelow, Table, entry_at}
+use Rattle.vipr_table.specs.Table.{DerivedBelow}
 use Rattle.vipr_table.specs.History.{IsEntryOf, IsTableOf}
 use Rattle.vipr_table.specs.declared.rows.Entry.{Entry}
 use Rattle.vipr_rules.specs.Claim.{IsMetBy, IsTargetIn}
@@ -26,7 +27,9 @@ use Rattle.vipr_rules.specs.declared.claim.Target.TheVariants.{Absurdity, Bound,
 use Rattle.vipr_rules.specs.declared.claim.Target.TheVariants.{Nothing}
 use Rattle.vipr_page.specs.Algebra.{size}
 use Rattle.vipr_explain.specs.Found.{AreDerivationsRead, AreReadSoFar, HasFault, all_read}
+use Rattle.vipr_explain.specs.declared.changes.Replay.{Replay}
 use Rattle.vipr_explain.specs.declared.near.Join.{Join}
+use Rattle.vipr_explain.specs.declared.near.OpenJoin.{OpenJoin}
 use Rattle.vipr_explain.specs.declared.near.Near.{Near}
 use Rattle.vipr_explain.specs.declared.near.NearSearch.{NearSearch}
 
@@ -94,10 +97,13 @@ misses_less (Some g) None is_freer = true
 misses_less None (Some h) is_freer = false
 misses_less None None is_freer = is_freer
 
--- what is strong enough comes first, and then what misses the bound by less; of two alike the one
--- that rests on nothing
+-- of two alike the one that rests on nothing comes first, or else the later one
+abbrev pub rank_of : Near → ℕ
+rank_of n = if n.is_free then n.index + 2 ^ 32 else n.index
+
+-- what is strong enough comes first, and then what misses the bound by less
 abbrev pub comes_before : Near → Near → Bool
-comes_before n m = let is_freer = n.is_free && not m.is_free in
+comes_before n m = let is_freer = nat_lt (rank_of m) (rank_of n) in
     if n.is_strong then not m.is_strong || is_freer
     else not m.is_strong && misses_less n.gap m.gap is_freer
 
@@ -117,10 +123,16 @@ AreInOrder (n ∷ ns) = All (λ m. comes_before m n ≡ false) ns × AreInOrder 
 
 -- ---- what is known of each
 
--- constraint k joins two branches, and each rests on the other one's assumption alone of the two
-abbrev pub IsCrossed : Certificate → ℕ → Join → Type 0
-IsCrossed c k j = (reason_at c k ≡ Some (uns j.i1 j.l1 j.i2 j.l2))
-    × RestsOn c j.i1 j.l2 × RestsOn c j.i2 j.l1 × ¬ RestsOn c j.i1 j.l1 × ¬ RestsOn c j.i2 j.l2
+-- what a reason joins
+abbrev pub join_of : Reason → Option Join
+join_of (uns i1 l1 i2 l2) = Some (record { i1 = i1; l1 = l1; i2 = i2; l2 = l2 })
+join_of _ = None
+
+-- constraint k.index joins this, and whether it still rests on the assumption of each branch
+pub record IsOpenJoin (c : Certificate) (k : OpenJoin) : Type 0 where
+  pub join : option_and_then join_of (reason_at c k.index) ≡ Some k.join
+  pub first : IsTrue k.first ↔ RestsOn c k.index k.join.l1
+  pub second : IsTrue k.second ↔ RestsOn c k.index k.join.l2
 
 -- Constraint n.index is like what is wanted, and is strong enough if it says what is wanted; the
 -- gap is what it misses the bound by. The set has exactly the assumptions that it rests on.
@@ -130,7 +142,6 @@ pub record IsNear (c : Certificate) (t : Target) (n : Near) : Type 0 where
   pub gap : MissesBy t (constraint_at c n.index) n.gap
   pub rests : (a : ℕ) → IsTrue (contains n.assumptions a) ↔ RestsOn c n.index a
   pub free : IsTrue n.is_free ↔ RestsOnNothing c n.index
-  pub crossed : (j : Join) → (n.crossed ≡ Some j) ↔ IsCrossed c n.index j
 
 -- these are all of the first k constraints that are like what is wanted, from the last one on
 pub data AreLike (c : Certificate) (t : Target) : ℕ → List Near → Type 0 where
@@ -153,18 +164,6 @@ pub record HasPlace (c : Certificate) (t : Target) (ns : List Near) (i : ℕ) : 
 
 -- ---- the search
 
--- what a reason joins, if that is crossed, by the entries of its branches
-abbrev pub crossed_by : Join → Option Entry → Option Entry → Option Join
-crossed_by j (Some a) (Some b) =
-    if (not (contains a.assumptions j.l1) && not (contains b.assumptions j.l2))
-    && (contains a.assumptions j.l2 && contains b.assumptions j.l1) then Some j else None
-crossed_by j _ _ = None
-
-abbrev pub crossed_in : Table → Reason → Option Join
-crossed_in t (uns i1 l1 i2 l2) =
-    crossed_by (record { i1 = i1; l1 = l1; i2 = i2; l2 = l2 }) (entry_at t i1) (entry_at t i2)
-crossed_in t _ = None
-
 -- the solutions are left out: what a constraint states and rests on doesn't depend on them
 abbrev pub without_solutions : Problem → List Derivation → Certificate
 without_solutions p ds = record { problem = p; solutions = []; derivations = ds }
@@ -180,18 +179,24 @@ pub record IsNextEntry (c : Certificate) (d : Derivation) (e : Entry) : Type 0 w
 abbrev pub IsRefusedNext : Profile → Certificate → Derivation → Type 0
 IsRefusedNext P c d = (d.reason ≢ sol) × (n : ℕ) × (x : StepDetail) × Refuses P c d n x
 
--- The first k constraints of a problem with these derivations were passed; whatever comes behind
--- them, the nearest of them are kept. The table has all the derivations, and no variable but those
--- of the problem; the scratch has a place for each.
+-- The table has all these derivations of a problem, and no variable but those of the problem; the
+-- scratch has a place for each.
+pub record HasReplayed (p : Problem) (ds : List Derivation) (r : Replay) : Type 0 where
+  pub rows : IsTableOf (without_solutions p ds) r.rows
+  pub back : RefersBack (without_solutions p ds)
+  pub below : DerivedBelow (variables p) r.rows
+  pub scratch : length r.scratch.sums ≡ variables p
+
+-- the first k constraints of a problem with these derivations were passed; whatever comes behind
+-- them, the nearest of them are kept
 pub record HasSearched (P : Profile) (p : Problem) (ds : List Derivation) (k : ℕ) (s : NearSearch)
     : Type 0 where
   pub target : IsTargetIn P p s.target
-  pub rows : IsTableOf (without_solutions p ds) s.rows
-  pub back : RefersBack (without_solutions p ds)
-  pub below : DerivedBelow (variables p) s.rows
-  pub scratch : length s.scratch.sums ≡ variables p
+  pub replayed : HasReplayed p ds s.replay
   pub near : (more : List Derivation)
       → AreNearest (with_more (without_solutions p ds) more) s.target k s.near.items
+  pub joins : (more : List Derivation)
+      → All (IsOpenJoin (with_more (without_solutions p ds) more)) s.joins.items
 
 abbrev pub HasPassedAll : Profile → Problem → List Derivation → NearSearch → Type 0
 HasPassedAll P p ds s = HasSearched P p ds (count (without_solutions p ds)) s

@@ -1,11 +1,10 @@
 -- What is found of a derivation or a listed solution that is refused
-use Rattle.std.specs.Prelude.{◌≡◌, ◌↔◌, ℕ, ℤ, ⊤, List, [], ◌∷◌, IsTrue, Option, Some}
+use Rattle.std.specs.Prelude.{◌≡◌, ◌↔◌, ℕ, ⊤, List, [], ◌∷◌, IsTrue, Option, Some}
 use Rattle.std.specs.Prelude.{None, option_map, ◌≤◌, ◌⊎◌}
 use Rattle.std.specs.List.{All}
 use Rattle.vipr_spec.specs.Constraint.{Ints, IsSplit, Profile, two}
 use Rattle.vipr_spec.specs.Reading.{problem_read}
-use Rattle.vipr_linear.specs.Constraint.{condition_of, constraint_of}
-use Rattle.vipr_linear.specs.declared.constraint.Constraint.{Constraint}
+use Rattle.vipr_linear.specs.Constraint.{condition_of}
 use Rattle.vipr_cert.specs.declared.items.Derivation.{Derivation}
 use Rattle.vipr_cert.specs.declared.items.Reason.{Reason}
 use Rattle.vipr_cert.specs.declared.items.Reason.TheVariants as reason
@@ -18,7 +17,6 @@ use Rattle.vipr_check.specs.declared.verdict.Place.TheVariants as at
 use Rattle.vipr_check.specs.declared.verdict.Verdict.{Verdict}
 use Rattle.vipr_check.specs.declared.verdict.Verdict.TheVariants as verdict
 use Rattle.vipr_page.specs.Differences.{row_differences}
-use Rattle.vipr_page.specs.Repairs.{IsRounded}
 use Rattle.vipr_page.specs.RowFaults.{row_faults}
 use Rattle.vipr_explain.specs.Changes.{AreChanges}
 use Rattle.vipr_explain.specs.Drops.{IsLastUse}
@@ -45,12 +43,6 @@ IsPlaceFor text (Some span) (Some place) = IsPlaceAt text span place
 IsPlaceFor text None None = ⊤
 IsPlaceFor text _ _ = ⊥
 
--- the right-hand side by rnd in place of lin, if that is enough
-abbrev pub IsRepair : Ints → Reason → Constraint → Constraint → Option ℤ → Type 0
-IsRepair integers (reason.Lin es) computed stated k =
-    IsRounded integers (constraint_of computed) (constraint_of stated) k
-IsRepair integers _ computed stated k = k ≡ None
-
 -- the place of an item's name among these, and that of its last reference
 abbrev pub IsNamePlace : List ℕ → List ItemPlace → ℕ → Option KnownPlace → Type 0
 IsNamePlace text marks index place =
@@ -70,9 +62,8 @@ pub record IsLastUseIn (text : List ℕ) (index user : ℕ) (l : LastUse) : Type
 -- a stated constraint differ, what keeps a sum or the row of two assumptions from being whole,
 -- whether these are a split by the second profile, or the last use of a constraint
 abbrev pub AreFacts : List ℕ → Ints → Reason → ℕ → StepDetail → StepFacts → Type 0
-AreFacts text integers reason k (what.Rows computed stated) (fact.Rows differences side) =
-    (differences.items ≡ row_differences computed.row stated.row)
-    × IsRepair integers reason computed stated side
+AreFacts text integers reason k (what.Rows computed stated) (fact.Rows differences) =
+    differences.items ≡ row_differences computed.row stated.row
 AreFacts text integers reason k (what.Sum sum) (fact.Sum faults) =
     faults.items ≡ row_faults integers sum.row
 AreFacts text integers reason k (what.Pair first second) (fact.Pair faults is_split) =

@@ -9,13 +9,13 @@ ghost use Rattle.vipr_table.specs.History.{IsTableOf};
 ghost use Rattle.vipr_table.specs.Table.{DerivedBelow};
 ghost use Rattle.vipr_rules.specs.Profile.{profile_of};
 ghost use Rattle.vipr_scan.specs.declared.error.TextError.TheVariants.{Memory};
-ghost use Rattle.vipr_explain.specs.Changes.{AreChanges, FollowEach, FollowsWith, HasReplayed};
+ghost use Rattle.vipr_explain.specs.Changes.{AreChanges, FollowEach, FollowsWith};
 ghost use Rattle.vipr_explain.specs.Changes.{ReplaysPartWay, changed, changed_entries};
 ghost use Rattle.vipr_explain.specs.Found.{AreDerivationsRead, text_rest};
-ghost use Rattle.vipr_explain.specs.Near.{without_solutions};
+ghost use Rattle.vipr_explain.specs.Near.{HasReplayed, without_solutions};
 
 use crate::items::{Items, open_derivations};
-use crate::near::{entry_of, place};
+use crate::near::{Join, entry_of, place};
 use crate::sought::{Candidates, Sum};
 use crate::text::{Reread, Subject};
 use std::alloc::{AllocError, Global};
@@ -29,17 +29,20 @@ use vipr_read::Derivations;
 use vipr_rules::{Rows, RuleError, apply_in};
 use vipr_scan::TextError;
 
-/// A change of a sum: at this position an entry of a constraint with a multiplier, in place of
-/// another one, or behind the last one.
+/// A change of a reason.
 #[derive(Clone, Copy)]
-pub(crate) struct Change {
-    pub(crate) position: usize,
-    pub(crate) index: u32,
-    pub(crate) multiplier: Frac,
+pub(crate) enum Change {
+    /// At this position of a sum an entry of a constraint with a multiplier, in place of another
+    /// one, or behind the last one.
+    Entry(usize, u32, Frac),
+    /// What is joined.
+    Join(Join),
+    /// `rnd` in place of `lin`, or `lin` in place of `rnd`.
+    Word,
 }
 
-/// Changes with which a refused sum follows: another multiplier, another constraint with the same
-/// one, and one more entry.
+/// Changes with which a refused derivation follows: another multiplier, another constraint with the
+/// same one or another join, and one more entry.
 #[derive(Clone, Copy)]
 pub(crate) struct Changes {
     pub(crate) multiplier: Option<Change>,
@@ -49,39 +52,36 @@ pub(crate) struct Changes {
 
 /// The derivations before one that is refused, as the rules keep them.
 #[derive(Drop)]
-struct Replay {
-    rows: Table,
-    scratch: Combination,
+pub(crate) struct Replay {
+    pub(crate) rows: Table,
+    pub(crate) scratch: Combination,
 }
 
 impl Change {
-    // Writes that a sum of these entries follows with it.
-    fn write(&self, page: &mut Page, items: &Items, entries: &[(u32, Frac)]) {
-        let (index, multiplier) = (self.index, self.multiplier);
-        match entries.get(self.position) {
-            None => {
-                write!(page, "  = help: with one more entry, {multiplier} x ");
-                write_name(page, items, index);
-                page.put(",");
+    // Writes that a derivation by this reason follows with it.
+    fn write(&self, page: &mut Page, items: &Items, reason: &Reason) {
+        page.put("  = help: with ");
+        match *self {
+            Change::Entry(position, index, multiplier) => {
+                if let References::Entries(entries) = reason.references() {
+                    write_entry(page, items, entries, position, index, multiplier);
+                }
             }
-            Some(entry) if entry.0 == index => {
-                let old = entry.1;
-                write!(
-                    page,
-                    "  = help: with the multiplier {multiplier} in place of {old} at "
-                );
-                write_name(page, items, index);
-            }
-            Some(entry) => {
-                page.put("  = help: with ");
-                write_name(page, items, index);
-                page.put(" in place of ");
-                write_name(page, items, entry.0);
-                let position = self.position;
-                write!(page, " at entry {position}");
-            }
+            Change::Join(Join { i1, l1, i2, l2 }) => write!(page, "`uns {i1} {l1} {i2} {l2}`"),
+            Change::Word => page.put(match reason {
+                Reason::Lin(_) => "`rnd` in place of `lin`",
+                _ => "`lin` in place of `rnd`",
+            }),
         }
         page.put(" the derivation follows\n");
+    }
+
+    /// The position and the constraint of an entry.
+    pub(crate) fn entry(&self) -> Option<(usize, u32)> {
+        match *self {
+            Change::Entry(position, index, _) => Some((position, index)),
+            _ => None,
+        }
     }
 }
 
@@ -102,15 +102,13 @@ impl Changes {
         self.multiplier.is_none() && self.exchange.is_none() && self.addition.is_none()
     }
 
-    /// Writes a line for each change of the sum of a reason, at most two.
+    /// Writes a line for each change of a reason, at most two.
     pub(crate) fn write(&self, page: &mut Page, items: &Items, reason: &Reason) {
-        if let References::Entries(entries) = reason.references() {
-            let has_both = self.multiplier.is_some() && self.exchange.is_some();
-            let addition = if has_both { None } else { self.addition };
-            for change in [self.multiplier, self.exchange, addition] {
-                if let Some(change) = change {
-                    change.write(page, items, entries);
-                }
+        let has_both = self.multiplier.is_some() && self.exchange.is_some();
+        let addition = if has_both { None } else { self.addition };
+        for change in [self.multiplier, self.exchange, addition] {
+            if let Some(change) = change {
+                change.write(page, items, reason);
             }
         }
     }
@@ -146,8 +144,37 @@ fn or_none(found: Reread<Changes>) -> Reread<Changes>
     }
 }
 
-// Writes a constraint's index and name.
-fn write_name(page: &mut Page, items: &Items, index: u32) {
+// Writes an entry of a constraint with a multiplier, and the one in whose place it is.
+fn write_entry(
+    page: &mut Page,
+    items: &Items,
+    entries: &[(u32, Frac)],
+    position: usize,
+    index: u32,
+    multiplier: Frac,
+) {
+    match entries.get(position) {
+        None => {
+            write!(page, "one more entry, {multiplier} x ");
+            write_name(page, items, index);
+            page.put(",");
+        }
+        Some(entry) if entry.0 == index => {
+            let old = entry.1;
+            write!(page, "the multiplier {multiplier} in place of {old} at ");
+            write_name(page, items, index);
+        }
+        Some(entry) => {
+            write_name(page, items, index);
+            page.put(" in place of ");
+            write_name(page, items, entry.0);
+            write!(page, " at entry {position}");
+        }
+    }
+}
+
+/// Writes a constraint's index and name.
+pub(crate) fn write_name(page: &mut Page, items: &Items, index: u32) {
     write!(page, "[{index}]");
     if let Some(name) = items.name(index) {
         write!(page, " {}", ShownName(name.as_bytes()));
@@ -180,8 +207,8 @@ fn changes_behind(
 }
 
 impl Replay {
-    // No derivation was passed.
-    fn new(alloc: Global, problem: &Problem) -> Result<Replay, AllocError>
+    /// No derivation was passed.
+    pub(crate) fn new(alloc: Global, problem: &Problem) -> Result<Replay, AllocError>
         ensures { IfOk result (HasReplayed problem.now []) }
     {
         match Combination::new(alloc, problem.names().len() as u32) {
@@ -329,7 +356,7 @@ fn follows(sum: Sum<'_>, scratch: &mut Combination, change: &Change) -> Reread<b
     }
 }
 
-// A derivation with its sum changed.
+// A derivation with its reason changed.
 fn changed_step(alloc: Global, step: &Derivation, change: &Change) -> Result<Derivation, AllocError>
     ensures stated { IfOk result (λ d. d.constraint ≡ step.now.constraint) }
     ensures reason { IfOk result
@@ -350,13 +377,29 @@ fn changed_step(alloc: Global, step: &Derivation, change: &Change) -> Result<Der
     }
 }
 
-// A reason with its sum changed.
+// A reason with a change.
 fn changed_reason(alloc: Global, reason: &Reason, change: &Change) -> Result<Reason, AllocError>
     ensures { IfOk result (λ r. reason_of r ≡ changed change.now (reason_of reason.now)) }
 {
     match reason {
-        Reason::Lin(entries) => Ok(Reason::Lin(changed_entries(alloc, entries, change)?)),
-        Reason::Rnd(entries) => Ok(Reason::Rnd(changed_entries(alloc, entries, change)?)),
+        Reason::Lin(entries) => {
+            let entries = changed_entries(alloc, entries, change)?;
+            match *change {
+                Change::Word => Ok(Reason::Rnd(entries)),
+                Change::Entry(..) | Change::Join(_) => Ok(Reason::Lin(entries)),
+            }
+        }
+        Reason::Rnd(entries) => {
+            let entries = changed_entries(alloc, entries, change)?;
+            match *change {
+                Change::Word => Ok(Reason::Lin(entries)),
+                Change::Entry(..) | Change::Join(_) => Ok(Reason::Rnd(entries)),
+            }
+        }
+        Reason::Uns { .. } => match *change {
+            Change::Join(Join { i1, l1, i2, l2 }) => Ok(Reason::Uns { i1, l1, i2, l2 }),
+            Change::Entry(..) | Change::Word => reason.clone(),
+        },
         other => other.clone(),
     }
 }
@@ -370,11 +413,16 @@ fn changed_entries(
     ensures { IfOk result (λ es. es.items ≡ changed_entries change.now entries.now) }
 {
     let count = entries.len();
-    let position = change.position.min(count);
-    let behind = position.saturating_add(1).min(count);
     let mut changed = Vec::new(alloc);
-    changed.extend_from_slice(&entries[..position])?;
-    changed.push((change.index, change.multiplier))?;
-    changed.extend_from_slice(&entries[behind..])?;
+    match *change {
+        Change::Entry(position, index, multiplier) => {
+            let position = position.min(count);
+            let behind = position.saturating_add(1).min(count);
+            changed.extend_from_slice(&entries[..position])?;
+            changed.push((index, multiplier))?;
+            changed.extend_from_slice(&entries[behind..])?;
+        }
+        Change::Join(_) | Change::Word => changed.extend_from_slice(entries)?,
+    }
     Ok(changed)
 }

@@ -6,16 +6,18 @@ ghost use Rattle.vipr_explain.specs.Near.{LacksNear};
 ghost use Rattle.vipr_explain.specs.Claims.{IsGoalRead, IsUnproved};
 ghost use Rattle.vipr_explain.specs.Values.{AreListedValues};
 
+use crate::changes::write_name;
 use crate::items::open_problem;
+use crate::marks::mark_of;
 use crate::near::{Join, Near, NearSearch, find_near, is_turned};
-use crate::shown::PlacedItems;
-use crate::solution::ListedValues;
+use crate::shown::{PlacedItems, write_line};
+use crate::solution::{ListedValues, is_exchanged};
 use crate::text::{Reread, Subject};
 use vipr_cert::{Claim, Goal};
 use vipr_check::Report;
 use vipr_frac::Frac;
 use vipr_linear::{Constraint, compares};
-use vipr_page::{Algebra, Page, size_of};
+use vipr_page::{Algebra, Page, sign_of, size_of};
 use vipr_rules::Target;
 
 /// How many assumptions of a constraint are shown.
@@ -172,61 +174,47 @@ fn read_near(subject: Subject<'_>, near: &[Near]) -> Reread<PlacedItems>
 
 // Writes what to do, by what was found.
 fn write_advice(page: &mut Page, known: &UnprovedClaim) {
-    let mut is_strong = false;
-    let mut free = None;
-    let mut turned = None;
-    for near in &known.search.near {
-        if let Some(Join { i1, l1, i2, l2 }) = near.crossed {
-            write!(
-                page,
-                "[{i1}] rests on [{l2}] and [{i2}] on [{l1}]: are l1 and l2 exchanged? `uns {i1} \
-                 {l2} {i2} {l1}`"
-            );
+    let problem = &known.items.items.problem;
+    let near = &known.search.near;
+    let strong = near.iter().find(|near| near.is_strong);
+    let weak = near.iter().find(|near| near.is_free && near.gap.is_some());
+    let turned = near
+        .iter()
+        .find(|near| near.is_free && known.is_turned(near.index));
+    page.put(match (known.bound(), strong, weak, turned) {
+        _ if is_exchanged(problem.claim()) => {
+            "the lower bound of the claim is above the upper one: are they exchanged?"
+        }
+        (_, Some(strong), ..) => {
+            write_left(page, &known.search, strong);
             return;
         }
-        if near.is_strong && near.assumptions.contains(near.index) {
-            let index = near.index;
-            write!(
-                page,
-                "[{index}] is an assumption itself: is its reason left out?"
-            );
-            return;
-        }
-        is_strong = is_strong || near.is_strong;
-        if near.is_free && free.is_none() && near.gap.is_some() {
-            free = Some(near.index);
-        }
-        if near.is_free && turned.is_none() && known.is_turned(near.index) {
-            turned = Some(near.index);
-        }
-    }
-    let given = known.items.items.problem.cons().len();
-    page.put(match (known.bound(), free) {
-        (Some(_), Some(index)) if index as usize >= given || !is_strong => {
-            write!(
-                page,
-                "is more claimed behind RTP than [{index}] says, or is a constant of the objective \
-                 in the claim? The format has none"
-            );
-            return;
-        }
-        (Some(Constraint { row, .. }), None) if !is_strong && !row.is_empty() && turned.is_some() =>
-            {
-                let other = match known.items.items.problem.sense() {
-                    Goal::Min => "max",
-                    Goal::Max => "min",
-                };
-                let index = turned.unwrap_or(0);
-                write!(
-                    page,
-                    "[{index}] is the other way round: is `OBJ {other}` meant?"
-                );
-                return;
+        (Some(bound), _, Some(weak), _) => {
+            let index = weak.index;
+            let constraint = known.items.items.constraint(index);
+            if constraint.is_some_and(|weak| weak.rhs == bound.rhs.neg()) {
+                write!(page, "[{index}] has this bound with the other sign: ");
+                page.put("is the sign in the claim wrong?");
+            } else {
+                write!(page, "is more claimed behind RTP than [{index}] says, ");
+                page.put("or is a constant of the objective in the claim? The format has none");
             }
-        (Some(Constraint { row, sense, rhs }), None)
-            if known.search.near.is_empty()
-                && row.is_empty()
-                && compares(*sense, Frac::zero(), *rhs) => {
+            return;
+        }
+        (Some(bound), .., Some(turned)) if !bound.row.is_empty() => {
+            let index = turned.index;
+            let other = match problem.sense() {
+                Goal::Min => "max",
+                Goal::Max => "min",
+            };
+            write!(
+                page,
+                "[{index}] is the other way round: is `OBJ {other}` meant?"
+            );
+            return;
+        }
+        (Some(Constraint { row, sense, rhs }), ..)
+            if near.is_empty() && row.is_empty() && compares(*sense, Frac::zero(), *rhs) => {
             write!(
                 page,
                 "add the derivation `NAME {sense} {rhs} 0 {{ lin 0 }} -1`, and 1 to the count \
@@ -234,22 +222,72 @@ fn write_advice(page: &mut Page, known: &UnprovedClaim) {
             );
             return;
         }
-        (None, _) if known.has_solution => {
+        (None, ..) if known.has_solution => {
             "the text lists a solution that is feasible, so `infeas` is false: claim `range` and \
              two bounds"
-        }
-        _ if is_strong => {
-            "are branches not joined? `uns i1 l1 i2 l2` takes l1 away from what i1 rests on, and \
-             l2 from what i2 does; and each of them is to rest on no other assumption in the end"
         }
         _ => "is its derivation left out, or is more claimed behind RTP than is proved?",
     });
 }
 
+// Writes why an assumption is left of a constraint that is strong enough.
+fn write_left(page: &mut Page, search: &NearSearch, strong: &Near) {
+    let assumptions = &strong.assumptions;
+    let index = strong.index;
+    if assumptions.contains(index) {
+        write!(
+            page,
+            "[{index}] is an assumption itself: is its reason left out?"
+        );
+        return;
+    }
+    for open in &search.joins {
+        let Join { i1, l1, i2, l2 } = open.join;
+        let index = open.index;
+        let (first, second) = (
+            open.first && assumptions.contains(l1),
+            open.second && assumptions.contains(l2),
+        );
+        if first && second {
+            write!(page, "[{i1}] rests on [{l2}] and [{i2}] on [{l1}]: ");
+            write!(page, "are l1 and l2 exchanged? `uns {i1} {l2} {i2} {l1}`");
+            return;
+        }
+        if first || second {
+            let (left, case) = if first { (l1, i2) } else { (l2, i1) };
+            write!(
+                page,
+                "[{index}] is to take [{left}] away by `uns {i1} {l1} {i2} {l2}`, "
+            );
+            write!(page, "but its other case, [{case}], rests on [{left}], too");
+            return;
+        }
+    }
+    for left in 0..=index {
+        if assumptions.contains(left) {
+            write!(
+                page,
+                "[{left}] is an assumption that is left: is its reason left out, "
+            );
+            page.put("or a `uns i1 l1 i2 l2` that takes it away as l1 or l2?");
+            return;
+        }
+    }
+}
+
 // Writes a constraint that comes near, and why it isn't enough.
 fn write_near(page: &mut Page, known: &UnprovedClaim, near: &Near) {
     page.put("    ");
-    known.items.write_constraint(page, near.index);
+    let items = &known.items.items;
+    match (known.bound(), items.constraint(near.index)) {
+        (Some(_), Some(constraint)) => {
+            let (sign, side) = (sign_of(constraint.sense), constraint.rhs);
+            write_name(page, items, near.index);
+            write!(page, "  objective {sign} {side}");
+            write_line(page, mark_of(known.items.marks.as_slice(), near.index));
+        }
+        _ => known.items.write_constraint(page, near.index),
+    }
     if known.bound().is_some() {
         if near.is_strong {
             page.put(", strong enough");

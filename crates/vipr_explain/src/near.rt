@@ -1,12 +1,13 @@
 //! Finds the constraints that come nearest to a claim, and the assumptions that they rest on.
 ghost use Rattle.std.specs.Prelude.{◌≡◌, ◌↔◌, ◌+◌, ◌<◌, ◌≤◌, ◌^◌, ◌∷◌, ◌++◌, ℕ, List, []};
-ghost use Rattle.std.specs.Prelude.{IsTrue, IfErr, IfOk, OnOk, Some, length, take, unsigned_abs};
+ghost use Rattle.std.specs.Prelude.{IsTrue, IfErr, IfOk, OnOk, length, take, unsigned_abs};
+ghost use Rattle.std.specs.Prelude.{All, option_and_then};
 ghost use Rattle.std.specs.FinSet.{contains};
 ghost use Rattle.std.specs.List.{position_or_len};
 ghost use Rattle.vipr_spec.specs.Fraction.{most, whole};
 ghost use Rattle.vipr_spec.specs.Constraint.{at, NamesBelow};
 ghost use Rattle.vipr_spec.specs.Certificate.{Certificate, Derivation as DerivationMeant, RestsOn};
-ghost use Rattle.vipr_spec.specs.Certificate.{constraint_at, variables};
+ghost use Rattle.vipr_spec.specs.Certificate.{constraint_at, reason_at, variables};
 ghost use Rattle.vipr_spec.specs.Steps.{RefersBack};
 ghost use Rattle.vipr_linear.specs.Constraint.{condition_of, sense_of};
 ghost use Rattle.vipr_cert.specs.Items.{derivation_of, reason_of};
@@ -18,14 +19,14 @@ ghost use Rattle.vipr_rules.specs.declared.error.RuleError.TheVariants.{Memory a
 ghost use Rattle.vipr_scan.specs.declared.error.TextError.TheVariants.{Memory};
 ghost use Rattle.vipr_explain.specs.Found.{AreDerivationsRead, Because, text_rest};
 ghost use Rattle.vipr_explain.specs.Near.{AreInOrder, AreNearest, HasPassedAll, HasPlace};
-ghost use Rattle.vipr_explain.specs.Near.{HasSearched, IsCrossed, IsGapBetween, IsGapTo, IsLike};
+ghost use Rattle.vipr_explain.specs.Near.{HasSearched, IsGapBetween, IsGapTo, IsOpenJoin, IsLike};
 ghost use Rattle.vipr_explain.specs.Near.{IsLikeBound, IsNearSearch, IsNextEntry};
 ghost use Rattle.vipr_explain.specs.Near.{IsRefusedNext, IsRoundedSide, LacksNear, MissesBy};
-ghost use Rattle.vipr_explain.specs.Near.{comes_before, crossed_in, is_turned, misses_less};
+ghost use Rattle.vipr_explain.specs.Near.{comes_before, is_turned, join_of, misses_less, rank_of};
 ghost use Rattle.vipr_explain.specs.Near.{with_near, without_solutions};
-ghost use Rattle.vipr_explain.specs.declared.near.Join.{Join as JoinMeant};
 ghost use Rattle.vipr_explain.specs.declared.near.Near.{Near as NearMeant};
 
+use crate::changes::Replay;
 use crate::items::open_derivations;
 use crate::text::{Reread, Subject};
 use std::alloc::AllocError;
@@ -55,8 +56,6 @@ pub(crate) struct Near {
     pub(crate) assumptions: Assumptions,
     /// Whether it rests on none.
     pub(crate) is_free: bool,
-    /// Its reason, if that joins two branches of which each rests on the other one's assumption.
-    pub(crate) crossed: Option<Join>,
 }
 
 /// What `uns i1 l1 i2 l2` names.
@@ -68,14 +67,25 @@ pub(crate) struct Join {
     pub(crate) l2: u32,
 }
 
-/// A search for the three constraints that come nearest to a claim: those that are strong enough
-/// come first, then those that miss it by less, and of two alike the one that rests on nothing.
+/// A derivation that joins two branches, and whether it still rests on the assumption of each.
+#[derive(Clone, Copy)]
+pub(crate) struct OpenJoin {
+    pub(crate) index: u32,
+    pub(crate) join: Join,
+    pub(crate) first: bool,
+    pub(crate) second: bool,
+}
+
+/// A search for the three constraints that come nearest to a claim. Those that are strong enough
+/// come first, then those that miss it by less. If two are alike, the one that rests on nothing
+/// comes first, or else the later one.
 #[derive(Drop)]
 pub(crate) struct NearSearch {
     pub(crate) target: Target,
     pub(crate) near: Vec<Near>,
-    rows: Table,
-    scratch: Combination,
+    /// The derivations that join two branches and still rest on an assumption of theirs.
+    pub(crate) joins: Vec<OpenJoin>,
+    replay: Replay,
 }
 
 /// The constraints of a text that come nearest to its claim.
@@ -132,12 +142,12 @@ impl NearSearch {
             (HasSearched (profile_of subject.entry.profile) problem.now [] 0) }
     {
         let target = Target::of_claim_in(subject.profile, problem)?;
-        match Combination::new(subject.alloc, problem.names().len() as u32) {
-            Ok(scratch) => Ok(NearSearch {
+        match Replay::new(subject.alloc, problem) {
+            Ok(replay) => Ok(NearSearch {
                 target,
                 near: Vec::new(subject.alloc),
-                rows: Table::new(subject.alloc, problem.cons().len() as u32),
-                scratch,
+                joins: Vec::new(subject.alloc),
+                replay,
             }),
             Err(error) => {
                 drop(target);
@@ -191,7 +201,6 @@ impl NearSearch {
                 index as u32,
                 &named.item,
                 &nothing,
-                None,
             )?;
         }
         Ok(())
@@ -199,7 +208,7 @@ impl NearSearch {
 
     // Passes a derivation, whose constraint moves to the table.
     fn pass(&mut self, subject: Subject<'_>, problem: &Problem, step: &mut Derivation) -> Reread<()>
-        requires room { self.old.rows.next + 1 < 2 ^ 32 }
+        requires room { self.old.replay.rows.next + 1 < 2 ^ 32 }
         requires names { NamesBelow (variables problem.now) (at step.old.constraint.row) }
         requires searched { (ds : List DerivationMeant)
             × HasPassedAll (profile_of subject.profile) problem.now ds self.old }
@@ -212,19 +221,24 @@ impl NearSearch {
             → IfErr result (λ m. Because m (IsRefusedNext (profile_of subject.entry.profile)
             (without_solutions problem.now ds) (derivation_of step.old))) }
     {
-        let index = self.rows.next();
-        let crossed = crossed_join(&self.rows, &step.reason);
-        let entry = entry_of(subject, problem, &self.rows, &mut self.scratch, step)?;
+        let index = self.replay.rows.next();
+        let join = join_of(&step.reason);
+        let entry = entry_of(
+            subject,
+            problem,
+            &self.replay.rows,
+            &mut self.replay.scratch,
+            step,
+        )?;
         let added = add(
             &mut self.near,
             &self.target,
             index,
             &entry.constraint,
             &entry.assumptions,
-            crossed,
         );
-        match added {
-            Ok(()) => place(&mut self.rows, entry),
+        match added.and(keep_join(&mut self.joins, index, join, &entry.assumptions)) {
+            Ok(()) => place(&mut self.replay.rows, entry),
             Err(error) => {
                 drop(entry);
                 Err(error.into())
@@ -298,21 +312,40 @@ pub(crate) fn place(rows: &mut Table, entry: Entry) -> Reread<()>
     }
 }
 
-// What a reason joins, if each branch rests on the other one's assumption and not on its own.
-fn crossed_join(rows: &Table, reason: &Reason) -> Option<Join>
-    ensures { result ≡ crossed_in rows.now (reason_of reason.now) }
+// What a reason joins.
+fn join_of(reason: &Reason) -> Option<Join>
+    ensures { result ≡ join_of (reason_of reason.now) }
 {
-    let References::Branches { i1, l1, i2, l2 } = reason.references() else {
-        return None;
-    };
-    let first = &rows.get(i1)?.assumptions;
-    let second = &rows.get(i2)?.assumptions;
-    let is_apart = !first.contains(l1) && !second.contains(l2);
-    if is_apart && first.contains(l2) && second.contains(l1) {
-        Some(Join { i1, l1, i2, l2 })
-    } else {
-        None
+    match reason.references() {
+        References::Branches { i1, l1, i2, l2 } => Some(Join { i1, l1, i2, l2 }),
+        _ => None,
     }
+}
+
+// Keeps a derivation that joins this, if it still rests on an assumption of that.
+fn keep_join(
+    joins: &mut Vec<OpenJoin>,
+    index: u32,
+    join: Option<Join>,
+    assumptions: &Assumptions,
+) -> Result<(), AllocError>
+    ensures { (c : Certificate) → option_and_then join_of (reason_at c index) ≡ join
+        → ((a : ℕ) → IsTrue (contains assumptions.now a) ↔ RestsOn c index a)
+        → All (IsOpenJoin c) joins.old.items → OnOk result (All (IsOpenJoin c) joins.new.items) }
+{
+    if let Some(join) = join {
+        let first = assumptions.contains(join.l1);
+        let second = assumptions.contains(join.l2);
+        if first || second {
+            joins.push(OpenJoin {
+                index,
+                join,
+                first,
+                second,
+            })?;
+        }
+    }
+    Ok(())
 }
 
 // Keeps a constraint, if it is one of the nearest so far.
@@ -322,11 +355,9 @@ fn add(
     index: u32,
     constraint: &Constraint,
     assumptions: &Assumptions,
-    crossed: Option<Join>,
 ) -> Result<(), AllocError>
     ensures { (c : Certificate) → constraint_at c index ≡ condition_of constraint.now
         → ((a : ℕ) → IsTrue (contains assumptions.now a) ↔ RestsOn c index a)
-        → ((j : JoinMeant) → (crossed ≡ Some j) ↔ IsCrossed c index j)
         → AreNearest c target.now index all.old.items
         → OnOk result (AreNearest c target.now (index + 1) all.new.items) }
 {
@@ -339,7 +370,6 @@ fn add(
         gap: gap_of(target, constraint),
         assumptions: assumptions.clone()?,
         is_free: assumptions.is_empty(),
-        crossed,
     };
     insert(all, near)
 }
@@ -439,15 +469,27 @@ fn whole(k: i128) -> Frac
 }
 
 // Whether a constraint comes nearer than another: it is strong enough, or misses the goal by less,
-// or is as near and rests on no assumption.
+// or is as near and rests on no assumption, or else comes later.
 fn is_nearer(near: &Near, other: &Near) -> bool
     ensures { result ≡ comes_before near.now other.now }
 {
-    let is_freer = near.is_free && !other.is_free;
+    let is_freer = rank_of(other) < rank_of(near);
     if near.is_strong {
         !other.is_strong || is_freer
     } else {
         !other.is_strong && misses_less(near.gap, other.gap, is_freer)
+    }
+}
+
+// The rank of a constraint among those that are as near.
+fn rank_of(near: &Near) -> u64
+    ensures { result ≡ rank_of near.now }
+{
+    let index = u64::from(near.index);
+    if near.is_free {
+        index + (1 << 32)
+    } else {
+        index
     }
 }
 

@@ -47,8 +47,8 @@ pub(crate) fn step_indices(
         }
     }
     for change in [changes.multiplier, changes.exchange, changes.addition] {
-        if let Some(change) = change {
-            add_earlier(&mut wanted, fault.index, change.index)?;
+        if let Some(entry) = change.and_then(|change| change.entry()) {
+            add_earlier(&mut wanted, fault.index, entry.1)?;
         }
     }
     Ok(wanted)

@@ -123,9 +123,20 @@ fn write_not_whole(page: &mut Page, known: &RefusedSolution<'_>, index: u32) {
     let value = known.solution.item.0.coefficient(index);
     write!(
         page,
-        "  {name} (variable {index}) is {value} here, and has to be whole (INT)\n  \
-         = help: write whole values, or take the variable out of INT\n"
+        "  {name} (variable {index}) is {value} here, and has to be whole (INT)\n"
     );
+    page.put("  = help: write whole values, or take the variable out of INT");
+    if let Some((nearest, gap)) = nearest_whole(value) {
+        write!(page, ": is {nearest} meant, which is {gap} off?");
+    }
+    page.put("\n");
+}
+
+// The whole number that is nearest, and how far off it is, if that fits.
+fn nearest_whole(value: Frac) -> Option<(Frac, Frac)> {
+    let half = Frac::new(1, 2).ok()?;
+    let nearest = Frac::new(value.add(half).ok()?.floor(), 1).ok()?;
+    Some((nearest, size_of(value.add(nearest.neg()).ok()?)))
 }
 
 // Writes the constraint that is false, and the values at its variables.
@@ -347,8 +358,8 @@ fn keep_first(
     Ok(())
 }
 
-// Whether the lower bound of a claim is above the upper one.
-fn is_exchanged(claim: Claim) -> bool
+/// Whether the lower bound of a claim is above the upper one.
+pub(crate) fn is_exchanged(claim: Claim) -> bool
     ensures { IsTrue result ↔ IsExchanged (claim_of claim) }
 {
     match claim {

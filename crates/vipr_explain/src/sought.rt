@@ -1,9 +1,10 @@
-//! Changes of one entry of a sum that may mend it. Whether one does, the rule decides.
+//! Changes of a sum or a join that may mend it. Whether one does, the rule decides.
 ghost use Rattle.std.specs.Prelude.{◌≡◌, length};
 ghost use Rattle.vipr_spec.specs.Certificate.{variables};
 
 use crate::changes::Change;
 use crate::drops::has_entry;
+use crate::near::{Join, is_turned};
 use crate::text::{Reread, Subject};
 use std::alloc::{AllocError, Global};
 use vipr_cert::{Derivation, Problem, Reason, References};
@@ -24,7 +25,7 @@ const MOST_COEFFICIENTS: usize = 100_000;
 /// How many changes of a kind are tried.
 const MOST_TRIED: usize = 8;
 
-/// A derivation that is a sum, and what is before it.
+/// A derivation, and what is before it.
 #[derive(Clone, Copy)]
 pub(crate) struct Sum<'a> {
     pub(crate) subject: Subject<'a>,
@@ -65,8 +66,13 @@ impl Candidates {
             exchanges: Vec::new(sum.subject.alloc),
             additions: Vec::new(sum.subject.alloc),
         };
-        let References::Entries(entries) = sum.step.reason.references() else {
-            return Ok(found);
+        let entries = match sum.step.reason.references() {
+            References::Entries(entries) => entries,
+            References::Branches { i1, l1, i2, l2 } => {
+                found.exchanges = other_joins(sum, Join { i1, l1, i2, l2 })?;
+                return Ok(found);
+            }
+            References::Nothing => return Ok(found),
         };
         let Some(missing) = missing_of(sum, entries, scratch)? else {
             return Ok(found);
@@ -75,6 +81,7 @@ impl Candidates {
         let replacements = replacements(sum, entries, &missing, scratch)?;
         let (exchanges, additions) = among_all(sum, entries, &missing, replacements.as_slice())?;
         found.exchanges = exchanges;
+        found.exchanges.push(Change::Word)?;
         found.additions = additions;
         Ok(found)
     }
@@ -97,6 +104,75 @@ impl Ranking {
             changes.push(known.1)?;
         }
         Ok(changes)
+    }
+}
+
+// Joins of the same four constraints, and then those with another one in the place of one, the
+// last ones first.
+fn other_joins(sum: Sum<'_>, join: Join) -> Result<Vec<Change>, AllocError> {
+    let mut ranking = Ranking(Vec::new(sum.subject.alloc));
+    let Join { i1, l1, i2, l2 } = join;
+    let named = [i1, l1, i2, l2];
+    for i1 in named {
+        for l1 in named {
+            for i2 in named {
+                for l2 in named {
+                    add_join(&mut ranking, sum, 0, Join { i1, l1, i2, l2 })?;
+                }
+            }
+        }
+    }
+    let own = sum.rows.next();
+    for index in 0..own {
+        let rank = own - index;
+        if has_row_of(sum, index, &sum.step.constraint) {
+            add_join(&mut ranking, sum, rank, Join { i1: index, ..join })?;
+            add_join(&mut ranking, sum, rank, Join { i2: index, ..join })?;
+        }
+        if is_other_side(sum, index, l2) {
+            add_join(&mut ranking, sum, rank, Join { l1: index, ..join })?;
+        }
+        if is_other_side(sum, index, l1) {
+            add_join(&mut ranking, sum, rank, Join { l2: index, ..join })?;
+        }
+    }
+    Ok(ranking.changes(sum.subject.alloc)?)
+}
+
+// Adds a join, if each case rests on its own assumption, and not on that of the other one.
+fn add_join(ranking: &mut Ranking, sum: Sum<'_>, rank: u32, join: Join) -> Result<(), AllocError> {
+    let Join { i1, l1, i2, l2 } = join;
+    let is_own = rests_on(sum, i1, l1) && rests_on(sum, i2, l2);
+    if is_own && !rests_on(sum, i1, l2) && !rests_on(sum, i2, l1) {
+        ranking.add(u64::from(rank), Change::Join(join))?;
+    }
+    Ok(())
+}
+
+// Whether a constraint rests on an assumption.
+fn rests_on(sum: Sum<'_>, index: u32, assumption: u32) -> bool {
+    match sum.rows.get(index) {
+        Some(entry) => entry.assumptions.contains(assumption),
+        None => false,
+    }
+}
+
+// Whether a constraint has the row of another one.
+fn has_row_of(sum: Sum<'_>, index: u32, other: &Constraint) -> bool {
+    match sum.rows.get(index) {
+        Some(entry) => entry.constraint.row.is_same(&other.row),
+        None => false,
+    }
+}
+
+// Whether two constraints bound a row from both sides.
+fn is_other_side(sum: Sum<'_>, index: u32, other: u32) -> bool {
+    match (sum.rows.get(index), sum.rows.get(other)) {
+        (Some(entry), Some(other)) => {
+            is_turned(entry.constraint.sense, other.constraint.sense)
+                && has_row_of(sum, index, &other.constraint)
+        }
+        _ => false,
     }
 }
 
@@ -173,11 +249,7 @@ fn other_multipliers(
             if let Some((factor, off)) = factor_for(constraint, missing) {
                 if let (Some(rank), Ok(multiplier)) = (rank_of(sum, off), present.add(factor)) {
                     let is_turned = multiplier == present.neg();
-                    let change = Change {
-                        position,
-                        index,
-                        multiplier,
-                    };
+                    let change = Change::Entry(position, index, multiplier);
                     ranking.add(if is_turned { 0 } else { rank }, change)?;
                 }
             }
@@ -257,11 +329,7 @@ fn among_all(
             }
             if let Some((multiplier, off)) = factor_for(constraint, missing) {
                 if let (Some(rank), false) = (rank_of(sum, off), has_entry(entries, index)) {
-                    let change = Change {
-                        position: entries.len(),
-                        index,
-                        multiplier,
-                    };
+                    let change = Change::Entry(entries.len(), index, multiplier);
                     additions.add(rank, change)?;
                 }
             }
@@ -291,11 +359,7 @@ fn add_exchange(
     };
     if let Some(rank) = rank_of(sum, off) {
         let distance = u64::from(index.abs_diff(replacement.index));
-        let change = Change {
-            position: replacement.position,
-            index,
-            multiplier,
-        };
+        let change = Change::Entry(replacement.position, index, multiplier);
         exchanges.add(rank.saturating_add(distance), change)?;
     }
     Ok(())

@@ -6,7 +6,7 @@ ghost use Rattle.vipr_rules.specs.Profile.{profile_of};
 ghost use Rattle.vipr_scan.specs.declared.error.TextError.TheVariants.{Memory};
 ghost use Rattle.vipr_explain.specs.Changes.{AreChanges};
 ghost use Rattle.vipr_explain.specs.Found.{AreFoundItems, Because, Missed, head_read, text_rest};
-ghost use Rattle.vipr_explain.specs.Refused.{AreFacts, AreNamedBy, IsRefusedStep, IsRepair};
+ghost use Rattle.vipr_explain.specs.Refused.{AreFacts, AreNamedBy, IsRefusedStep};
 ghost use Rattle.vipr_explain.specs.Refused.{LacksStep};
 
 use crate::changes::Changes;
@@ -20,10 +20,11 @@ use crate::solution::PAST_LIMIT;
 use crate::text::{Reread, Subject};
 use vipr_cert::{Problem, Reason, References};
 use vipr_check::{StepDetail, cause};
-use vipr_linear::{Constraint, Ints, Sense, covers};
+use vipr_frac::Frac;
+use vipr_linear::{Constraint, covers};
 use vipr_page::{
-    Algebra, Difference, Page, RowFault, ShownName, rounded, row_differences, row_faults, sign_of,
-    write_differences, write_faults,
+    Algebra, Difference, Page, RowFault, ShownName, VariableName, row_differences, row_faults,
+    sign_of, write_differences, write_faults,
 };
 use vipr_rules::Profile;
 use vipr_scan::TextError;
@@ -48,7 +49,7 @@ pub(crate) struct RefusedStep<'a> {
     known: PlacedItems,
     place: Option<KnownPlace<'a>>,
     facts: StepFacts<'a>,
-    /// Changes with which its sum follows.
+    /// Changes with which it follows.
     changes: Changes,
     profile: Profile,
 }
@@ -56,8 +57,7 @@ pub(crate) struct RefusedStep<'a> {
 /// What is behind the fault of a derivation.
 #[derive(Drop)]
 enum StepFacts<'a> {
-    /// And the right-hand side by `rnd`, if that is enough.
-    Rows(Vec<Difference>, Option<i128>),
+    Rows(Vec<Difference>),
     /// What keeps a sum from being whole.
     Sum(Vec<RowFault>),
     /// What keeps the row of two assumptions from being whole, and whether they are a split by the
@@ -114,12 +114,10 @@ impl<'a> RefusedStep<'a> {
             place.write(page, file, "this derivation");
         }
         let problem = &self.known.items.problem;
-        write_labelled(page, problem, "  it states    ", &own.constraint);
-        write_reason(page, &self.known, fault, &own.reason);
-        write_facts(page, self, &own.reason, fault.what);
+        write_facts(page, self, &own.reason, fault);
         self.changes.write(page, &self.known.items, &own.reason);
-        let count = problem.cons().len();
-        if fault.cause == cause::NOT_EARLIER && count > 0 {
+        if fault.cause == cause::NOT_EARLIER {
+            let count = problem.cons().len();
             write!(
                 page,
                 "  = help: constraints count from 0: the problem has {count}, so the first \
@@ -131,19 +129,25 @@ impl<'a> RefusedStep<'a> {
         if let StepFacts::Dropped(dropped) = &self.facts {
             dropped.write(page, file);
         }
+        if !matches!(fault.what, StepDetail::Rows { .. }) {
+            write_labelled(page, problem, "  it states    ", &own.constraint);
+        }
+        write_reason(page, &self.known, fault, &own.reason);
     }
 }
 
-// Changes with which a sum follows, if it is one that might.
+// Changes with which a derivation follows, if it is one that might.
 fn changes_for(subject: Subject<'_>, fault: StepFault<'_>) -> Reread<Changes>
     ensures found { IfOk result (AreChanges (profile_of subject.entry.profile)
         subject.entry.text.now fault.entry.index) }
     ensures missing { IfErr result (λ m. m ≡ Memory) }
 {
     match fault.cause {
-        cause::MIXED_SIGNS | cause::NOT_ROUNDABLE | cause::NOT_DOMINATED => {
-            Changes::find(subject, fault.index)
-        }
+        cause::NOT_ASSUMPTION
+        | cause::MIXED_SIGNS
+        | cause::NOT_ROUNDABLE
+        | cause::NOT_SPLIT
+        | cause::NOT_DOMINATED => Changes::find(subject, fault.index),
         _ => Ok(Changes::none()),
     }
 }
@@ -193,8 +197,7 @@ impl<'a> StepFacts<'a> {
         match fault.what {
             StepDetail::Rows { computed, stated } => {
                 let differences = row_differences(alloc, &computed.row, &stated.row)?;
-                let side = rounding_of(ints, reason, computed, stated);
-                Ok(StepFacts::Rows(differences, side))
+                Ok(StepFacts::Rows(differences))
             }
             StepDetail::Sum(sum) => {
                 let faults = row_faults(alloc, ints, &sum.row)?;
@@ -213,29 +216,9 @@ impl<'a> StepFacts<'a> {
     }
 }
 
-// The right-hand side that `rnd` gives in place of `lin`, if that is enough.
-fn rounding_of(
-    ints: &Ints,
-    reason: &Reason,
-    computed: &Constraint,
-    stated: &Constraint,
-) -> Option<i128>
-    ensures { IsRepair ints.now reason.now computed.now stated.now result }
-{
-    match reason {
-        Reason::Lin(_) => rounded(ints, computed, stated),
-        _ => None,
-    }
-}
-
-// Whether the coefficients of a sum are the stated ones with the other sign, and so is its sense.
-fn is_turned(computed: &Constraint, stated: &Constraint, differences: &[Difference]) -> bool {
-    let is_other_way = matches!(
-        (computed.sense, stated.sense),
-        (Sense::G, Sense::L) | (Sense::L, Sense::G) | (Sense::E, Sense::E)
-    );
-    is_other_way
-        && !differences.is_empty()
+// Whether the coefficients of a sum are the stated ones with the other sign.
+fn is_turned(stated: &Constraint, differences: &[Difference]) -> bool {
+    !differences.is_empty()
         && differences.len() == stated.row.entries().len()
         && are_opposite(differences)
 }
@@ -263,11 +246,11 @@ fn words_of(cause: u8) -> (&'static str, &'static str) {
 }
 
 // Writes what is behind the fault.
-fn write_facts(page: &mut Page, refused: &RefusedStep<'_>, reason: &Reason, what: &StepDetail) {
+fn write_facts(page: &mut Page, refused: &RefusedStep<'_>, reason: &Reason, fault: StepFault<'_>) {
     let items = &refused.known.items;
     let problem = &items.problem;
-    match (what, &refused.facts) {
-        (StepDetail::Rows { computed, stated }, StepFacts::Rows(differences, side)) => {
+    match (fault.what, &refused.facts) {
+        (StepDetail::Rows { computed, stated }, StepFacts::Rows(differences)) => {
             write_labelled(page, problem, "    computed   ", computed);
             write_labelled(page, problem, "    stated     ", stated);
             write_differences(page, problem, computed, stated, differences);
@@ -276,24 +259,19 @@ fn write_facts(page: &mut Page, refused: &RefusedStep<'_>, reason: &Reason, what
                     write_sources(page, items, entries, difference.variable);
                 }
             }
-            if let Some(side) = side {
-                write!(
-                    page,
-                    "  = help: `rnd` in place of `lin` rounds the right-hand side to {side}\n"
-                );
-            }
             page.put(match reason.references() {
-                _ if side.is_some() || !refused.changes.is_empty() => "",
+                References::Entries(entries)
+                    if entries.len() > 1 && is_turned(stated, differences) => {
+                    "  = help: each coefficient has the other sign: has each multiplier the wrong \
+                     one?\n"
+                }
+                _ if !refused.changes.is_empty() => "",
                 References::Nothing => {
                     "  = help: is what was computed meant? `sol` gives the best listed value, and \
                      nothing better\n"
                 }
                 References::Branches { .. } => {
                     "  = help: is what was computed meant, or another constraint as the case?\n"
-                }
-                References::Entries(_) if is_turned(computed, stated, differences) => {
-                    "  = help: each coefficient has the other sign: has each multiplier the wrong \
-                     one?\n"
                 }
                 References::Entries(_) => {
                     "  = help: is what was computed meant, or another multiplier, another \
@@ -304,14 +282,14 @@ fn write_facts(page: &mut Page, refused: &RefusedStep<'_>, reason: &Reason, what
         (StepDetail::Sum(sum), StepFacts::Sum(faults)) => {
             write_labelled(page, problem, "    sum        ", sum);
             write_faults(page, problem, faults);
-            page.put(
-                "  = help: `lin` in place of `rnd` proves this sum as it is; a sum is rounded if \
-                 all coefficients are whole, and all its variables are integer ones\n",
-            );
+            if refused.changes.is_empty() {
+                page.put(
+                    "  = help: a sum is rounded if all coefficients are whole, and all its \
+                     variables are integer ones\n",
+                );
+            }
         }
         (StepDetail::Pair(first, second), StepFacts::Pair(faults, is_split)) => {
-            write_labelled(page, problem, "    first      ", first);
-            write_labelled(page, problem, "    second     ", second);
             if first.row.entries() != second.row.entries() {
                 page.put(
                     "    they are about different rows: a split is of one row, at most k and at \
@@ -323,7 +301,34 @@ fn write_facts(page: &mut Page, refused: &RefusedStep<'_>, reason: &Reason, what
                 write_faults(page, problem, faults);
             }
         }
+        (StepDetail::Entry(position), _) if fault.cause == cause::OVERFLOW => {
+            if let References::Entries(entries) = reason.references() {
+                if let Some(entry) = entries.get(*position as usize) {
+                    write_overflow(page, items, entry.0, entry.1);
+                }
+            }
+        }
         _ => {}
+    }
+}
+
+// Writes what is past the limit if a multiple of a constraint is added.
+fn write_overflow(page: &mut Page, items: &Items, index: u32, multiplier: Frac) {
+    if let Some(constraint) = items.constraint(index) {
+        for term in constraint.row.entries() {
+            let (name, coefficient) = (VariableName(&items.problem, term.0), term.1);
+            if multiplier.mul(coefficient).is_err() {
+                write!(
+                    page,
+                    "    {multiplier} x {coefficient} at {name} has more than 127 bits\n"
+                );
+                return;
+            }
+        }
+        write!(
+            page,
+            "    {multiplier} x [{index}] makes a number of more than 127 bits\n"
+        );
     }
 }
 
@@ -358,10 +363,6 @@ fn write_labelled(page: &mut Page, problem: &Problem, label: &str, constraint: &
 // What is likely to be wrong, by the cause.
 fn help_for(cause: u8) -> &'static str {
     match cause {
-        cause::NOT_EARLIER => {
-            "  = help: constraints count from 0: the problem has none, so the first derivation is \
-             0; is this line in front of one that it needs?\n"
-        }
         cause::NOT_ASSUMPTION => {
             "  = help: `uns i1 l1 i2 l2` names what follows first, and behind it its assumption, a \
              derivation by `asm`\n"

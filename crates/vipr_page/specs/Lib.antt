@@ -2,5 +2,4 @@ pub mod Page
 pub mod Algebra
 pub mod Differences
 pub mod RowFaults
-pub mod Repairs
 pub mod Decimals

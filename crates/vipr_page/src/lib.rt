@@ -7,7 +7,6 @@ mod decimal;
 mod differences;
 mod faults;
 mod page;
-mod repair;
 mod stranger;
 
 pub use algebra::{Algebra, ShownName, VariableName, sign_of, size_of};
@@ -15,5 +14,4 @@ pub use decimal::fraction_of;
 pub use differences::{Difference, row_differences, write_differences};
 pub use faults::{RowFault, row_faults, write_faults};
 pub use page::{Page, with_page};
-pub use repair::rounded;
 pub use stranger::StrangeBytes;

@@ -10,13 +10,13 @@ use Rattle.vipr_explain.proofs.Nearing.{free_is, nearest_like, nearest_unlike}
 use Rattle.vipr_explain.proofs.near.add.Goals as goal
 
 pub returns-then-not-is_like : goal.returns-then-not-is_like
-returns-then-not-is_like c = λ d says rests crossed near.
+returns-then-not-is_like c = λ d says rests near.
     let t = c.args.target.now in
     nearest_unlike d t c.args.index c.args.all.now.items
     (λ like. let h = c.is_like.ensures.1 (subst (IsLike t) says like) in let f = c.if-not-is_like.true in absurd (cc (h, f))) near
 
 pub returns : goal.returns
-returns c = λ d says rests crossed near.
+returns c = λ d says rests near.
     let t = c.args.target.now in
     let n : Near = record {
       index = c.args.index;
@@ -24,7 +24,6 @@ returns c = λ d says rests crossed near.
       gap = c.gap_of.result;
       assumptions = c.in_ok-clone.field-0;
       is_free = c.is_empty.result;
-      crossed = c.args.crossed;
     } in
     on_ok c.insert.result _ (AreNearest d t (c.args.index + 1) c.insert.new.all.items)
     (λ e. subst (AreNearest d t (c.args.index + 1)) (sym e) (nearest_like d t n c.args.all.now.items (record {
@@ -33,5 +32,4 @@ returns c = λ d says rests crossed near.
       gap = subst (λ x. MissesBy t x c.gap_of.result) (sym says) c.gap_of.ensures;
       rests = λ a. subst (λ s. IsTrue (contains s a) ↔ RestsOn d c.args.index a) (sym c.in_ok-clone.ensures.cases) (rests a);
       free = free_is d c.args.index c.args.assumptions.now c.is_empty.result c.is_empty.ensures rests;
-      crossed = crossed;
     }) near)) c.insert.ensures

@@ -1,6 +1,6 @@
 use Rattle.vipr_cert.specs.Items.{derivation_of}
 use Rattle.vipr_explain.proofs.Again.{on_ok}
-use Rattle.vipr_explain.proofs.Replaying.{replayed_next}
+use Rattle.vipr_explain.proofs.Nearing.{replayed_next}
 use Rattle.vipr_explain.proofs.changes.Replay.pass.Goals as goal
 
 pub returns : goal.returns

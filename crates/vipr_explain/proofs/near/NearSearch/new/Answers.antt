@@ -1,26 +1,18 @@
-use Rattle.std.proofs.Common.{[], length, ap, ◌∙◌, refl, sym, subst}
-use Rattle.std.proofs.lemmas.List.{length-replicate, length-map}
-use Rattle.vipr_spec.specs.Fraction.{zero_ℚ}
-use Rattle.vipr_spec.specs.Certificate.{variables}
-use Rattle.vipr_linear.specs.Constraint.{constraint_of}
-use Rattle.vipr_cert.specs.Items.{named_of}
-use Rattle.vipr_table.specs.History.{IsTableOf}
-use Rattle.vipr_table.specs.Table.{DerivedBelow, empty_table}
-use Rattle.vipr_table.proofs.Laws.{DerivedBelow-empty, IsTableOf-empty}
-use Rattle.vipr_explain.specs.Near.{of_none, without_solutions}
-use Rattle.vipr_explain.proofs.Nearing.{back_start}
+use Rattle.std.proofs.Common.{List, [], sym, subst}
+use Rattle.std.specs.Prelude.{All}
+use Rattle.std.proofs.lemmas.List.Elements.{All-nil}
+use Rattle.vipr_spec.specs.Certificate.{Certificate}
+use Rattle.vipr_spec.specs.Steps.{with_more}
+use Rattle.vipr_explain.specs.Near.{IsOpenJoin, of_none, without_solutions}
+use Rattle.vipr_explain.specs.declared.near.OpenJoin.{OpenJoin}
 use Rattle.vipr_explain.proofs.near.NearSearch.new.Goals as goal
 
 pub returns-in-Ok : goal.returns-in-Ok
-returns-in-Ok c =
-    let p = c.args.problem.now in
-    let n = variables p in
-    let rows = c.new-in-Ok-2.ensures ∙ ap empty_table (sym (length-map c.cons.result.now (named_of constraint_of)) ∙ ap length c.cons.ensures.constraints) in
-    record {
-      target = c.in_ok-target.ensures;
-      rows = subst (IsTableOf (without_solutions p [])) (sym rows) (IsTableOf-empty (without_solutions p []) refl);
-      back = back_start p;
-      below = subst (DerivedBelow n) (sym rows) (DerivedBelow-empty n _);
-      scratch = ap (λ a. length a.sums) c.in-Ok.ensures ∙ length-replicate (length c.names.result.now) zero_ℚ ∙ ap length c.names.ensures.names;
-      near = λ more. ([], of_none, c.new-in-Ok.ensures.items);
-    }
+returns-in-Ok c = record {
+  target = c.in_ok-target.ensures;
+  replayed = c.in-Ok.ensures;
+  near = λ more. ([], of_none, c.new-in-Ok.ensures.items);
+  joins = λ more.
+      let all : Certificate = with_more (without_solutions c.args.problem.now []) more in
+      subst (λ (js : List OpenJoin). All (IsOpenJoin all) js) (sym c.new-in-Ok-2.ensures.items) (All-nil (IsOpenJoin all));
+}

@@ -40,7 +40,7 @@ loop-passed-preserved c =
 pub pass-kept-requires-clause-room : goal.pass-kept-requires-clause-room
 pass-kept-requires-clause-room c =
     let so_far = c.loop-passed.invariant.so_far in
-    omega (arith, c.requires.room, so_far.known.rows.next, so_far.size, so_far.behind.knows.constraints, c.requires.behind.knows.constraints)
+    omega (arith, c.requires.room, so_far.known.replayed.rows.next, so_far.size, so_far.behind.knows.constraints, c.requires.behind.knows.constraints)
 
 pub pass-kept-requires-clause-names : goal.pass-kept-requires-clause-names
 pass-kept-requires-clause-names c =

@@ -7,7 +7,6 @@ use Rattle.vipr_linear.specs.Constraint.{constraint_of}
 use Rattle.vipr_cert.specs.Items.{named_of}
 use Rattle.vipr_rules.specs.Profile.{profile_of}
 use Rattle.vipr_explain.specs.Near.{HasSearched, without_solutions}
-use Rattle.vipr_explain.proofs.Crossing.{crossed_given}
 use Rattle.vipr_explain.proofs.Nearing.{given_near, rests_on_none}
 use Rattle.vipr_explain.proofs.near.NearSearch.pass_problem.Goals as goal
 
@@ -20,14 +19,11 @@ loop-index-preserved c =
     let size : length given ≡ length p.constraints = sym (length-map given (named_of constraint_of)) ∙ ap length c.cons-given.ensures.constraints in
     record {
       target = so_far.target;
-      rows = so_far.rows;
-      back = so_far.back;
-      below = so_far.below;
-      scratch = so_far.scratch;
+      replayed = so_far.replayed;
       near = λ more. c.in_ok-add.ensures (without_solutions p more) (given_near p more given c.cons-given.ensures.constraints i c.index-given-index.result (omega arith) c.index-given-index.is)
           (λ a. subst (λ e. IsTrue (contains e a) ↔ RestsOn (without_solutions p more) i a) (sym c.empty-nothing.ensures) (rests_on_none (without_solutions p more) i a (omega arith)))
-          (crossed_given (without_solutions p more) i (omega arith))
           (so_far.near more);
+      joins = so_far.joins;
     }
 
 pub returns : goal.returns
