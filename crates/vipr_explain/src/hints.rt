@@ -4,9 +4,9 @@
 use crate::syntax::TextFault;
 use crate::token::Look::*;
 use crate::token::{Look, keyword_of};
+use crate::wanted::Section;
 use crate::wanted::Section::*;
 use crate::wanted::Wanted::*;
-use crate::wanted::{Section, TextProgress};
 use vipr_check::cause::*;
 use vipr_frac::Frac;
 use vipr_page::Page;
@@ -59,8 +59,11 @@ pub(crate) fn write_hint(page: &mut Page, cause: u8, fault: &TextFault<'_>) {
                 ),
                 None => page.put("the text has no variables (VAR 0)"),
             }
+            if let RowIndex = progress.wanted {
+                page.put("; are the pairs INDEX COEFFICIENT?");
+            }
             if let Objective = progress.section {
-                page.put("; is this a constant? An objective has none");
+                page.put(" Or is this a constant? An objective has none");
             }
         }
         (BAD_NUMBER, _, Decimal(fraction)) => {
@@ -78,7 +81,10 @@ fn hint(cause: u8, fault: &TextFault<'_>, look: Look) -> &'static str {
         (WRONG_KEYWORD, _, Section::Version, word) => start_hint(word),
         (WRONG_KEYWORD, _, section, word) => match (section, word) {
             (_, [b'%' | b'#', ..]) => "remove the comment: comments may only be before `VER`",
-            (Integers, _) => "is the count behind `VAR` right, or is a space in a name?",
+            (Integers, _) => {
+                "is the count behind `VAR` right, or is a space in a name? Names alone are behind \
+                 it, and no types or bounds"
+            }
             (Objective, _) => "is the count behind `INT` too small?",
             (Constraints, _) => "is the count behind `min` or `max` too small or missing?",
             (Section::Claim, _) => {
@@ -110,8 +116,8 @@ fn hint(cause: u8, fault: &TextFault<'_>, look: Look) -> &'static str {
             "counts, and constraints and derivations together, may be 4294967295 at most"
         }
         (REPEATED_INDEX, ..) => {
-            "a variable may be in a vector once: a vector is a count, and then pairs INDEX VALUE, \
-             and not a list of all values"
+            "a variable may be in a vector once: are its coefficients to be added up? Or is this \
+             a list of all values, and not pairs INDEX VALUE behind their count?"
         }
         (BAD_OBJECTIVE_SENSE, ..) => "write `min` or `max` behind `OBJ`",
         (BAD_CLAIM, ..) => "write `infeas`, or `range` and two bounds, behind `RTP`",
@@ -198,7 +204,7 @@ fn part_hint(cause: u8, fault: &TextFault<'_>, look: Look) -> &'static str {
             "`CON` takes two counts: the constraints, and how many of them are bounds \
              (write 0 if you don't know)"
         }
-        (_, Count | RowCount) if matches!(section, Solutions) => {
+        (_, RowCount) if matches!(section, Solutions) => {
             "a solution is NAME COUNT INDEX VALUE ..: is the name missing, or a space in it?"
         }
         (_, RowCount) => {
@@ -206,9 +212,11 @@ fn part_hint(cause: u8, fault: &TextFault<'_>, look: Look) -> &'static str {
              the right-hand side is before it"
         }
         (_, EntryCount) => "`lin` and `rnd` take COUNT INDEX MULTIPLIER ..",
-        (_, Count) => "a count is digits alone",
+        (_, Count) => "a count is digits alone: is it missing behind the keyword?",
         (_, IntegerIndex) => "`INT` lists variables by their indices, from 0, and not by names",
-        (Number | Fraction, RowIndex) => "an index is digits alone, and indices count from 0",
+        (Number | Fraction | Decimal(_), RowIndex) => {
+            "an index is digits alone, and indices count from 0: are the pairs INDEX COEFFICIENT?"
+        }
         (_, RowIndex) => {
             "a variable is named by its index, from 0: is a name in its place, is a pair missing, \
              or is the count of pairs in front of it too large?"
@@ -254,7 +262,7 @@ fn part_hint(cause: u8, fault: &TextFault<'_>, look: Look) -> &'static str {
              is the number of entries right?"
         }
         _ if word.ends_with(b"}") => "put a space before the brace",
-        _ if cause == BAD_NUMBER => number_hint(&fault.found.progress, look),
+        _ if cause == BAD_NUMBER => number_hint(fault, look),
         _ => "see the table of causes in docs/FORMAT.md",
     }
 }
@@ -272,7 +280,8 @@ fn sense_hint(name: &[u8], look: Look, word: &[u8]) -> &'static str {
             "the name has a byte that is not ASCII: is it a space of a word processor?"
         }
         _ if Frac::parse(name).is_ok() => {
-            "a number was read as the name: is the count of coefficients in front of it too small?"
+            "a number was read as the name: is the count of coefficients in front of it too \
+             small, or a right-hand side missing?"
         }
         (_, _, [.., b'"']) => "a name has no spaces, not even in quotes",
         _ if is_any(name, b"G L E") => {
@@ -280,7 +289,7 @@ fn sense_hint(name: &[u8], look: Look, word: &[u8]) -> &'static str {
              COEFFICIENT .."
         }
         (_, Number | Fraction, _) => {
-            "sense and right-hand side are before the coefficients: \
+            "a sense is a letter, and sense and right-hand side are before the coefficients: \
              NAME SENSE RIGHT-HAND-SIDE COUNT INDEX COEFFICIENT .."
         }
         _ => {
@@ -291,29 +300,45 @@ fn sense_hint(name: &[u8], look: Look, word: &[u8]) -> &'static str {
 }
 
 // The token is no number.
-fn number_hint(progress: &TextProgress, look: Look) -> &'static str {
-    match (progress.section, look) {
-        (Section::Claim, Infinity) if matches!(progress.wanted, LowerBound) => {
+fn number_hint(fault: &TextFault<'_>, look: Look) -> &'static str {
+    let progress = fault.found.progress;
+    let has_mark = fault
+        .word
+        .iter()
+        .any(|byte| matches!(*byte, b'%'..=b'*' | b'[' | b']'));
+    match (progress.section, progress.wanted, look) {
+        (Section::Claim, LowerBound, Infinity) => {
             "for no lower bound write `-inf`; if the problem is infeasible write `RTP infeas`"
         }
-        (Section::Claim, Infinity) => {
+        (Section::Claim, _, Infinity) => {
             "for no bound write `-inf` first and `inf` second, in small letters"
         }
-        (_, Infinity) => "infinite values may only be bounds of the claim",
-        (Section::Claim, Exponent) => {
+        (Constraints, RightHandSide, Infinity | Exponent) => {
+            "write all digits, or a fraction; an infinite bound is no constraint: leave it out, \
+             and make the counts behind `CON` smaller"
+        }
+        (_, _, Infinity) => "infinite values may only be bounds of the claim",
+        (Section::Claim, _, Exponent) => {
             "exponents are not in the format: write all digits, or `-inf` first and `inf` second \
              for no bound"
         }
-        (Constraints, Exponent) if matches!(progress.wanted, RightHandSide) => {
-            "exponents are not in the format: write all digits, or a fraction; an infinite bound \
-             is no constraint: leave it out"
-        }
-        (_, Exponent) => {
+        (_, _, Exponent) => {
             "exponents are not in the format: write all digits, or a fraction, as 1/1000"
         }
-        (_, Comma) => "a comma is not in the format: write digits alone, or a fraction, as 13/4",
-        (_, Fraction) => "a fraction is digits, `/` and digits, and its sign is in front, as -5/2",
-        (Section::Claim, _) => {
+        (_, _, Comma) => "a comma is not in the format: write digits alone, or a fraction, as 13/4",
+        (_, _, Fraction) => FRACTION,
+        _ if fault.word.starts_with(b"Fraction(") => FRACTION,
+        _ if is_any(fault.word, b"nan NaN None null") => {
+            "is there no value? Then leave the entry or the constraint out"
+        }
+        (_, _, Number) if is_decimal(fault.word) => {
+            "decimals are not in the format: write a fraction, as 13/4"
+        }
+        _ if has_mark || matches!(look, Number) => {
+            "a number is digits with or without a sign, or a fraction, as -3 or 13/4, and nothing \
+             else is in its token"
+        }
+        (Section::Claim, ..) => {
             "a number is digits with or without a sign, or a fraction, as -3 or 13/4"
         }
         _ => {
@@ -322,6 +347,18 @@ fn number_hint(progress: &TextProgress, look: Look) -> &'static str {
         }
     }
 }
+
+// Whether bytes are digits with a point.
+fn is_decimal(word: &[u8]) -> bool {
+    let ([b'+' | b'-', number @ ..] | number) = word;
+    number.len() > 2
+        && number.split(|byte| *byte == b'.').count() == 2
+        && number
+            .iter()
+            .all(|byte| matches!(*byte, b'0'..=b'9' | b'.'))
+}
+
+const FRACTION: &str = "a fraction is digits, `/` and digits, and its sign is in front, as -5/2";
 
 const LAST_REFERENCE: &str = "write the last reference behind `}`: the last derivation that names \
     this one, or -1 to keep it";
