@@ -136,7 +136,8 @@ class Facts:
 
     def read_tokens(self):
         """Walks the tokens up to the one at a fault of the text: `role` and `token` are what is wanted there, and it."""
-        self.names, self.lasts, self.counts = {}, {}, {}
+        self.names, self.lasts, self.counts, self.claims, self.tokens = {}, {}, {}, {}, {}
+        refused = self.number() if self.refused is not None and self.place.startswith('DER') else -1
         self.token = self.name = NOTHING
         end = int(self.place.split()[1]) if self.is_text_fault() else len(self.text) + 1
         walk = roles()
@@ -151,6 +152,10 @@ class Facts:
                 break
             item = role.item if role.section != 'DER' or role.item is None else given + role.item
             kind = 'SOL' if role.section == 'SOL' else 'CON'
+            if role.section == 'RTP':
+                self.claims[role.wanted] = self.token
+            if role.section == 'DER' and item == refused:
+                self.tokens[role.wanted, role.part] = self.token
             if role.wanted == 'name':
                 self.name = self.token
                 if role.section != 'VAR':
@@ -203,10 +208,9 @@ class Facts:
     def parts(self, own):
         return [(index, Fraction(multiplier)) for index, multiplier in own.entries] or list(own.indices)
 
-    def accepts(self, parts):
-        """Whether the derivation that is refused follows with these entries."""
-        own = self.own()
-        return self.checker.accepts(self.number(), self.plain(self.number()), own.reason, parts)
+    def accepts(self, parts, word=None):
+        """Whether the derivation that is refused follows with these entries, or with this word in place of the one of its reason."""
+        return self.checker.accepts(self.number(), self.plain(self.number()), word or self.own().reason, parts)
 
     def rest(self, index):
         """The assumptions that a constraint rests on, ascending."""
@@ -268,6 +272,8 @@ class Facts:
         return self.near
 
     def find_nearest(self):
+        """Those that are strong enough first, then those that miss it by less, then those that rest on no assumption; of two alike
+        the later one."""
         goal = self.checker.goal
         is_like = rules.is_absurd if self.checker.bounds is None else lambda it: it[0] == goal[0]
         found = []
@@ -275,8 +281,8 @@ class Facts:
             if is_like(it):
                 gap = self.gap(index)
                 how_near = (0,) if self.checker.meets(it) else (1, gap is None, gap or 0)
-                found.append((how_near, bool(self.checker.sets[index]), index))
-        return [index for _, _, index in sorted(found)[:MOST_NEAR]]
+                found.append((how_near, bool(self.checker.sets[index]), -index))
+        return [-index for _, _, index in sorted(found)[:MOST_NEAR]]
 
     def objective(self, number):
         return rules.value_at(self.checker.objective, {it: Fraction(value) for it, value in self.solutions[number].values.items()})

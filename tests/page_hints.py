@@ -137,6 +137,22 @@ HINTS = {
     'an index is digits alone, and indices count from 0': both(role_is('row index'), NUMBERLIKE),
     'a variable is named by its index, from 0: is a name in its place, is a pair missing, or is the count of pairs in front of it too '
     'large?': role_is('row index'),
+    'is the count behind `VAR` right, or is a space in a name? Names alone are behind it, and no types or bounds':
+        role_is('keyword', section='INT'),
+    'a variable may be in a vector once: are its coefficients to be added up? Or is this a list of all values, and not pairs INDEX VALUE '
+    'behind their count?': cause_is(10),
+    'a count is digits alone: is it missing behind the keyword?': role_is('count'),
+    'an index is digits alone, and indices count from 0: are the pairs INDEX COEFFICIENT?': both(role_is('row index'), NUMBERLIKE),
+    'a number was read as the name: is the count of coefficients in front of it too small, or a right-hand side missing?':
+        lambda facts: name_is_number(facts.name.bytes),
+    'a sense is a letter, and sense and right-hand side are before the coefficients: NAME SENSE RIGHT-HAND-SIDE COUNT INDEX COEFFICIENT ..':
+        both(role_is('sense'), NUMBERLIKE),
+    'write all digits, or a fraction; an infinite bound is no constraint: leave it out, and make the counts behind `CON` smaller':
+        both(role_is('right-hand side', section='CON'), token_is('[-+]?((?i:inf|infinity|infty)|[0-9.]*[eE][-+]?[0-9]+)')),
+    'is there no value? Then leave the entry or the constraint out': token_is('nan|NaN|None|null'),
+    'decimals are not in the format: write a fraction, as 13/4': token_is('[-+]?[0-9]*[.][0-9]*'),
+    'a number is digits with or without a sign, or a fraction, as -3 or 13/4, and nothing else is in its token': number_wanted,
+    'a sum is rounded if all coefficients are whole, and all its variables are integer ones': cause_is(36),
     # senses
     **{f'write `{letter}` for `{sign}`': both(role_is('sense'), token_is(words)) for letter, sign, words in (
         ('G', '>=', '>=|=>|>|g|ge|GE'), ('L', '<=', '<=|=<|<|l|le|LE'), ('E', '=', '=|==|e|eq|EQ'))},
@@ -178,7 +194,7 @@ HINTS = {
         both(role_is('right-hand side'), token_is('[-+]?[0-9.]*[eE][-+]?[0-9]+')),
     'exponents are not in the format: write all digits, or a fraction, as 1/1000': token_is('[-+]?[0-9.]*[eE][-+]?[0-9]+'),
     'a comma is not in the format: write digits alone, or a fraction, as 13/4': token_is('.*,.*'),
-    'a fraction is digits, `/` and digits, and its sign is in front, as -5/2': token_is('.*/.*'),
+    'a fraction is digits, `/` and digits, and its sign is in front, as -5/2': token_is(r'.*/.*|Fraction\(.*'),
     'a number is digits with or without a sign, or a fraction, as -3 or 13/4': number_wanted,
     'a number is digits with or without a sign, or a fraction, as -3 or 13/4; is the count before it right?': number_wanted,
     # solutions

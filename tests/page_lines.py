@@ -107,9 +107,11 @@ def excerpt(page, line, text: str):
 def carets(page, margin: str, front: str, marks: str, label: str):
     facts = page.facts
     same('the margin', len(margin), len(str(page.line)))
-    token = labelled(page, label)
-    same(f'the place of {label!r}', page.place, token.at)
+    page.said[f'label {label.split()[0]}'] += 1
+    tokens = labelled(page, label)
+    true(page.place in [it.at for it in tokens], f'the place of {label!r} is another one')
     true(page.excerpt is not None, 'no excerpt is in front of this')
+    token = next(it for it in tokens if it.at == page.place)
     # where the part of the line that is shown begins follows from the column of the carets
     begin = facts.text.rfind(b'\n', 0, token.at) + 1
     end = re.compile(rb'[\r\n]|$').search(facts.text, token.at).start()
@@ -129,25 +131,58 @@ def carets(page, margin: str, front: str, marks: str, label: str):
 
 
 def labelled(page, label):
-    """The token that a label is about."""
+    """The tokens that a label may be about."""
     facts = page.facts
-    page.said[f'label {label.split()[0]}'] += 1
     if label == 'this was found':
         true(facts.is_text_fault() and not facts.is_end, 'the text ends here')
-        return facts.token
+        return [facts.token]
     if label in ('the text ends behind this', 'no token is here'):
         true(facts.is_text_fault() and facts.is_end, 'the text does not end here')
         same('whether there is a token', label != 'no token is here', facts.token != NOTHING)
-        return facts.token
-    if label == 'this derivation':
-        return facts.names['CON', facts.number()]
+        return [facts.token]
     if label == 'this solution':
-        return facts.names['SOL', facts.number()]
+        return [facts.names['SOL', facts.number()]]
+    if label == "this isn't proved":
+        return dual_tokens(facts)
+    if label == 'the primal bound':
+        same('the cause', facts.refused, 52)
+        return [facts.claims['upper bound' if facts.checker.minimizes else 'lower bound']]
     found = re.fullmatch(r'write (\d+) or -1 here', label)
-    true(found and facts.refused == 32, f'an unknown label {label!r}')
-    index = int(facts.details['index'])
-    same(f'the last use of [{index}]', int(found[1]), facts.last_use(index))
-    return facts.lasts[index]
+    if found:
+        index = int(facts.details['index'])
+        same(f'the last use of [{index}]', (facts.refused, int(found[1])), (32, facts.last_use(index)))
+        return [facts.lasts[index]]
+    true(label in PARTS, f'an unknown label {label!r}')
+    page.part = label
+    return [token for (kind, part), token in facts.tokens.items() if kind in PARTS[label] and is_at_fault(facts, kind, part)]
+
+
+# parts of a derivation: how each is called, and which tokens it may be
+PARTS = {'this derivation': ('name',), 'this right-hand side': ('right-hand side',), 'this reason': ('reason',),
+         'this multiplier': ('multiplier',), 'this index': ('entry index', 'branch')}
+
+
+def is_at_fault(facts, kind, part):
+    """Whether this part of a derivation is the one at fault; a sum that does not follow may have its fault at each entry."""
+    position = facts.entry_at_fault() if kind != 'branch' else None
+    if kind == 'right-hand side':
+        return facts.refused == 38 and not facts.differences()
+    if kind == 'branch' and 'index' in facts.details:
+        index = int(facts.details['index'])
+        return facts.own().indices[part] == index and (facts.refused != 33 or part % 2 == 1)
+    if kind == 'branch':
+        return part in ((1, 3) if facts.refused == 37 else (0, 2))
+    if kind in ('entry index', 'multiplier') and position is not None and facts.refused in (31, 32, 35):
+        return part == position
+    return True
+
+
+def dual_tokens(facts):
+    """The part of the claim that no constraint proves."""
+    same('the cause', facts.refused, 51)
+    if facts.checker.bounds is None:
+        return [facts.claims[it] for it in ('keyword', 'claim')]
+    return [facts.claims['lower bound' if facts.checker.minimizes else 'upper bound']]
 
 
 @form(r'  = reading: (\w+)(?:, ([a-z ]+) (\d+) \((\d+) of (\d+)\)(?:, `(\S*)`)?)?')
@@ -183,6 +218,14 @@ def not_whole(page, name: str, index, value):
     facts = page.facts
     same('the variable', (21, index, name), (facts.refused, int(facts.details['variable'].split()[0]), variable(facts, index)))
     same('the value', value, facts.solutions[facts.number()].values[index])
+
+
+@form(rf'  = help: write whole values, or take the variable out of INT: is ({NUMBER}) meant, which is ({NUMBER}) off\?')
+def nearest_whole(page, nearest, gap):
+    facts = page.facts
+    value = Fraction(facts.details['value'])
+    same('how far off it is', (facts.refused, gap), (21, abs(value - nearest)))
+    true(nearest.denominator == 1 and gap <= Fraction(1, 2), 'another one is nearer')
 
 
 @form(r'  constraint (\d+) `(\S+)`: (.+)  \(line (\d+)\)')
@@ -369,8 +412,9 @@ def source(page, name: str, words: str):
              for at, multiplier in facts.own().entries if index in facts.constraint(at).row]
     listed = [it for it in re.sub(r' ?\.\.$', '', words).split(', ') if it not in ('', 'no entry')]
     same('the entries of a coefficient', listed, terms[:len(listed)] if len(listed) == len(terms) else [it for it in terms if it in listed][:len(listed)])
-    shown_ones = {facts.own().entries[it][0] for it in page.entries}
-    is_unknown = any(it >= facts.given and it not in shown_ones for it, _ in facts.own().entries)
+    entries = facts.own().entries
+    shown_ones = [it for it, _ in entries[:MOST_ENTRIES]]
+    is_unknown = any(it >= facts.given and it not in shown_ones for it, _ in entries)
     is_cut = words.endswith('..')
     true(is_cut or listed == terms, f'it comes from {terms}')
     true(not is_cut or len(terms) > len(listed) or is_unknown, 'nothing is left out')
@@ -431,6 +475,26 @@ def is_second(facts):
     return facts.profile == 1 and rules.covers(facts.written('first'), facts.written('second'), facts.problem.integers)
 
 
+@form(rf'    ({NUMBER}) x (?:({NUMBER}) at (\S+) has|\[(\d+)\] makes a number of) more than 127 bits')
+def past_bits(page, multiplier, coefficient, name: str, index):
+    facts = page.facts
+    position = int(facts.details['entry'])
+    same('the entry', (facts.refused, multiplier, index), (35, facts.own().entries[position][1], None if coefficient is not None else facts.own().entries[position][0]))
+    if coefficient is not None:
+        row = facts.constraint(facts.own().entries[position][0]).row
+        true(any(number == coefficient and variable(facts, it) == name for it, number in row.items()), 'it has no such coefficient')
+        true(not fits(multiplier, coefficient), 'the product has fewer bits')
+
+
+def fits(one, other):
+    """Whether a product is within the limit."""
+    try:
+        rules.multiply(Fraction(one), Fraction(other))
+    except rules.Unfit:
+        return False
+    return True
+
+
 @form(r'  constraint (\d+) was dropped behind the last reference that it states')
 def dropped(page, index):
     facts = page.facts
@@ -452,11 +516,24 @@ def from_zero(page, count, first):
 NAMED = r'\[(\d+)\] (\S+)'
 
 
-def offered(page, parts):
+def offered(page, parts, word=None):
     """A change that is offered is one with which the derivation follows."""
-    true(page.facts.refused in (34, 36, 38), 'no sum is changed')
+    true(page.facts.refused in (33, 34, 36, 37, 38), 'no reason is changed')
     page.offers.append(parts)
-    true(page.facts.accepts(parts), 'the derivation does not follow with this')
+    true(page.facts.accepts(parts, word), 'the derivation does not follow with this')
+
+
+@form(r'  = help: with `uns (\d+) (\d+) (\d+) (\d+)` the derivation follows')
+def other_join(page, *join):
+    same('the reason', page.facts.own().reason, 'uns')
+    true(join != page.facts.own().indices, 'it is the same')
+    offered(page, list(join))
+
+
+@form(r'  = help: with `(lin|rnd)` in place of `(lin|rnd)` the derivation follows')
+def other_word(page, word, old):
+    same('the reason', (page.facts.own().reason, word != old), (old, True))
+    offered(page, page.facts.parts(page.facts.own()), word)
 
 
 @form(rf'  = help: with the multiplier ({NUMBER}) in place of ({NUMBER}) at {NAMED} the derivation follows')
@@ -521,7 +598,7 @@ def near(page, index, name: str, text: str, line, how: str, rest: str, more):
     facts = page.facts
     same('the next of the nearest', index, (facts.nearest() + [None] * MOST_NEAR)[len(page.near)])
     page.near.append(index)
-    constraint_shown(facts, index, name, text, line)
+    constraint_shown(facts, index, name, algebra(facts, facts.plain(index)) if text == side_of(facts, index) else text, line)
     gap = facts.gap(index)
     if facts.checker.bounds is None:
         same('how near it is', how, None)
@@ -537,12 +614,40 @@ def near(page, index, name: str, text: str, line, how: str, rest: str, more):
     same('how many more', more or 0, max(0, len(wanted_set) - MOST_OF_SET))
 
 
+def side_of(facts, index):
+    """What a constraint with the objective's row says, as a page writes it."""
+    it = facts.constraint(index)
+    return f'objective {SIGNS[it.sense]} {it.bound}' if facts.checker.bounds is not None else None
+
+
 @form(r'  = help: \[(\d+)\] rests on \[(\d+)\] and \[(\d+)\] on \[(\d+)\]: are l1 and l2 exchanged\? `uns (\d+) (\d+) (\d+) (\d+)`')
 def crossed(page, i1, l2, i2, l1, *join):
     facts = page.facts
     same('the join', list(join), [i1, l2, i2, l1])
-    true(any(facts.derivations[it - facts.given].indices == (i1, l1, i2, l2) for it in page.near if it >= facts.given), 'there is no such join')
-    true(is_crossed(facts, (i1, l1, i2, l2)), 'they are not exchanged')
+    true(any(it.indices == (i1, l1, i2, l2) for it in facts.derivations), 'there is no such join')
+    true(l2 in facts.checker.sets[i1] and l1 in facts.checker.sets[i2], 'they do not')
+
+
+@form(r'  = help: \[(\d+)\] is to take \[(\d+)\] away by `uns (\d+) (\d+) (\d+) (\d+)`, but its other case, \[(\d+)\], rests on \[(\d+)\], too')
+def other_case(page, index, left, i1, l1, i2, l2, case, again):
+    facts = page.facts
+    same('the join', (i1, l1, i2, l2), facts.derivations[index - facts.given].indices)
+    true((left, case) in ((l1, i2), (l2, i1)) and again == left, 'it is not the other case')
+    true(left in facts.checker.sets[case] and left in facts.checker.sets[index], 'it does not rest on it')
+    true(any(left in facts.checker.sets[it] for it in page.near), 'none of the nearest rests on it')
+
+
+@form(r'  = help: \[(\d+)\] is an assumption that is left: is its reason left out, or a `uns i1 l1 i2 l2` that takes it away as l1 or l2\?')
+def left_over(page, index):
+    facts = page.facts
+    true(index in facts.checker.assumptions and index in facts.checker.sets[facts.nearest()[0]], 'it is none of the strongest one')
+
+
+@form(r'  = help: \[(\d+)\] has this bound with the other sign: is the sign in the claim wrong\?')
+def other_sign(page, index):
+    facts = page.facts
+    same('the side', Fraction(facts.constraint(index).bound), -facts.checker.goal[2])
+    same('what is proved', index, proved(facts))
 
 
 def is_crossed(facts, join):
@@ -641,12 +746,12 @@ def keyword_as_index(page, word, count):
     true(word in KEYWORDS, 'it is no keyword')
 
 
-@form(r'  = help: (?:indices count from 0: that of the last variable is (\d+)|the text has no variables \(VAR 0\))(; is this a constant\? An objective has none)?')
-def last_variable(page, index, constant):
+@form(r'  = help: (?:indices count from 0: that of the last variable is (\d+)|the text has no variables \(VAR 0\))(; are the pairs INDEX COEFFICIENT\?)?((?:;| Or) is this a constant\? An objective has none)?')
+def last_variable(page, index, pairs, constant):
     facts = page.facts
     same('the last variable', -1 if index is None else index, facts.counts['VAR'] - 1)
     same('whether it is the objective', constant is not None, facts.role.section == 'OBJ')
-    true(facts.token.bytes.isdigit(), 'the token is no number')
+    true(facts.token.bytes.isdigit() and (pairs is None or facts.role.wanted == 'row index'), 'the token is no number')
 
 
 @form(rf'  = help: decimals are not in the format: write ({NUMBER})')

@@ -43,30 +43,28 @@ def required(facts, said):
         count = len(facts.nearest())
         yield from {'no_proof': 1, 'wanted_constraint': 1, 'nearest': int(count > 0), 'none_near': int(count == 0), 'near': count}.items()
         yield 'help', 1
-        yield from required_advice(facts)
+        yield from required_advice(facts, said)
     else:
-        yield from required_of_step(facts)
+        yield from required_of_step(facts, said)
 
 
-def required_advice(facts):
+def required_advice(facts, said):
     """The advice that is given wherever it holds of one of the nearest constraints."""
-    for index in facts.nearest():
-        indices = facts.derivations[index - facts.given].indices if index >= facts.given else ()
-        is_strong = facts.checker.bounds is not None and facts.checker.meets(facts.plain(index))
-        if indices and is_crossed(facts, indices):
-            yield 'crossed', 1
-            return
-        if (is_strong or facts.checker.bounds is None) and index in facts.checker.sets[index]:
-            yield 'assumption', 1
-            return
-    index = proved(facts)
-    is_strong = is_strong_near(facts)
-    yield 'more_claimed', int(facts.checker.bounds is not None and index is not None and (index >= facts.given or not is_strong))
+    first = facts.nearest()[:1]
+    is_assumed = [it for it in first if facts.checker.meets(facts.plain(it)) and it in facts.checker.sets[it]]
+    if said['exchanged']:
+        return
+    if first and facts.checker.meets(facts.plain(first[0])):
+        said['left'] = said['crossed'] + said['other_case'] + said['left_over'] + said['assumption']
+        yield ('assumption' if is_assumed else 'left'), 1
+    elif facts.checker.bounds is not None and proved(facts) is not None:
+        said['more'] = said['more_claimed'] + said['other_sign']
+        yield 'more', 1
 
 
-def required_of_step(facts):
+def required_of_step(facts, said):
     own, cause = facts.own(), facts.refused
-    yield from {'derivation_error': 1, 'states': 1, 'label this': 1}.items()
+    yield from {'derivation_error': 1, 'states': said['states'] if cause == 38 else 1, 'label this': 1}.items()
     if own.reason in ('lin', 'rnd'):
         count = len(own.entries)
         marked = facts.entry_at_fault()
@@ -86,7 +84,8 @@ def required_of_step(facts):
             yield 'source', min(MOST_SOURCES, len(facts.differences()))
         rounds = own.reason == 'lin' and not facts.differences() and facts.written('computed')[1] == facts.written('stated')[1] != 'E' \
             and facts.checker.accepts(facts.number(), facts.plain(facts.number()), 'rnd', facts.parts(own))
-        yield 'round_instead', int(rounds)
+        said['word'] = said['round_instead'] + said['other_word']
+        yield from [('word', None)] if rounds else []
     if cause == 36:
         yield 'sum', 1
         yield 'row faults', min(MOST_SHOWN, len(list(facts.row_faults(facts.written('sum')[0]))))
@@ -94,7 +93,7 @@ def required_of_step(facts):
         first, second = facts.written('first'), facts.written('second')
         is_one = first[0] == second[0]
         count = len(list(facts.row_faults(first[0]))) if is_one else 0
-        yield from {'first': 1, 'second': 1, 'other_rows': int(not is_one), 'split': int(is_one and not count)}.items()
+        yield from {'first': said['first'], 'second': said['first'], 'other_rows': int(not is_one), 'split': int(is_one and not count)}.items()
         yield 'row faults', min(MOST_SHOWN, count)
         yield 'second_profile', int(is_one and not count and is_second(facts))
     if cause in (34, 36, 38) and own.reason in ('lin', 'rnd') and mends(facts):

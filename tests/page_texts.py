@@ -37,7 +37,7 @@ def of_size():
     yield 'a fault', comment + 'VER 1.0 VAX'
     yield 'a sum', comment + f'{FRONT}RTP infeas SOL 0 DER 1\nbad G 2 1 0 1 {{ lin 1 0 1 }} -1\n'
     yield 'verified', comment + f'{FRONT}RTP range 1 inf SOL 0 DER 0\n'
-    for size in (10, 100, 1_000, 10_000, 100_000, 1_000_000):
+    for size in (10, 100, 1_000, 10_000, 100_000, 2_000_000):
         yield f'behind {size} line feeds', '\n' * size + 'VER 1.0 VAX'
         yield f'behind {size} bytes of a line', f'VER 1.0{" " * size}VAX'
     for column in range(55, 68):
