@@ -12,7 +12,7 @@ an explanation is easily wrong: what a constraint rests on, what comes near a cl
 that are large in one respect, so that a page could be cut off there. Every byte that is printed behind the first lines
 is printable ASCII or a line feed, and there are 65,536 of them at most. A file is opened once, a named pipe too. One
 that can't be opened has the answer of `vipr explain`, and in front of it a line with its name and the reason. One
-entry of each sum of the problems is damaged, and most of the changes with which the derivation follows, as the page says,
+part of each reason of the problems is damaged, and most of the changes with which the derivation follows, as the page says,
 are the original.
 
 What each page says is worked out again: page_model.py reads it line by line, with a reader and rules that share no code with the
@@ -89,7 +89,7 @@ MISTAKES = [
      '.vipr:23:43\n', 'write the last reference behind `}`'),
     # lin where rnd is needed
     ('knapsack', 'rnd 3 0 13/4 2 1/4 6 1/2', 'lin 3 0 13/4 2 1/4 6 1/2',
-     '.vipr:23:1\n', '`rnd` in place of `lin` rounds the right-hand side to 20'),
+     '.vipr:23:1\n', 'with `rnd` in place of `lin` the derivation follows'),
     # constraint indices counted from 1
     ('knapsack', 'rnd 3 0 13/4 2 1/4 6 1/2', 'rnd 3 1 13/4 3 1/4 7 1/2',
      '.vipr:23:1\n', 'constraints count from 0: the problem has 7'),
@@ -101,7 +101,7 @@ MISTAKES = [
      '.vipr:23:1\n', 'the sense: computed <=, stated >='),
     # a dense solution vector of n values
     ('knapsack', 'bc 2 1 1 2 1', 'bc 3 1 1 1',
-     '.vipr:21:10\n', 'not a list of all values'),
+     '.vipr:21:10\n', 'is this a list of all values'),
     # solution that breaks cap
     ('knapsack', 'bc 2 1 1 2 1', 'bc 3 0 1 1 1 2 1',
      '.vipr:21:1\n', 'a = 1, b = 1, c = 1; the left side is 9, which is not <= 6'),
@@ -122,7 +122,7 @@ MISTAKES = [
      '.vipr:24:1\n', 'y is not an integer variable: list its index 2 in INT and make the count there 1 larger'),
     # uns with assumption before conclusion
     ('one_machine', 'uns 10 8 11 9', 'uns 8 10 9 11',
-     '.vipr:25:1\n', 'names what follows first, and behind it its assumption'),
+     '.vipr:25:1\n', 'with `uns 10 8 11 9` the derivation follows'),
     # uns with the assumptions crossed
     ('one_machine', 'uns 10 8 11 9', 'uns 10 9 11 8',
      '(line 25)', '[12] no  0 >= 1  (line 25), rests on [8] [9]'),
@@ -143,13 +143,13 @@ MISTAKES = [
      '.vipr:24:1\n', 'with one more entry, 1 x [5] l3, the derivation follows'),
     # joined wrongly: scaled row under an assumption
     ('set_cover', 'all G 7 OBJ { uns 11 9 12 10 } -1', 'all G 14 3 0 6 1 8 2 10 { lin 1 12 2 } -1',
-     '(line 24)', '[12] leaf1  3 x1 + 4 x2 + 5 x3 >= 7  (line 24), strong enough, rests on [10]'),
+     '(line 24)', '[12] leaf1  objective >= 7  (line 24), strong enough, rests on [10]'),
     # a primal bound better than the solution
     ('set_cover', 'RTP range 7 7', 'RTP range 7 6',
      '', '7 is attained: is that the primal bound'),
     # claims more than proved
     ('set_cover', 'RTP range 7 7', 'RTP range 8 7',
-     '(line 25)', '[13] all  3 x1 + 4 x2 + 5 x3 >= 7  (line 25), too weak by 1, rests on no assumption'),
+     '(line 25)', '[13] all  objective >= 7  (line 25), too weak by 1, rests on no assumption'),
     # count of derivations one too small
     ('set_cover', 'DER 5', 'DER 4',
      '.vipr:25:1\n', 'make the count behind `DER` larger'),
@@ -242,7 +242,10 @@ HINTS = [
     ('diet', '16/5 16/5', '16/5 Inf', 'for no bound write `-inf` first and `inf` second'),
     ('diet', '16/5 16/5', '16/5 1e+20', 'exponents are not in the format: write all digits, or `-inf`'),
     ('diet', '16/5 16/5', 'x 16/5', 'a number is digits with or without a sign, or a fraction, as -3 or 13/4\n'),
-    ('diet', 'protein G 8', 'protein G inf', 'infinite values may only be bounds of the claim'),
+    ('diet', '11/50', 'inf', 'infinite values may only be bounds of the claim'),
+    ('diet', '11/50', 'nan', 'is there no value? Then leave the entry'),
+    ('diet', '11/50', '0.2200000000000000000001', 'decimals are not in the format: write a fraction'),
+    ('diet', 'SOL 1', 'SOL', 'is it missing behind the keyword?'),
     ('diet', '11/50', '22e-2', 'exponents are not in the format: write all digits, or a fraction'),
     ('diet', '11/50', '/ 50', 'a number has no spaces'),
     ('diet', '11/50', '11/-50', 'its sign is in front, as -5/2'),
@@ -257,7 +260,7 @@ HINTS = [
     ('set_cover', 'INT 3 0 1 2', 'INT 3 x1 x2 x3', '`INT` lists variables by their indices'),
     ('diet', '2 0 3/5 1 7/10', '2 bread 3/5 milk 7/10', 'a variable is named by its index, from 0: is a name in its place, is a pair missing'),
     ('diet', '2 0 3/5 1 7/10', '3 0 3/5 1 7/10 2 5', 'is this a constant? An objective has none'),
-    ('diet', 'nm G 0 1 1 1', 'nm G 0 1 2 1', 'indices count from 0: that of the last variable is 1\n'),
+    ('diet', 'nm G 0 1 1 1', 'nm G 0 1 2 1', 'indices count from 0: that of the last variable is 1; are the pairs INDEX COEFFICIENT?\n'),
     ('diet', 'opt 2 0 3 1 2', 'opt 2 0 x 1 2', 'wanted the value of pair 0'),
     ('diet', 'opt 2 0 3 1 2', 'the optimum 2 0 3 1 2', 'a solution is NAME COUNT INDEX VALUE ..'),
     ('diet', 'iron G 9 2', 'iron G 9 two', 'a vector is a count and then that many pairs INDEX COEFFICIENT'),
@@ -299,6 +302,10 @@ HINTS = [
     ('cutoff', 'cut L 7', 'cut L 6', '`sol` gives the best listed value, and nothing better'),
     # a claim
     ('set_cover', 'uns 11 9 12 10', 'uns 11 10 12 9', '[11] rests on [9] and [12] on [10]: are l1 and l2 exchanged? `uns 11 9 12 10`'),
+    ('set_cover', 'uns 11 9 12 10', 'uns 11 9 11 10', 'its other case, [11], rests on [9], too'),
+    ('set_cover', 'lin 3 1 4 10 3 5 1', 'asm', '[12] is an assumption that is left: is its reason left out'),
+    ('set_cover', 'uns 11 9 12 10', 'uns 11 9 12 9', 'with `uns 11 9 12 10` the derivation follows'),
+    ('knapsack', 'range 20 20', 'range -20 -20', '[7] has this bound with the other sign'),
     ('set_cover', 'RTP range 7 7', 'RTP range 17 17', 'is more claimed behind RTP than [13] says'),
     ('parity', 'RTP infeas\nSOL 0\nDER 1\nodd G 1 0 { rnd 1 0 1/2 } -1\n', 'RTP range 0 inf\nSOL 0\nDER 0\n', 'add the derivation `NAME G 0 0 { lin 0 } -1`'),
     ('diet', 'RTP range 16/5 16/5', 'RTP infeas', 'so `infeas` is false: claim `range` and two bounds'),
@@ -308,7 +315,8 @@ HINTS = [
     ('diet', 'RTP range 16/5 16/5', 'RTP range -inf 16/5', 'nothing has to be proved of the dual side'),
     # the other problems: a bound left out of a sum, a digit, a continuous variable rounded, a branch, a claim
     ('fixed_charge', 'lin 5 0 1 1 -1 2 -1 6 -4 9 -6', 'lin 4 0 1 1 -1 2 -1 9 -6', 'with one more entry, -4 x [6] y1_up, the derivation follows'),
-    ('fixed_charge', 'ten G 10 OBJ { lin', 'ten G 11 OBJ { rnd', '`lin` in place of `rnd` proves this sum as it is'),
+    ('fixed_charge', 'ten G 10 OBJ { lin', 'ten G 11 OBJ { rnd', 'a sum is rounded if all coefficients are whole'),
+    ('fixed_charge', 'ten G 10 OBJ { lin', 'ten G 10 OBJ { rnd', 'with `lin` in place of `rnd` the derivation follows'),
     ('fixed_charge', 'range 10 10', 'range 11 11', 'is more claimed behind RTP than [13] says'),
     ('bin_packing', 'lin 5 0 1 1 1 2 1', 'lin 4 0 1 1 1', 'with one more entry, 1 x [2] thing3, the derivation follows'),
     ('rounded_sum', 'lin 1 2 5', 'lin 1 2 4', 'with the multiplier 5 in place of 4 at [2] r the derivation follows'),
@@ -361,13 +369,13 @@ FRONT = 'VER 1.0 VAR 1 x INT 1 0 OBJ min 1 0 1 CON 1 0 c G 1 1 0 1 RTP infeas SO
 ASSUMED = ' '.join(f'a{i} L 0 0 {{ asm }} -1' for i in range(4)) + ' b G 1 0 { asm } -1 '
 TRUE = [
     # a constraint rests on an assumption that isn't one of the first four
-    ([], 'VER 1.0 VAR 1 x INT 0 OBJ min 1 0 1 CON 0 0 RTP range 1 inf SOL 0 DER 11 ' + ASSUMED
+    ([], 'VER 1.0 VAR 1 x INT 0 OBJ min 1 0 1 CON 0 0 RTP range 1 inf SOL 0 DER 9 ' + ASSUMED
      + 'e G 1 1 0 1 { asm } -1 f G 1 1 0 1 { lin 5 0 -1 1 -1 2 -1 3 -1 5 1 } -1 u0 G 1 1 0 1 { uns 6 0 4 4 } -1 '
-     'u1 G 1 1 0 1 { uns 7 1 4 4 } -1 u2 G 1 1 0 1 { uns 8 2 4 4 } -1 u3 G 1 1 0 1 { uns 9 3 4 4 } -1',
-     ['u0  x >= 1  (line 1), strong enough, rests on [1] [2] [3] [5]'], ['no assumption\n']),
+     'u1 G 1 1 0 1 { uns 7 1 4 4 } -1',
+     ['u0  objective >= 1  (line 1), strong enough, rests on [1] [2] [3] [5]'], ['no assumption\n']),
     # the index of a constraint that isn't earlier is behind a fault of the text
     ([], 'VER 1.0 VAR 0 INT 0 OBJ min 0 CON 0 0 RTP infeas SOL 0 DER 2 a G 1 0 { lin 1 1 1 } -1 b G one',
-     ['1 x [1], which is not before this derivation <-- entry 0', 'the problem has none'], ["isn't one of this text"]),
+     ['1 x [1], which is not before this derivation <-- entry 0', 'the problem has 0'], ["isn't one of this text"]),
     # many entries name the constraint at fault: one is marked
     ([], 'VER 1.0 VAR 0 INT 0 OBJ min 0 CON 1 0 c G 0 0 RTP infeas SOL 0 DER 1 a G 1 0 { lin 600' + ' 7 1' * 600
      + ' } -1', ['<-- entry 0', '(600 entries)', 'constraints count from 0', '= see: docs/FORMAT.md, cause 31'],
@@ -381,13 +389,13 @@ TRUE = [
     ([], 'VER 1.0 VAR ' + '0' * 80 + '1 x INT 0 OBJ mid 0', ['wanted `min` or `max`'], ['wanted the number']),
     # by the second profile a bound of a whole objective is rounded
     (['--profile', '2'], 'VER 1.0 VAR 1 x INT 1 0 OBJ min 1 0 1 CON 0 0 RTP range 1 inf SOL 0 DER 1 '
-     'a G 1/2 1 0 1 { asm } -1', ['x >= 1/2  (line 1), strong enough, rests on [0]'], ['too weak']),
+     'a G 1/2 1 0 1 { asm } -1', ['objective >= 1/2  (line 1), strong enough, rests on [0]'], ['too weak']),
     ([], 'VER 1.0 VAR 1 x INT 1 0 OBJ min 1 0 1 CON 0 0 RTP range 1 inf SOL 0 DER 1 a G 1/2 1 0 1 { asm } -1',
-     ['x >= 1/2  (line 1), too weak by 1/2, rests on [0]'], ['strong enough']),
+     ['objective >= 1/2  (line 1), too weak by 1/2, rests on [0]'], ['strong enough']),
     # constraints of the problem come near, too, and the nearest is first
     ([], 'VER 1.0 VAR 1 x INT 0 OBJ min 1 0 1 CON 1 0 c G 1/2 1 0 1 RTP range 1 inf SOL 0 DER 4 '
      'd0 G 9/10 1 0 1 { asm } -1 d1 G 0 1 0 1 { asm } -1 d2 G 0 1 0 1 { asm } -1 d3 G 0 1 0 1 { asm } -1',
-     ['nearest:\n    [1] d0  x >= 9/10', '[0] c  x >= 1/2  (line 1), too weak by 1/2, rests on no assumption'],
+     ['nearest:\n    [1] d0  objective >= 9/10', '[0] c  objective >= 1/2  (line 1), too weak by 1/2, rests on no assumption'],
      ['no constraint has this row']),
     # two assumptions that leave no gap are no split by the first profile
     ([], 'VER 1.0 VAR 1 x INT 1 0 OBJ min 0 CON 0 0 RTP infeas SOL 0 DER 3 l L 1/2 1 0 1 { asm } -1 '
@@ -421,13 +429,13 @@ TRUE = [
      ['with the multiplier -7/6 in place of -1 at [1] b the derivation follows'], []),
     # what comes near a claim has its row, whatever the sense: the other sense, and equations
     ([], 'VER 1.0 VAR 1 x INT 0 OBJ min 1 0 1 CON 1 0 b E 3 1 0 1 RTP range 5 inf SOL 0 DER 0',
-     ['[0] b  x = 3  (line 1), too weak by 2, rests on no assumption'], ['no constraint has']),
+     ['[0] b  objective = 3  (line 1), too weak by 2, rests on no assumption'], ['no constraint has']),
     ([], 'VER 1.0 VAR 1 x INT 0 OBJ min 1 0 1 CON 2 0 a G 2 1 0 1 b E 3 1 0 1 RTP range 5 inf SOL 0 DER 0',
      ['nearest:\n    [1] b', 'is more claimed behind RTP than [1] says'], ['nothing stronger']),
     ([], 'VER 1.0 VAR 1 x INT 0 OBJ min 1 0 1 CON 1 0 b L 3 1 0 1 RTP range 3 inf SOL 0 DER 0',
-     ['[0] b  x <= 3  (line 1), the other way round', '[0] is the other way round: is `OBJ max` meant?'], ['too weak']),
+     ['[0] b  objective <= 3  (line 1), the other way round', '[0] is the other way round: is `OBJ max` meant?'], ['too weak']),
     (['--profile', '2'], 'VER 1.0 VAR 1 x INT 1 0 OBJ min 1 0 1 CON 2 0 a G 1/2 1 0 1 b G 1 1 0 1 RTP range 2 inf SOL 0 DER 0',
-     ['[0] a  x >= 1/2  (line 1), too weak by 1 when it is rounded', '[1] b  x >= 1  (line 1), too weak by 1, rests'],
+     ['[0] a  objective >= 1/2  (line 1), too weak by 1 when it is rounded', '[1] b  objective >= 1  (line 1), too weak by 1, rests'],
      ['nothing stronger']),
     ([], 'VER 1.0 VAR 1 x INT 0 OBJ min 1 0 1 CON 0 0 RTP range 3 inf SOL 0 DER 1 d G 3 1 0 1 { asm } -1',
      ['[0] is an assumption itself: is its reason left out?'], ['joined']),
@@ -450,7 +458,7 @@ TRUE = [
     *[([], f'VER 1.0 VAR 1 x INT 0 OBJ min 1 0 {word}', ['a number is digits'], ['exponent']) for word in ('0x1e', '3eggs', '1e')],
     *[([], f'VER 1.0 VAR 1 x INT 0 OBJ min 1 0 {word}', ['exponents are not'], []) for word in ('1e5', '-2.5E+7')],
     ([], 'VER 1.0 VAR 1 x INT 0 OBJ min 0 CON 1 0 u L 1e20', ['an infinite bound is no constraint: leave it out'], []),
-    ([], 'VER 1.0 VAR 1 x INT 0 OBJ min 1 0 Fraction(11,', ['or a fraction, as -3 or 13/4'], ['comma']),
+    ([], 'VER 1.0 VAR 1 x INT 0 OBJ min 1 0 Fraction(11,', ['a fraction is digits, `/` and digits'], ['comma']),
     *[([], f'VER 1.0 VAR 1 x INT 0 OBJ min 1 {word} 1', ['an index is digits alone'], ['that of the last'])
       for word in ('+0', '-1', '3*0', '1=1')],
     ([], 'VER 1.0 VAR 1 x INT 0 OBJ min 1 7 1', ['that of the last variable is 0'], []),
@@ -477,7 +485,7 @@ MORE = [
     # a claim behind a comment of 9 MiB and 30,000 derivations
     ('%' + 'c' * (9 << 20) + '\nVER 1.0 VAR 1 x INT 0 OBJ min 1 0 1 CON 1 0 a G 7 OBJ RTP range 9 inf SOL 0 DER 30000\n'
      + ''.join(f'd{it} G {1 + it % 6} OBJ {{ lin 1 0 1 }} -1\n' for it in range(30_000)),
-     '[0] a  x >= 7  (line 2), too weak by 2, rests on no assumption', 0),
+     '[0] a  objective >= 7  (line 2), too weak by 2, rests on no assumption', 0),
     # the thirteenth solution
     ('VER 1.0 VAR 1 x INT 0 OBJ min 1 0 1 CON 1 0 a G 1 1 0 1 RTP range -inf 1 SOL 13\n' + 's 1 0 1\n' * 12 + 's 0 DER 0',
      'constraint 0 `a`: x >= 1  (line 1)', 0),
@@ -486,7 +494,6 @@ MORE = [
      + ' '.join(f'{it} 1' for it in range(20)) + ' CON 30 0 ' + ' '.join(f'c{it:030} G 1 OBJ' for it in range(30))
      + ' RTP infeas SOL 0 DER 1 d G 1 0 { lin 30 ' + ' '.join(f'{it} 1' for it in range(30)) + ' } -1',
      'or another multiplier, another constraint, or another number', 4_097),
-    # senses of algebra
     *[(f'VER 1.0 VAR 1 x INT 0 OBJ min 0 CON 1 0 c {sense} 1 1 0 1', f'write `{letter}` for `{sense}`', 0)
       for letter, sense in (('G', '>='), ('L', '<='), ('E', '='))],
 ]
@@ -503,11 +510,11 @@ CAUSES = [
     f'VER 1.0 VAR 1 x INT 0 OBJ min 0 CON 1 0 c G 1 1 0 {LARGE} RTP infeas SOL 1 large 1 0 2 DER 0',
     f'VER 1.0 VAR 1 x INT 0 OBJ min 1 0 {LARGE} CON 0 0 RTP infeas SOL 1 large 1 0 2 DER 0',
     FRONT + f'0 DER 1 a G 1 0 {{ lin 2 0 1 0 {LARGE} }} -1',
+    FRONT.replace('c G 1 1 0 1', 'c G 1 1 0 2') + f'0 DER 1 a G 1 0 {{ lin 1 0 {LARGE} }} -1',
     FRONT + '0 DER 1 a L 0 1 0 1 { sol } -1',
     FRONT + '0 DER 1 a G 1 1 0 1 { lin 1 5 1 } -1',
     FRONT + '0 DER 2 a L 0 1 0 1 { asm } -1 b G 0 0 { uns 0 0 1 1 } -1',
     'VER 1.0 VAR 0 INT 0 OBJ min 0 CON 0 0 RTP range -inf -1 SOL 0 DER 0',
-    # a sum that has nothing of a variable
     'VER 1.0 VAR 2 x y INT 0 OBJ min 0 CON 1 0 c G 1 1 0 1 RTP infeas SOL 0 DER 1 a G 1 2 0 1 1 1 { lin 1 0 1 } -1',
     # of two multipliers that mend a coefficient the second one makes the right-hand side too
     'VER 1.0 VAR 1 x INT 0 OBJ min 0 CON 2 0 a G 0 1 0 1 b G 1 1 0 1 RTP infeas SOL 0 DER 1 d G 2 1 0 3 { lin 2 0 1 1 1 } -1',
@@ -524,7 +531,7 @@ UNREACHED = {
     "\na read failed behind what is refused, so it isn't explained\n", '.. the rest is left out\n',
 }
 # What part of the damages to one entry has to be named, by what is damaged.
-LEAST = {'multiplier': 0.9, 'sign': 0.9, 'index': 0.9, 'entry': 0.7}
+LEAST = {'multiplier': 0.9, 'sign': 0.9, 'index': 0.9, 'entry': 0.7, 'order': 0.8, 'case': 0.8, 'word': 0.9}
 CHECKS = Checks('long')
 check = CHECKS.check
 pages = {}
@@ -657,8 +664,14 @@ def text_of(lines, at, words):
     return '\n'.join([*lines[:at], ' '.join(words), *lines[at + 1:]]).encode()
 
 
-def changed_sums(words, first, count):
-    """Each sum with one entry damaged: its multiplier, its sign, its index, or it is left out."""
+def changed_reasons(words, first, count):
+    """Each reason with one part damaged: the order of a join, an index of it, the word of a sum, or something of an entry."""
+    if words[first - 2] == 'uns':
+        yield 'order', [*words[:first - 1], words[first], words[first - 1], words[first + 2], words[first + 1], *words[first + 3:]]
+        for place in range(first - 1, first + 3):
+            yield 'case', [*words[:place], str((int(words[place]) + 1) % count), *words[place + 1:]]
+        return
+    yield 'word', [*words[:first - 2], 'rnd' if words[first - 2] == 'lin' else 'lin', *words[first - 1:]]
     for place in range(first, len(words) - 2, 2):
         index, multiplier = words[place:place + 2]
         front, behind = words[:place], words[place + 2:]
@@ -672,7 +685,7 @@ def changed_sums(words, first, count):
 
 
 def changes_suffice():
-    """One entry of each sum of the problems is damaged. Most of the changes that are offered are the original."""
+    """One part of each reason of the problems is damaged. Most of the changes that are offered are the original."""
     refused, named = collections.Counter(), collections.Counter()
     for path in sorted(PROBLEMS.glob('*.vipr')):
         lines = run([PROGRAM, 'show', path]).stdout.decode().splitlines()
@@ -682,20 +695,22 @@ def changes_suffice():
             if '{' not in words:
                 continue
             first = words.index('{') + 3
-            for kind, other in changed_sums(words, first, given + passed) if words[first - 2] in ('lin', 'rnd') else ():
+            for kind, other in changed_reasons(words, first, given + passed) if words[first - 2] in ('lin', 'rnd', 'uns') else ():
                 page = explained(['--long'], text_of(lines, at, other))[0]
                 found = is_true(page, text_of(lines, at, other), f'{path.name}, a {kind} of line {at}')
                 place = page.decode().partition('\n')[0].partition(' at ')[2]
-                if re.search(rb'cause (34|36|38)\n', page) and place == f'DER {given + passed}':
+                if re.search(rb'cause (33|34|36|37|38)\n', page) and place == f'DER {given + passed}':
                     refused[kind] += 1
-                    named[kind] += any(sorted(it) == sum_of(words, first) for it in found)
+                    named[kind] += any(sorted(it) == parts_of(words, first) for it in found)
             passed += 1
     for kind, least in LEAST.items():
         check(refused[kind] and named[kind] >= least * refused[kind], f'{kind}: {named[kind]} of {refused[kind]} are named')
 
 
-def sum_of(words, first):
-    """The entries of the sum of a derivation, in any order."""
+def parts_of(words, first):
+    """The indices that a derivation joins, or the entries of its sum, in any order."""
+    if words[first - 2] == 'uns':
+        return sorted(map(int, words[first - 1:first + 3]))
     return sorted((int(index), Fraction(multiplier)) for index, multiplier in zip(words[first:-2:2], words[first + 1:-2:2]))
 
 
