@@ -26,11 +26,6 @@ pub err_is : {A : Type 0} (r : Result A TextError) {m : TextError} (P : TextErro
 err_is (Ok x) P is h = absurd is
 err_is (Err e) P is h = subst (λ (x : TextError). P x) (sym is) h
 
-pub err_memory : {A : Type 0} (r : Result A TextError) (P : Type 0)
-    → IfErr r (λ m. m ≡ error.Memory) → IfErr r (λ m. Because m P)
-err_memory (Ok x) P h = tt
-err_memory (Err m) P h = subst (λ n. Because n P) (sym h) tt
-
 -- ---- a fault of a part of a reading
 
 pub missed_of : {Y : Type 0} (e : TextError) (r : Result Y Fault) → Fails e r → Missed e r

@@ -1,5 +1,4 @@
 mod Again
-mod Dropping
 mod Lacks
 mod Tokens
 mod Walking

@@ -11,11 +11,12 @@ use Rattle.vipr_bytes.specs.Known.{text_of}
 use Rattle.vipr_scan.specs.Giving.{rest_of}
 use Rattle.vipr_read.specs.Items.{Items as Reader, Knows}
 use Rattle.vipr_cert.specs.Items.{derivation_of}
-use Rattle.vipr_explain.specs.Marked.{AreMarksOf}
+use Rattle.vipr_explain.specs.Marked.{AreMarksIn}
 use Rattle.vipr_scan.specs.declared.error.TextError.{TextError}
 use Rattle.vipr_scan.specs.declared.error.TextError.TheVariants as error
 use Rattle.vipr_explain.specs.declared.items.Numbered.{Numbered}
 use Rattle.vipr_explain.specs.declared.items.Items.{Items}
+use Rattle.vipr_explain.specs.declared.marks.Sought.{Sought}
 use Rattle.vipr_explain.specs.declared.shown.PlacedItems.{PlacedItems}
 
 -- all that there is to read of a text in memory
@@ -118,18 +119,25 @@ wanted_among wanted first ds = filter (is_wanted wanted) (enumerate_from first d
 
 -- these were read of the text, up to the greatest index that is wanted, and those that are wanted
 -- were kept
-pub record AreFoundItems (wanted : List ℕ) (text : Rest) (items : Items) : Type 0 where
+pub record AreFoundAs (wanted : List ℕ) (text : Rest) (p : Problem) (items : List Numbered)
+    : Type 0 where
   pub count : ℕ
   pub behind : Rest
-  pub head : head_read text ≡ Ok ((items.problem, count), behind)
+  pub head : head_read text ≡ Ok ((p, count), behind)
   pub read : List Derivation
   pub rest : Rest
-  pub each : read_each (derivation_read items.problem)
-      (count_read wanted (length items.problem.constraints) count) behind ≡ Ok (read, rest)
-  pub kept : map numbered_of items.derivations.items
-      ≡ wanted_among wanted (length items.problem.constraints) read
+  pub each : read_each (derivation_read p)
+      (count_read wanted (length p.constraints) count) behind ≡ Ok (read, rest)
+  pub kept : map numbered_of items ≡ wanted_among wanted (length p.constraints) read
 
--- items of these indices and their places are those of the text
-pub record AreItemsOf (text : List ℕ) (wanted : List ℕ) (known : PlacedItems) : Type 0 where
-  pub items : AreFoundItems wanted (text_rest text) known.items
-  pub marks : AreMarksOf text wanted known.marks.items
+abbrev pub AreFoundItems : List ℕ → Rest → Items → Type 0
+AreFoundItems wanted text items = AreFoundAs wanted text items.problem items.derivations.items
+
+-- items and their places are those that are looked for in the text
+pub record AreSoughtItems (text : List ℕ) (s : Sought) (known : PlacedItems) : Type 0 where
+  pub items : AreFoundItems s.items.now (text_rest text) known.items
+  pub marks : AreMarksIn text s known.marks
+
+-- so are those of these indices
+abbrev pub AreItemsOf : List ℕ → List ℕ → PlacedItems → Type 0
+AreItemsOf text wanted known = (s : Sought) × (s.items.now ≡ wanted) × AreSoughtItems text s known

@@ -5,10 +5,10 @@ pub mod Excerpts
 pub mod Found
 pub mod Progress
 pub mod Syntax
-pub mod Drops
 pub mod Words
 pub mod Refused
 pub mod Near
 pub mod Changes
 pub mod Values
 pub mod Claims
+pub mod Findings

@@ -1,14 +1,18 @@
--- The places of items' names, and of their last references, among the tokens of a text
+-- The places of items' names, and of one more token of each, among the tokens of a text
 use Rattle.std.specs.Prelude.{◌≡◌, ℕ, ◌&&◌, ◌||◌, ◌==◌, ◌∷◌, ◌++◌, [], Bool, true, false, List}
-use Rattle.std.specs.Prelude.{Option, fold, max, nat_lt, if◌then◌else◌}
+use Rattle.std.specs.Prelude.{Option, Some, is_none, fold, max, nat_lt, if◌then◌else◌}
 use Rattle.std.specs.List.{list_any}
 use Rattle.vipr_spec.specs.Tokens.{text_tokens}
 use Rattle.vipr_explain.specs.Listed.{place_found}
-use Rattle.vipr_explain.specs.Progress.{at_start, index_of, passed}
+use Rattle.vipr_explain.specs.Progress.{at_start, count_spelled, index_of, passed}
 use Rattle.vipr_explain.specs.Words.{walked}
 use Rattle.vipr_explain.specs.declared.marks.ItemSort.{ItemSort}
 use Rattle.vipr_explain.specs.declared.marks.ItemSort.TheVariants as kind
 use Rattle.vipr_explain.specs.declared.marks.ItemPlace.{ItemPlace}
+use Rattle.vipr_explain.specs.declared.marks.Marks.{Marks}
+use Rattle.vipr_explain.specs.declared.marks.ItemPart.{ItemPart}
+use Rattle.vipr_explain.specs.declared.marks.ItemPart.TheVariants as part
+use Rattle.vipr_explain.specs.declared.marks.Sought.{Sought}
 use Rattle.vipr_explain.specs.declared.text.Span.{Span}
 use Rattle.vipr_explain.specs.declared.wanted.Section.{Section}
 use Rattle.vipr_explain.specs.declared.wanted.Section.TheVariants as section
@@ -16,15 +20,15 @@ use Rattle.vipr_explain.specs.declared.wanted.Wanted.{Wanted}
 use Rattle.vipr_explain.specs.declared.wanted.Wanted.TheVariants as wanted
 use Rattle.vipr_explain.specs.declared.wanted.TextProgress.{TextProgress}
 
--- an item whose name is here; its last reference isn't known yet
+-- an item whose name is here; the part that is looked for isn't known yet
 abbrev pub mark_at : ℕ → Span → ItemPlace
-mark_at index span = record { index = index; name = span; last = span }
+mark_at index span = record { index = index; name = span; part = span }
 
--- the last reference of the item that was marked last is here
-abbrev pub with_last : Span → List ItemPlace → List ItemPlace
-with_last span [] = []
-with_last span (m ∷ []) = record m { last = span } ∷ []
-with_last span (m ∷ (n ∷ ms)) = m ∷ with_last span (n ∷ ms)
+-- the part of the item that was marked last is here
+abbrev pub with_part : Span → List ItemPlace → List ItemPlace
+with_part span [] = []
+with_part span (m ∷ []) = record m { part = span } ∷ []
+with_part span (m ∷ (n ∷ ms)) = m ∷ with_part span (n ∷ ms)
 
 -- ---- items of a kind
 
@@ -33,11 +37,14 @@ with_last span (m ∷ (n ∷ ms)) = m ∷ with_last span (n ∷ ms)
 abbrev pub is_of : ItemSort → Section → Bool
 is_of kind.Constraints section.Constraints = true
 is_of kind.Constraints section.Derivations = true
+is_of kind.Claim section.Claim = true
 is_of kind.Solutions section.Solutions = true
 is_of _ _ = false
 
 -- whether a section is behind all items of this kind
 abbrev pub is_behind : ItemSort → Section → Bool
+is_behind kind.Claim section.Solutions = true
+is_behind kind.Claim section.Derivations = true
 is_behind kind.Solutions section.Derivations = true
 is_behind _ _ = false
 
@@ -48,45 +55,79 @@ is_past_head wanted.Count = false
 is_past_head wanted.BoundCount = false
 is_past_head _ = true
 
--- whether no item of this kind up to this index is to come
-abbrev pub is_past : ItemSort → TextProgress → ℕ → Bool
-is_past kind p end = is_behind kind p.section
-    || (is_past_head p.wanted && (is_of kind p.section && nat_lt end (index_of p)))
+-- whether a token is this part of an item, by what is wanted there and its position
+abbrev pub is_part_at : ItemPart → Wanted → ℕ → Bool
+is_part_at part.LowerBound wanted.LowerBound n = true
+is_part_at part.UpperBound wanted.UpperBound n = true
+is_part_at part.RightHandSide wanted.RightHandSide n = true
+is_part_at part.Reason wanted.Reason n = true
+is_part_at part.LastReference wanted.LastReference n = true
+is_part_at (part.Reference k) wanted.EntryIndex n = n == k
+is_part_at (part.Reference k) wanted.Branch n = n == k
+is_part_at (part.Multiplier k) wanted.EntryMultiplier n = n == k
+is_part_at _ _ n = false
 
--- behind a token at this place, by what is wanted there of an item that is marked
-abbrev pub marked_at : Wanted → ℕ → Span → List ItemPlace → List ItemPlace
-marked_at wanted.Name index span marks = marks ++ mark_at index span ∷ []
-marked_at wanted.LastReference index span marks = with_last span marks
-marked_at _ index span marks = marks
+abbrev pub is_part : ItemPart → TextProgress → Bool
+is_part x p = is_part_at x p.wanted p.part
+
+-- the part that is looked for in the last item, and that in the others
+abbrev pub part_of_item : Sought → ℕ → ℕ → ItemPart
+part_of_item s end index = if index == end then s.part else part.LastReference
+
+-- whether no item of this kind up to this index is to come, and no use is looked for
+abbrev pub is_past : Sought → TextProgress → ℕ → Bool
+is_past s p end = is_none s.used && (is_behind s.kind p.section
+    || (is_past_head p.wanted && (is_of s.kind p.section && nat_lt end (index_of p))))
+
+-- behind a token at this place of an item that is looked for, by what is wanted there
+abbrev pub marked_at : Wanted → Bool → ℕ → Span → List ItemPlace → List ItemPlace
+marked_at wanted.Name is_part index span marks = marks ++ mark_at index span ∷ []
+marked_at wanted.Claim is_part index span marks = marks ++ mark_at index span ∷ []
+marked_at _ true index span marks = with_part span marks
+marked_at _ false index span marks = marks
 
 -- the same if the item is of this kind, and one of these
-abbrev pub marked : ItemSort → List ℕ → TextProgress → Span → List ItemPlace → List ItemPlace
-marked kind indices p span marks =
-    if is_of kind p.section && list_any (λ i. i == index_of p) indices
-    then marked_at p.wanted (index_of p) span marks else marks
+abbrev pub marked : Sought → ℕ → TextProgress → Span → List ItemPlace → List ItemPlace
+marked s end p span marks =
+    if is_of s.kind p.section && list_any (λ i. i == index_of p) s.items.now
+    then marked_at p.wanted (is_part (part_of_item s end (index_of p)) p) (index_of p) span marks
+    else marks
 
--- how far a text was read, and the marks of items of this kind and these indices so far
+-- the last derivation that refers to a constraint, behind a token where this is wanted
+abbrev pub user_at : Option ℕ → Wanted → ℕ → ℕ → ℕ → ℕ
+user_at (Some k) wanted.EntryIndex index n user = if n == k then index else user
+user_at (Some k) wanted.Branch index n user = if n == k then index else user
+user_at _ _ index n user = user
+
+abbrev pub later_user : Option ℕ → TextProgress → List ℕ → ℕ → ℕ
+later_user used p word user = user_at used p.wanted (index_of p) (count_spelled word) user
+
+-- how far a text was read, the marks of items so far, and the last use
 abbrev pub Marking : Type 0
-Marking = TextProgress × List ItemPlace
+Marking = TextProgress × List ItemPlace × ℕ
 
-abbrev pub stops_marking : ItemSort → List ℕ → Marking → Bool
-stops_marking kind indices m = is_past kind m.0 (fold max 0 indices)
+abbrev pub stops_marking : Sought → Marking → Bool
+stops_marking s m = is_past s m.0 (fold max 0 s.items.now)
 
-abbrev pub marking_behind : ItemSort → List ℕ → Marking → List ℕ → Span → Marking
-marking_behind kind indices m word span = (passed m.0 word, marked kind indices m.0 span m.1)
+abbrev pub marking_behind : Sought → Marking → List ℕ → Span → Marking
+marking_behind s m word span = (
+  passed m.0 word,
+  marked s (fold max 0 s.items.now) m.0 span m.1,
+  later_user s.used m.0 word m.2,
+)
 
 -- those of a text
-abbrev pub marking_in : ItemSort → List ℕ → List ℕ → Marking
-marking_in kind indices text = walked (stops_marking kind indices) (marking_behind kind indices)
-    text (at_start, []) (text_tokens text)
+abbrev pub marking_in : Sought → List ℕ → Marking
+marking_in s text = walked (stops_marking s) (marking_behind s) text (at_start, [], 0)
+    (text_tokens text)
 
-abbrev pub marks_in : ItemSort → List ℕ → List ℕ → List ItemPlace
-marks_in kind indices text = (marking_in kind indices text).1
+-- this is what is looked for in a text
+pub record AreMarksIn (text : List ℕ) (s : Sought) (marks : Marks) : Type 0 where
+  pub places : marks.places.items ≡ (marking_in s text).1
+  pub user : marks.user ≡ (marking_in s text).2
 
--- these are the places of the constraints of these indices in a text
-abbrev pub AreMarksOf : List ℕ → List ℕ → List ItemPlace → Type 0
-AreMarksOf text indices marks = marks ≡ marks_in kind.Constraints indices text
-
--- this is the place of the item of this kind and index in a text
-abbrev pub IsMarkOf : ItemSort → List ℕ → ℕ → Option ItemPlace → Type 0
-IsMarkOf kind text index mark = mark ≡ place_found (marks_in kind (index ∷ []) text) index
+-- this is the place of the item of this kind and index, and of a part of it
+abbrev pub IsItemPlace : List ℕ → ItemSort → ℕ → ItemPart → Option ItemPlace → Type 0
+IsItemPlace text kind index x place = (s : Sought) × (marks : Marks) × (s.kind ≡ kind)
+    × (s.items.now ≡ index ∷ []) × (s.part ≡ x) × AreMarksIn text s marks
+    × (place ≡ place_found marks.places.items index)

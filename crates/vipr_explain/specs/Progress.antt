@@ -58,9 +58,11 @@ at_start = record {
   parts = 0;
 }
 
--- the index of the item among all constraints, if it is a derivation; else its position
+-- the index of the item among all constraints, if it is a derivation; 0 for the claim; else the
+-- item's position
 abbrev pub index_in : Section → TextProgress → ℕ
 index_in section.Derivations p = in_u32 (p.constraints + p.item)
+index_in section.Claim p = 0
 index_in _ p = p.item
 
 abbrev pub index_of : TextProgress → ℕ

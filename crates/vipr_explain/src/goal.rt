@@ -7,8 +7,8 @@ ghost use Rattle.vipr_explain.specs.Claims.{IsGoalRead, IsUnproved};
 ghost use Rattle.vipr_explain.specs.Values.{AreListedValues};
 
 use crate::changes::write_name;
+use crate::excerpt::KnownPlace;
 use crate::items::open_problem;
-use crate::marks::mark_of;
 use crate::near::{Join, Near, NearSearch, find_near, is_turned};
 use crate::shown::{PlacedItems, write_line};
 use crate::solution::{ListedValues, is_exchanged};
@@ -132,12 +132,13 @@ impl UnprovedClaim {
         }
     }
 
-    /// Writes the page of a claim that no constraint proves.
-    pub(crate) fn write(&self, page: &mut Page) {
-        page.put(
-            "error: no constraint proves the claim\n  \
-             wanted: a constraint that rests on no assumption and ",
-        );
+    /// Writes the page of a claim that no constraint proves, whose dual bound is at this place.
+    pub(crate) fn write(&self, page: &mut Page, place: Option<KnownPlace<'_>>, file: &[u8]) {
+        page.put("error: no constraint proves the claim\n");
+        if let Some(place) = place {
+            place.write(page, file, "this isn't proved");
+        }
+        page.put("  wanted: a constraint that rests on no assumption and ");
         match self.bound() {
             Some(constraint) => {
                 let algebra = Algebra(&self.items.items.problem, constraint);
@@ -284,7 +285,7 @@ fn write_near(page: &mut Page, known: &UnprovedClaim, near: &Near) {
             let (sign, side) = (sign_of(constraint.sense), constraint.rhs);
             write_name(page, items, near.index);
             write!(page, "  objective {sign} {side}");
-            write_line(page, mark_of(known.items.marks.as_slice(), near.index));
+            write_line(page, known.items.marks.place(near.index));
         }
         _ => known.items.write_constraint(page, near.index),
     }

@@ -1,6 +1,6 @@
 //! The items of a text that an explanation names.
 ghost use Rattle.std.specs.Prelude.{◌≡◌, ◌≤◌, ◌<◌, ◌+◌, ◌^◌, ◌∷◌, ◌++◌, ℕ, [], map, fold, max};
-ghost use Rattle.std.specs.Prelude.{IfErr, IfOk, OnOk, ⊤};
+ghost use Rattle.std.specs.Prelude.{IfErr, IfOk, OnOk, ⊤, option_map};
 ghost use Rattle.vipr_spec.specs.Certificate.{Problem as ProblemMeant};
 ghost use Rattle.vipr_spec.specs.Reading.{Rest, problem_read};
 ghost use Rattle.vipr_cert.specs.Items.{solution_of, derivation_of};
@@ -8,6 +8,7 @@ ghost use Rattle.vipr_explain.specs.Found.{AreDerivationsRead, AreFoundItems, Ar
 ghost use Rattle.vipr_explain.specs.Found.{AreSolutionsRead, Because, IsListedSolution};
 ghost use Rattle.vipr_explain.specs.Found.{LacksListed, Missed, head_read, items_up_to};
 ghost use Rattle.vipr_explain.specs.Found.{numbered_of, solutions_read, text_rest, wanted_among};
+ghost use Rattle.vipr_explain.specs.Listed.{kept_derivation};
 
 use crate::text::Reread;
 use std::alloc::{AllocError, Global};
@@ -32,18 +33,15 @@ pub(crate) struct Items {
 }
 
 impl Items {
-    ghost use Rattle.std.specs.Prelude.{◌≡◌, option_map};
     ghost use Rattle.vipr_linear.specs.Constraint.{constraint_of};
-    ghost use Rattle.vipr_explain.specs.Listed.{kept_derivation, known_constraint, known_name};
-    ghost use Rattle.vipr_explain.specs.Listed.{word_or_given};
+    ghost use Rattle.vipr_explain.specs.Listed.{known_constraint, known_name, word_or_given};
 
     /// The derivation of a constraint, if it was kept.
     pub(crate) fn derivation(&self, index: u32) -> Option<&Derivation>
         ensures { option_map (λ d. d.now) result
             ≡ kept_derivation self.now.derivations.items index }
     {
-        let kept = self.derivations.iter().find(|kept| kept.index == index)?;
-        Some(&kept.derivation)
+        derivation_among(self.derivations.as_slice(), index)
     }
 
     /// A constraint, of the problem or derived, if it was kept.
@@ -76,6 +74,14 @@ impl Items {
             None => "given",
         }
     }
+}
+
+/// The derivation of a constraint among those that were kept.
+pub(crate) fn derivation_among(kept: &[Numbered], index: u32) -> Option<&Derivation>
+    ensures { option_map (λ d. d.now) result ≡ kept_derivation kept.now index }
+{
+    let kept = kept.iter().find(|kept| kept.index == index)?;
+    Some(&kept.derivation)
 }
 
 /// The problem of a text, and a reader of what is behind it.

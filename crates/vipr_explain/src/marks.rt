@@ -1,19 +1,21 @@
-//! The places of items' names in a text, and of their last references.
+//! The places of items' names in a text, and of one more token of each.
 ghost use Rattle.std.specs.Prelude.{◌≡◌, option_copied, IfOk, OnOk};
 ghost use Rattle.vipr_explain.specs.Listed.{place_found};
-ghost use Rattle.vipr_explain.specs.Marked.{IsMarkOf, is_behind, is_of, is_past};
-ghost use Rattle.vipr_explain.specs.Marked.{is_past_head, marked, marks_in, with_last};
+ghost use Rattle.vipr_explain.specs.Marked.{AreMarksIn, IsItemPlace, is_behind, is_of, is_part};
+ghost use Rattle.vipr_explain.specs.Marked.{is_past, is_past_head, later_user, marked, with_part};
 
 use crate::items::greatest;
 use crate::text::{Span, Subject};
-use crate::wanted::{Section, TextProgress, Wanted};
+use crate::wanted::{Section, TextProgress, Wanted, count_of};
 use crate::words::Words;
 use std::alloc::{AllocError, Global};
 
-/// The items that are looked for: constraints, of the problem or derived, or solutions.
+/// The items that are looked for: constraints, of the problem or derived, solutions, or the claim,
+/// whose index is 0.
 #[derive(Clone, Copy)]
 pub(crate) enum ItemSort {
     Constraints,
+    Claim,
     Solutions,
 }
 
@@ -24,6 +26,7 @@ impl ItemSort {
     {
         match (self, section) {
             (ItemSort::Constraints, Section::Constraints | Section::Derivations) => true,
+            (ItemSort::Claim, Section::Claim) => true,
             (ItemSort::Solutions, Section::Solutions) => true,
             _ => false,
         }
@@ -34,110 +37,195 @@ impl ItemSort {
         ensures { result ≡ is_behind self section }
     {
         match (self, section) {
+            (ItemSort::Claim, Section::Solutions | Section::Derivations) => true,
             (ItemSort::Solutions, Section::Derivations) => true,
             _ => false,
         }
     }
 }
 
-/// The place of an item's name and of its last reference.
+/// A token of an item. The first one is its name, or what is claimed.
+#[derive(Clone, Copy)]
+pub(crate) enum ItemPart {
+    Name,
+    LowerBound,
+    UpperBound,
+    RightHandSide,
+    /// The constraint of this position that the reason refers to.
+    Reference(usize),
+    /// The multiplier of the entry of this position.
+    Multiplier(usize),
+    Reason,
+    LastReference,
+}
+
+impl ItemPart {
+    // Whether the next token of an item is this.
+    fn is_at(self, progress: &TextProgress) -> bool
+        ensures { result ≡ is_part self progress.now }
+    {
+        match (self, progress.wanted) {
+            (ItemPart::LowerBound, Wanted::LowerBound)
+            | (ItemPart::UpperBound, Wanted::UpperBound)
+            | (ItemPart::RightHandSide, Wanted::RightHandSide)
+            | (ItemPart::Reason, Wanted::Reason)
+            | (ItemPart::LastReference, Wanted::LastReference) => true,
+            (ItemPart::Reference(position), Wanted::EntryIndex | Wanted::Branch)
+            | (ItemPart::Multiplier(position), Wanted::EntryMultiplier) => {
+                progress.part as usize == position
+            }
+            _ => false,
+        }
+    }
+}
+
+/// What is looked for in a text: the names of items of a kind by their indices, and a part of the
+/// last one of them. In the others that part is the last reference.
+#[derive(Clone, Copy)]
+pub(crate) struct Sought<'a> {
+    pub(crate) kind: ItemSort,
+    pub(crate) items: &'a [u32],
+    pub(crate) part: ItemPart,
+    /// A constraint, whose last use is looked for, too.
+    pub(crate) used: Option<u32>,
+}
+
+/// The place of an item's name, and of the part of it that is looked for; without one, that of the
+/// name again.
 #[derive(Clone, Copy)]
 pub(crate) struct ItemPlace {
     pub(crate) index: u32,
     pub(crate) name: Span,
-    pub(crate) last: Span,
+    pub(crate) part: Span,
 }
 
-/// The place of an item of a kind by its index.
+/// The places of items, and the last derivation that refers to a constraint, 0 if none does.
+#[derive(Drop)]
+pub(crate) struct Marks {
+    pub(crate) places: Vec<ItemPlace>,
+    pub(crate) user: u32,
+}
+
+impl Marks {
+    /// Finds what is looked for in a text.
+    pub(crate) fn find(alloc: Global, text: &[u8], sought: Sought<'_>) -> Result<Marks, AllocError>
+        ensures { IfOk result (AreMarksIn text.now sought.entry) }
+    {
+        let mut words = Words::of(text);
+        let mut progress = TextProgress::start();
+        let mut places = Vec::new(alloc);
+        let mut user = 0;
+        let end = greatest(sought.items);
+        while !is_past(sought, &progress, end) {
+            let Some(word) = words.next() else {
+                break;
+            };
+            mark(&mut places, sought, &progress, end, word.span())?;
+            user = later_user(user, sought.used, &progress, word.bytes);
+            progress.pass(word.bytes);
+        }
+        Ok(Marks { places, user })
+    }
+
+    /// The place of an item, if it was found.
+    pub(crate) fn place(&self, index: u32) -> Option<ItemPlace>
+        ensures { result ≡ place_found self.now.places.items index }
+    {
+        find_place(self.places.as_slice(), index).copied()
+    }
+}
+
+/// The place of an item, and of this part of it.
 pub(crate) fn find_item(
     subject: Subject<'_>,
     kind: ItemSort,
     index: u32,
+    part: ItemPart,
 ) -> Result<Option<ItemPlace>, AllocError>
-    ensures { IfOk result (IsMarkOf kind subject.entry.text.now index) }
+    ensures { IfOk result (IsItemPlace subject.entry.text.now kind index part) }
 {
-    let marks = find_items(subject.alloc, subject.text, kind, [index].as_slice())?;
-    Ok(mark_of(marks.as_slice(), index))
+    let items = [index];
+    let sought = Sought {
+        kind,
+        items: items.as_slice(),
+        part,
+        used: None,
+    };
+    let marks = Marks::find(subject.alloc, subject.text, sought)?;
+    let place = marks.place(index);
+    drop(marks);
+    Ok(place)
 }
 
-/// The places of items of a kind by their indices: up to the greatest one.
-pub(crate) fn find_items(
-    alloc: Global,
-    text: &[u8],
-    kind: ItemSort,
-    wanted: &[u32],
-) -> Result<Vec<ItemPlace>, AllocError>
-    ensures { IfOk result (λ marks. marks.items ≡ marks_in kind wanted.now text.now) }
+// A reference to the place of an item.
+fn find_place(places: &[ItemPlace], index: u32) -> Option<&ItemPlace>
+    ensures { option_copied result ≡ place_found places.now index }
 {
-    let mut words = Words::of(text);
-    let mut progress = TextProgress::start();
-    let mut marks = Vec::new(alloc);
-    let end = greatest(wanted);
-    while !is_past(kind, &progress, end) {
-        let Some(word) = words.next() else {
-            return Ok(marks);
-        };
-        mark(&mut marks, kind, wanted, &progress, word.span())?;
-        progress.pass(word.bytes);
-    }
-    Ok(marks)
+    places.iter().find(|place| place.index == index)
 }
 
-/// The mark of an item among others.
-pub(crate) fn mark_of(marks: &[ItemPlace], index: u32) -> Option<ItemPlace>
-    ensures { result ≡ place_found marks.now index }
-{
-    find_mark(marks, index).copied()
-}
-
-// A reference to it.
-fn find_mark(marks: &[ItemPlace], index: u32) -> Option<&ItemPlace>
-    ensures { option_copied result ≡ place_found marks.now index }
-{
-    marks.iter().find(|mark| mark.index == index)
-}
-
-// Marks a name, and the last reference in the item that was marked last, if the item is of this
-// kind and wanted.
+// Marks a name, and what is looked for in the item that was marked last, if the item is one of
+// those that are looked for.
 fn mark(
-    marks: &mut Vec<ItemPlace>,
-    kind: ItemSort,
-    wanted: &[u32],
+    places: &mut Vec<ItemPlace>,
+    sought: Sought<'_>,
     progress: &TextProgress,
+    end: u32,
     span: Span,
 ) -> Result<(), AllocError>
     ensures { OnOk result
-        (marks.new.items ≡ marked kind wanted.now progress.now span marks.old.items) }
+        (places.new.items ≡ marked sought.entry end progress.now span places.old.items) }
 {
-    if kind.is_of(progress.section) && wanted.contains(&progress.index()) {
-        match progress.wanted {
-            Wanted::Name => marks.push(ItemPlace {
-                index: progress.index(),
+    let index = progress.index();
+    if sought.kind.is_of(progress.section) && sought.items.contains(&index) {
+        let part = if index == end {
+            sought.part
+        } else {
+            ItemPart::LastReference
+        };
+        if let Wanted::Name | Wanted::Claim = progress.wanted {
+            places.push(ItemPlace {
+                index,
                 name: span,
-                last: span,
-            })?,
-            Wanted::LastReference => mark_last(marks, span),
-            _ => {}
+                part: span,
+            })?;
+        } else if part.is_at(progress) {
+            mark_part(places, span);
         }
     }
     Ok(())
 }
 
-// Marks the last reference in the item that was marked last.
-fn mark_last(marks: &mut Vec<ItemPlace>, span: Span)
-    ensures { marks.new.items ≡ with_last span marks.old.items }
+// Marks a part of the item that was marked last.
+fn mark_part(places: &mut Vec<ItemPlace>, span: Span)
+    ensures { places.new.items ≡ with_part span places.old.items }
 {
-    if let Some(mark) = marks.last_mut() {
-        mark.last = span;
+    if let Some(place) = places.last_mut() {
+        place.part = span;
     }
 }
 
-// Whether no item of this kind up to this index is to come.
-fn is_past(kind: ItemSort, progress: &TextProgress, end: u32) -> bool
-    ensures { result ≡ is_past kind progress.now end }
+// The last derivation that refers to a constraint, with the one at the next token.
+fn later_user(user: u32, used: Option<u32>, progress: &TextProgress, word: &[u8]) -> u32
+    ensures { result ≡ later_user used progress.now word.now user }
 {
-    kind.is_behind(progress.section)
-        || is_past_head(progress.wanted) && kind.is_of(progress.section) && progress.index() > end
+    match (used, progress.wanted) {
+        (Some(used), Wanted::EntryIndex | Wanted::Branch) if count_of(word) == used => {
+            progress.index()
+        }
+        _ => user,
+    }
+}
+
+// Whether nothing is to come that is looked for, if this is the last item.
+fn is_past(sought: Sought<'_>, progress: &TextProgress, end: u32) -> bool
+    ensures { result ≡ is_past sought.entry progress.now end }
+{
+    sought.used.is_none()
+        && (sought.kind.is_behind(progress.section)
+            || is_past_head(progress.wanted)
+                && sought.kind.is_of(progress.section)
+                && progress.index() > end)
 }
 
 // Whether this is a part of an item, or wanted behind the last one.

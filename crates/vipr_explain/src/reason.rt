@@ -2,8 +2,9 @@
 ghost use Rattle.std.specs.Prelude.{◌≤◌, IfOk, OnOk};
 ghost use Rattle.std.specs.List.{All};
 
-use crate::changes::Changes;
+use crate::changes::{Change, Changes};
 use crate::items::Items;
+use crate::marks::ItemPart;
 use crate::shown::PlacedItems;
 use crate::step::StepFault;
 use std::alloc::{AllocError, Global};
@@ -79,6 +80,51 @@ fn position_at_fault(fault: StepFault<'_>, entries: &[(u32, Frac)]) -> Option<us
             None
         }
         _ => None,
+    }
+}
+
+/// The part of a derivation that is at fault, or that a change with which it follows is of.
+pub(crate) fn part_at_fault(fault: StepFault<'_>, reason: &Reason, changes: &Changes) -> ItemPart {
+    match (changes.multiplier, changes.exchange) {
+        (Some(Change::Entry(position, ..)), _) => return ItemPart::Multiplier(position),
+        (None, Some(Change::Entry(position, ..))) => return ItemPart::Reference(position),
+        (None, Some(Change::Word)) => return ItemPart::Reason,
+        _ => {}
+    }
+    match (fault.what, reason.references()) {
+        (StepDetail::Entry(position), _) => ItemPart::Multiplier(*position as usize),
+        (StepDetail::Index(_), References::Entries(entries)) => {
+            match position_at_fault(fault, entries) {
+                Some(position) => ItemPart::Reference(position),
+                None => ItemPart::Name,
+            }
+        }
+        (StepDetail::Index(index), References::Branches { i1, l1, i2, .. }) => {
+            let is_assumption = fault.cause == cause::NOT_ASSUMPTION;
+            ItemPart::Reference(match *index {
+                index if index == i1 && !is_assumption => 0,
+                index if index == l1 => 1,
+                index if index == i2 && !is_assumption => 2,
+                _ => 3,
+            })
+        }
+        (StepDetail::Pair(..), _) => ItemPart::Reference(1),
+        (StepDetail::Sum(_) | StepDetail::Nothing, _) => ItemPart::Reason,
+        (StepDetail::Rows { computed, stated }, _) if computed.row.is_same(&stated.row) => {
+            ItemPart::RightHandSide
+        }
+        _ => ItemPart::Name,
+    }
+}
+
+/// What is said below this part of a derivation.
+pub(crate) fn label_of(part: ItemPart) -> &'static str {
+    match part {
+        ItemPart::RightHandSide => "this right-hand side",
+        ItemPart::Reference(_) => "this index",
+        ItemPart::Multiplier(_) => "this multiplier",
+        ItemPart::Reason => "this reason",
+        _ => "this derivation",
     }
 }
 

@@ -12,12 +12,12 @@ ghost use Rattle.vipr_explain.specs.Values.{AreListedValues, AreValues, IsExchan
 
 use crate::excerpt::KnownPlace;
 use crate::items::{open_problem, read_solution};
-use crate::marks::{ItemPlace, ItemSort, find_item};
+use crate::marks::{ItemPart, ItemPlace, ItemSort, find_item};
 use crate::shown::write_line;
 use crate::text::{Reread, Subject};
 use std::alloc::AllocError;
 use vipr_bytes::Bytes;
-use vipr_cert::{Claim, Name, Named, Problem};
+use vipr_cert::{Claim, Goal, Name, Named, Problem};
 use vipr_check::Detail;
 use vipr_frac::Frac;
 use vipr_linear::{Constraint, Row, Sense, Solution, compares, value_at};
@@ -56,14 +56,14 @@ impl<'a> RefusedSolution<'a> {
         ensures broken { IfOk result
             (λ s. IsBroken subject.entry.text.now detail.now s.broken) }
     {
-        let mark = find_item(subject, ItemSort::Solutions, number)?;
+        let place = find_item(subject, ItemSort::Solutions, number, ItemPart::Name)?;
         let broken = broken_place(subject, detail)?;
         let (problem, solution) = read_solution(subject.alloc, subject.text, number)?;
         Ok(RefusedSolution {
             problem,
             solution,
             number,
-            place: mark.map(|mark| KnownPlace::of(subject.text, mark.name)),
+            place: place.map(|place| KnownPlace::of(subject.text, place.name)),
             broken,
         })
     }
@@ -108,7 +108,9 @@ fn broken_place(subject: Subject<'_>, detail: &Detail) -> Result<Option<ItemPlac
     ensures { IfOk result (IsBroken subject.entry.text.now detail.now) }
 {
     match detail {
-        Detail::Breaks { constraint, .. } => find_item(subject, ItemSort::Constraints, *constraint),
+        Detail::Breaks { constraint, .. } => {
+            find_item(subject, ItemSort::Constraints, *constraint, ItemPart::Name)
+        }
         _ => Ok(None),
     }
 }
@@ -224,6 +226,7 @@ pub(crate) struct ListedValues {
     best: Option<Frac>,
     /// Whether the lower bound of the claim is above the upper one.
     is_exchanged: bool,
+    sense: Goal,
 }
 
 impl ListedValues {
@@ -238,6 +241,7 @@ impl ListedValues {
             first: Vec::new(subject.alloc),
             best: None,
             is_exchanged: is_exchanged(problem.claim()),
+            sense: problem.sense(),
         };
         let added = known.add_all(subject, &problem, &mut solutions);
         drop(solutions);
@@ -245,12 +249,29 @@ impl ListedValues {
         added.and(Ok(known))
     }
 
-    /// Writes the page of a primal bound that none of them attains.
-    pub(crate) fn write(&self, page: &mut Page, bound: Frac) {
+    /// The part of the claim that they have to attain.
+    pub(crate) fn part(&self) -> ItemPart {
+        match self.sense {
+            Goal::Min => ItemPart::UpperBound,
+            Goal::Max => ItemPart::LowerBound,
+        }
+    }
+
+    /// Writes the page of a primal bound that none of them attains, which is at this place.
+    pub(crate) fn write(
+        &self,
+        page: &mut Page,
+        bound: Frac,
+        place: Option<KnownPlace<'_>>,
+        file: &[u8],
+    ) {
+        page.put("error: no listed solution attains the primal bound\n");
+        if let Some(place) = place {
+            place.write(page, file, "the primal bound");
+        }
         write!(
             page,
-            "error: no listed solution attains the primal bound\n  \
-             wanted: a solution whose objective is {bound} or better\n"
+            "  wanted: a solution whose objective is {bound} or better\n"
         );
         for known in &self.first {
             page.put("  ");

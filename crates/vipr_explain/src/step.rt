@@ -2,22 +2,26 @@
 ghost use Rattle.std.specs.Prelude.{◌≡◌, ◌↔◌, ◌∷◌, [], IfErr, IfOk, IsTrue};
 ghost use Rattle.std.specs.List.{All};
 ghost use Rattle.vipr_spec.specs.Fraction.{neg_ℚ};
+ghost use Rattle.vipr_spec.specs.Certificate.{Problem as ProblemMeant};
 ghost use Rattle.vipr_rules.specs.Profile.{profile_of};
 ghost use Rattle.vipr_scan.specs.declared.error.TextError.TheVariants.{Memory};
 ghost use Rattle.vipr_explain.specs.Changes.{AreChanges};
-ghost use Rattle.vipr_explain.specs.Found.{AreFoundItems, Because, Missed, head_read, text_rest};
+ghost use Rattle.vipr_explain.specs.Found.{AreFoundAs, Because, text_rest};
+ghost use Rattle.vipr_explain.specs.Marked.{AreMarksIn};
 ghost use Rattle.vipr_explain.specs.Refused.{AreFacts, AreNamedBy, IsRefusedStep};
-ghost use Rattle.vipr_explain.specs.Refused.{LacksStep};
+ghost use Rattle.vipr_explain.specs.Refused.{LacksStep, used_by};
+ghost use Rattle.vipr_explain.specs.declared.marks.Sought.{Sought as SoughtMeant};
 
 use crate::changes::Changes;
 use crate::drops::LastUse;
 use crate::excerpt::KnownPlace;
-use crate::items::{Items, read_items};
-use crate::marks::mark_of;
-use crate::reason::{step_indices, write_reason, write_sources};
-use crate::shown::PlacedItems;
+use crate::items::{Items, Numbered, derivation_among, read_items};
+use crate::marks::{ItemSort, Sought};
+use crate::reason::{label_of, part_at_fault, step_indices, write_reason, write_sources};
+use crate::shown::{PlacedItems, part_place};
 use crate::solution::PAST_LIMIT;
 use crate::text::{Reread, Subject};
+use std::alloc::AllocError;
 use vipr_cert::{Problem, Reason, References};
 use vipr_check::{StepDetail, cause};
 use vipr_frac::Frac;
@@ -45,7 +49,7 @@ pub(crate) struct StepFault<'a> {
 #[derive(Drop)]
 pub(crate) struct RefusedStep<'a> {
     /// The derivation alone, by its index.
-    own: Items,
+    own: Vec<Numbered>,
     known: PlacedItems,
     place: Option<KnownPlace<'a>>,
     facts: StepFacts<'a>,
@@ -76,15 +80,17 @@ impl<'a> RefusedStep<'a> {
         ensures missing { IfErr result
             (λ m. Because m (LacksStep subject.entry.text.now fault.entry.index)) }
     {
-        let own = read_items(subject.alloc, subject.text, [fault.index].as_slice())?;
-        let changes = changes_for(subject, fault)?;
-        match read_named(subject, fault, &own, &changes) {
-            Ok((known, facts)) => Ok(RefusedStep {
+        let indices = [fault.index];
+        let items = read_items(subject.alloc, subject.text, indices.as_slice())?;
+        let Items {
+            problem,
+            derivations: own,
+        } = items;
+        drop(problem);
+        match find_behind(subject, fault, own.as_slice()) {
+            Ok((known, facts, changes)) => Ok(RefusedStep {
                 own,
-                place: mark_of(known.marks.as_slice(), fault.index).map(|mark| KnownPlace::of(
-                    subject.text,
-                    mark.name,
-                )),
+                place: part_place(subject.text, &known.marks, fault.index),
                 known,
                 facts,
                 changes,
@@ -99,7 +105,7 @@ impl<'a> RefusedStep<'a> {
 
     /// Writes its page.
     pub(crate) fn write(&self, page: &mut Page, fault: StepFault<'_>, file: &[u8]) {
-        let Some(own) = self.own.derivation(fault.index) else {
+        let Some(own) = derivation_among(self.own.as_slice(), fault.index) else {
             return;
         };
         let index = fault.index;
@@ -111,7 +117,8 @@ impl<'a> RefusedStep<'a> {
         }
         page.put(behind);
         if let Some(place) = self.place {
-            place.write(page, file, "this derivation");
+            let part = part_at_fault(fault, &own.reason, &self.changes);
+            place.write(page, file, label_of(part));
         }
         let problem = &self.known.items.problem;
         write_facts(page, self, &own.reason, fault);
@@ -152,30 +159,48 @@ fn changes_for(subject: Subject<'_>, fault: StepFault<'_>) -> Reread<Changes>
     }
 }
 
-// Reads what a derivation names, and finds what is behind its fault.
-fn read_named<'a>(
+// Finds the constraints that a derivation names, what is behind its fault, and changes of it.
+fn find_behind<'a>(
     subject: Subject<'a>,
     fault: StepFault<'_>,
-    own: &Items,
-    changes: &Changes,
-) -> Reread<(PlacedItems, StepFacts<'a>)>
-    ensures found { IfOk result
-        (AreNamedBy subject.entry.text.now own.now fault.entry.index fault.entry.what.now) }
-    ensures missing { AreFoundItems (fault.entry.index ∷ []) (text_rest subject.entry.text.now)
-        own.now
+    own: &[Numbered],
+) -> Reread<(PlacedItems, StepFacts<'a>, Changes)>
+    ensures named { IfOk result (λ x. AreNamedBy subject.entry.text.now own.now
+        fault.entry.index fault.entry.what.now (x.0, x.1)) }
+    ensures changes { IfOk result (λ x. AreChanges (profile_of subject.entry.profile)
+        subject.entry.text.now fault.entry.index x.2) }
+    ensures missing { (p : ProblemMeant)
+        → AreFoundAs (fault.entry.index ∷ []) (text_rest subject.entry.text.now) p own.now
         → IfErr result (λ m. Because m (LacksStep subject.entry.text.now fault.entry.index)) }
 {
-    let Some(step) = own.derivation(fault.index) else {
+    let Some(step) = derivation_among(own, fault.index) else {
         return Err(TextError::Read);
     };
-    let wanted = step_indices(subject.alloc, fault, &step.reason, changes)?;
-    let known = PlacedItems::read(subject, wanted.as_slice())?;
-    match StepFacts::find(subject, fault, &known, &step.reason) {
-        Ok(facts) => Ok((known, facts)),
+    let changes = changes_for(subject, fault)?;
+    let wanted = step_indices(subject.alloc, fault, &step.reason, &changes)?;
+    let sought = Sought {
+        kind: ItemSort::Constraints,
+        items: wanted.as_slice(),
+        part: part_at_fault(fault, &step.reason, &changes),
+        used: used_by(fault),
+    };
+    let known = PlacedItems::read_sought(subject, sought)?;
+    match StepFacts::find(subject, fault, &known) {
+        Ok(facts) => Ok((known, facts, changes)),
         Err(missing) => {
             drop(known);
-            Err(missing)
+            Err(missing.into())
         }
+    }
+}
+
+// The constraint whose last use is looked for, if the cause is that it was dropped.
+fn used_by(fault: StepFault<'_>) -> Option<u32>
+    ensures { result ≡ used_by fault.entry.cause fault.entry.what.now }
+{
+    match fault.what {
+        StepDetail::Index(index) if fault.cause == cause::DROPPED => Some(*index),
+        _ => None,
     }
 }
 
@@ -185,12 +210,11 @@ impl<'a> StepFacts<'a> {
         subject: Subject<'a>,
         fault: StepFault<'_>,
         known: &PlacedItems,
-        reason: &Reason,
-    ) -> Reread<StepFacts<'a>>
-        ensures found { IfOk result (AreFacts subject.entry.text.now
-            known.now.items.problem.integers reason.now fault.entry.index fault.entry.what.now) }
-        ensures missing { IfErr result
-            (λ m. Missed m (head_read (text_rest subject.entry.text.now))) }
+    ) -> Result<StepFacts<'a>, AllocError>
+        ensures { (s : SoughtMeant) → AreMarksIn subject.entry.text.now s known.now.marks
+            → s.used ≡ used_by fault.entry.cause fault.entry.what.now
+            → IfOk result (AreFacts subject.entry.text.now
+            known.now.items.problem.integers fault.entry.what.now) }
     {
         let alloc = subject.alloc;
         let ints = known.items.problem.ints();
@@ -208,7 +232,7 @@ impl<'a> StepFacts<'a> {
                 Ok(StepFacts::Pair(faults, covers(first, second, ints)))
             }
             StepDetail::Index(index) if fault.cause == cause::DROPPED => {
-                let dropped = LastUse::find(subject, *index, fault.index)?;
+                let dropped = LastUse::of(subject.text, &known.marks, *index);
                 Ok(StepFacts::Dropped(dropped))
             }
             _ => Ok(StepFacts::Nothing),

@@ -127,12 +127,14 @@ impl TextProgress {
         }
     }
 
-    /// The index of the item among all constraints, if it is a derivation; else its position.
+    /// The index of the item among all constraints, if it is a derivation; 0 for the claim; else
+    /// the item's position.
     pub(crate) fn index(&self) -> u32
         ensures { result ≡ index_of self.now }
     {
         match self.section {
             Section::Derivations => self.constraints.saturating_add(self.item),
+            Section::Claim => 0,
             _ => self.item,
         }
     }
@@ -261,8 +263,8 @@ fn first_of_reason(word: &[u8]) -> Wanted
     }
 }
 
-// The number that digits spell; 0 for other bytes, as `OBJ`.
-fn count_of(word: &[u8]) -> u32
+/// The number that digits spell; 0 for other bytes, as `OBJ`.
+pub(crate) fn count_of(word: &[u8]) -> u32
     ensures { result ≡ count_spelled word.now }
 {
     let mut count: u32 = 0;

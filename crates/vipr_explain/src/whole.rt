@@ -1,17 +1,21 @@
 //! The whole explanation of a verdict: what is found for it, and how that is shown.
-ghost use Rattle.std.specs.Prelude.{IfErr};
+ghost use Rattle.std.specs.Prelude.{IfErr, IfOk};
 ghost use Rattle.vipr_rules.specs.Profile.{profile_of};
 ghost use Rattle.vipr_explain.specs.Found.{Because};
+ghost use Rattle.vipr_explain.specs.Findings.{ExplainsVerdict, IsClaimPlace};
 ghost use Rattle.vipr_explain.specs.Refused.{LacksItem};
 
+use crate::excerpt::KnownPlace;
 use crate::goal::{ProvedClaim, UnprovedClaim};
+use crate::marks::{ItemPart, ItemSort, find_item};
 use crate::solution::{ListedValues, RefusedSolution};
 use crate::step::{RefusedStep, StepFault};
 use crate::syntax::TextFault;
 use crate::text::{Reread, Subject};
-use std::alloc::Global;
+use std::alloc::{AllocError, Global};
 use vipr_check::{Detail, Place, Report, Verdict};
 use vipr_frac::Frac;
+use vipr_linear::{Constraint, Sense};
 use vipr_page::Page;
 use vipr_rules::Profile;
 use vipr_scan::TextError;
@@ -24,9 +28,10 @@ enum Findings<'a> {
     Text(TextFault<'a>, u8),
     Solution(RefusedSolution<'a>, &'a Detail),
     Step(RefusedStep<'a>, StepFault<'a>),
-    NoProof(UnprovedClaim),
-    /// And the bound.
-    NoPrimal(ListedValues, Frac),
+    /// And the place of the dual bound.
+    NoProof(UnprovedClaim, Option<KnownPlace<'a>>),
+    /// And the primal bound, and its place.
+    NoPrimal(ListedValues, Frac, Option<KnownPlace<'a>>),
     /// The detail is of another verdict.
     Nothing,
 }
@@ -73,7 +78,9 @@ pub fn page_for(
 
 // Finds what explains a verdict.
 fn find<'a>(subject: Subject<'a>, verdict: &'a Verdict, detail: &'a Detail) -> Reread<Findings<'a>>
-    ensures { IfErr result (λ m. Because m
+    ensures answers { IfOk result (ExplainsVerdict (profile_of subject.entry.profile)
+        subject.entry.text.now verdict.now detail.now) }
+    ensures missing { IfErr result (λ m. Because m
         (LacksItem (profile_of subject.entry.profile) subject.entry.text.now verdict.now)) }
 {
     let refusal = match verdict {
@@ -95,12 +102,43 @@ fn find<'a>(subject: Subject<'a>, verdict: &'a Verdict, detail: &'a Detail) -> R
             let fault = StepFault { cause, index, what };
             Ok(Findings::Step(RefusedStep::find(subject, fault)?, fault))
         }
-        (Place::End, Detail::NoProof(_)) => Ok(Findings::NoProof(UnprovedClaim::find(subject)?)),
+        (Place::End, Detail::NoProof(needed)) => {
+            let place = claim_place(subject, dual_part(needed))?;
+            Ok(Findings::NoProof(UnprovedClaim::find(subject)?, place))
+        }
         (Place::End, Detail::NoPrimal(bound)) => {
-            Ok(Findings::NoPrimal(ListedValues::find(subject)?, *bound))
+            let values = ListedValues::find(subject)?;
+            match claim_place(subject, values.part()) {
+                Ok(place) => Ok(Findings::NoPrimal(values, *bound, place)),
+                Err(error) => {
+                    drop(values);
+                    Err(error.into())
+                }
+            }
         }
         _ => Ok(Findings::Nothing),
     }
+}
+
+// The part of the claim that is to be proved, if a constraint has to dominate this one, or has to
+// be absurd.
+fn dual_part(needed: &Option<Constraint>) -> ItemPart {
+    match needed {
+        Some(needed) if needed.sense == Sense::L => ItemPart::UpperBound,
+        Some(_) => ItemPart::LowerBound,
+        None => ItemPart::Name,
+    }
+}
+
+// The place of a part of the claim.
+fn claim_place<'a>(
+    subject: Subject<'a>,
+    part: ItemPart,
+) -> Result<Option<KnownPlace<'a>>, AllocError>
+    ensures { IfOk result (IsClaimPlace subject.entry.text.now part) }
+{
+    let place = find_item(subject, ItemSort::Claim, 0, part)?;
+    Ok(place.map(|place| KnownPlace::of(subject.text, place.part)))
 }
 
 // Writes what was found.
@@ -110,8 +148,8 @@ fn write_findings(page: &mut Page, known: &Findings<'_>, file: &[u8]) {
         Findings::Text(fault, cause) => fault.write(page, *cause, file),
         Findings::Solution(known, detail) => known.write(page, *detail, file),
         Findings::Step(step, fault) => step.write(page, *fault, file),
-        Findings::NoProof(known) => known.write(page),
-        Findings::NoPrimal(known, bound) => known.write(page, *bound),
+        Findings::NoProof(known, place) => known.write(page, *place, file),
+        Findings::NoPrimal(known, bound, place) => known.write(page, *bound, *place, file),
         Findings::Nothing => {}
     }
 }
