@@ -169,6 +169,10 @@ def calls(texts):
                 else:
                     line = f'kept {got.kept} removed {got.removed} peak {got.peak_before} {got.peak_after}\n'
                     check((got.text, line.encode()) == (out, fault), f'tighten: {line}, {fault}')
+    page = run([PROGRAM, 'explain', '--long'], b'VER 1.0 VAX').stdout
+    for name, shown in (('copy.vipr',) * 2, ('another input!',) * 2, ('a\tname\x1b', 'a name\\x1b'), ('n' * 5_000,) * 2):
+        wanted = page.replace(b'--> standard input:', f'--> {shown}:'.encode())
+        check(vipr.explain_long(b'VER 1.0 VAX', name=name) == wanted != page, f'the page of {name!r:.40}')
     for text in (b'', b'\0', *EXAMPLES.values()):
         check(vipr.digest(text) == hashlib.sha256(text).hexdigest(), f'the digest is {vipr.digest(text)}')
     check(vipr.version() in run([PROGRAM, '--version']).stdout.decode(), 'the versions differ')
