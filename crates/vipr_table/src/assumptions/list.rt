@@ -57,12 +57,19 @@ impl Front {
         front_of(self.count, &self.items)
     }
 
-    // The first so many indices of its list, which both share.
-    fn shared(&self, count: u32) -> Result<Front, AllocError>
-        ensures { IfOk result (λ front. front_items front ≡ take count self.now.items.items) }
+    // The first so many indices of a list, which it shares.
+    fn sharing(count: u32, items: &Shared<Vec<u32>>) -> Result<Front, AllocError>
+        ensures { IfOk result (λ front. front_items front ≡ take count items.now.items) }
     {
-        let items = self.items.clone()?;
+        let items = items.clone()?;
         Ok(Front { count, items })
+    }
+
+    // A copy, which shares the list.
+    fn try_copy(&self) -> Result<Front, AllocError>
+        ensures { IfOk result (λ copy. front_items copy ≡ front_items self.now) }
+    {
+        Front::sharing(self.count, &self.items)
     }
 
     // Whether both are one. `true` says that they are equal.
@@ -268,26 +275,15 @@ impl IndexList {
     {
         let first = match self {
             IndexList::Longer(lists) => {
-                let Longer {
-                    first,
-                    second,
-                    third,
-                    ..
-                } = lists.as_ref();
-                return Ok((
-                    first.shared(first.count)?,
-                    second.shared(second.count)?,
-                    third.shared(third.count)?,
-                ));
+                let lists = lists.as_ref();
+                let (first, second) = (lists.first.try_copy()?, lists.second.try_copy()?);
+                return Ok((first, second, lists.third.try_copy()?));
             }
-            IndexList::Many(count, items) => Front {
-                count: *count,
-                items: items.clone()?,
-            },
+            IndexList::Many(count, items) => Front::sharing(*count, items)?,
             _ => Front::of(alloc, self.first().to_vec(alloc)?)?,
         };
-        let (second, third) = (first.shared(0)?, first.shared(0)?);
-        Ok((first, second, third))
+        let none = Front::sharing(0, &first.items)?;
+        Ok((first, none.try_copy()?, none))
     }
 
     /// Both lists together, shared, if each has more than one index and they aren't longer.
@@ -301,18 +297,10 @@ impl IndexList {
         let (IndexList::Many(count, items), IndexList::Many(other, others)) = (self, other) else {
             return Ok(None);
         };
-        let first = Front {
-            count: *count,
-            items: items.clone()?,
-        };
-        let second = Front {
-            count: *other,
-            items: others.clone()?,
-        };
         let lists = Longer {
-            third: first.shared(0)?,
-            first,
-            second,
+            first: Front::sharing(*count, items)?,
+            second: Front::sharing(*other, others)?,
+            third: Front::sharing(0, items)?,
             more: Vec::new(alloc),
         };
         Ok(Some(IndexList::Longer(Shared::new(alloc, lists)?)))
