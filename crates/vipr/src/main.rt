@@ -8,7 +8,8 @@ use std::io::{ErrorKind, Write};
 use std::os::fd::AsFd;
 use std::process::ExitCode;
 use std::{env, io};
-use vipr_command::run;
+use vipr_bytes::{FromRead, FromWrite};
+use vipr_command::{SystemFiles, run};
 
 fn main(rt: HostRuntime) -> ExitCode {
     // Kept to the end, so that no file that is opened is one of the closed streams.
@@ -56,10 +57,11 @@ fn on_arguments(rt: &HostRuntime) -> io::Result<u8>
     let arguments: Vec<String> = env::args(rt)?.collect(alloc)?;
     let words: Vec<&str> = arguments.iter().map(|word| word.as_str()).collect(alloc)?;
     Ok(run(
-        rt,
+        alloc,
+        &mut SystemFiles { rt },
         words.as_slice(),
-        rt.stdin(),
-        &mut rt.stdout(),
-        &mut rt.stderr(),
+        FromRead::new(rt.stdin()),
+        &mut FromWrite::new(rt.stdout()),
+        &mut FromWrite::new(rt.stderr()),
     ))
 }

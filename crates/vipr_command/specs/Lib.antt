@@ -3,5 +3,7 @@ pub mod Text
 pub mod Output
 pub mod Folder
 pub mod Show
+pub mod Known
+pub mod Answer
 pub mod Tighten
 pub mod Run

@@ -1,8 +1,10 @@
--- What a writer took of what was to be printed.
-use Rattle.std.specs.Prelude.{◌≡◌, ℕ, suc, List, Option, Some, IfSome, Result, Ok, Err}
+-- What a writer took of what was to be printed, and how a command ends.
+use Rattle.std.specs.Prelude.{◌≡◌, ℕ, suc, List, ◌++◌, Option, Some, IfSome, Result, Ok, Err, codes}
 use Rattle.vipr_bytes.specs.Output.{Output}
 use Rattle.vipr_bytes.specs.Written.{Wrote}
 use Rattle.vipr_bytes.specs.declared.write.WriteFailed.{WriteFailed}
+use Rattle.vipr_command.specs.Text.{fault_text}
+use Rattle.vipr_command.specs.declared.ending.Ending.{Ending}
 use Rattle.vipr_command.specs.declared.fault.CommandFault.{CommandFault}
 use Rattle.vipr_command.specs.declared.fault.CommandFault.TheVariants.{Memory, Read, Write}
 
@@ -19,22 +21,9 @@ after_first n = record { accepted = n }
 abbrev pub Stays : Option Output → Option Output → Type 0
 Stays old new = IfSome old (λ o. new ≡ Some o)
 
--- the text in question, if it is known
-abbrev pub IsText : Option (List ℕ) → List ℕ → Type 0
-IsText known text = IfSome known (λ t. text ≡ t)
-
 -- the text was handed to it, with some result
 abbrev pub TellsLine : Option Output → Option Output → List ℕ → Type 0
 TellsLine old new text = (r : Result (Unit {0}) WriteFailed) × Took old new text r
-
--- Ok: the text was accepted whole. Write: its first n bytes were, and no more. Memory: nothing was.
-abbrev pub Prints : Option (List ℕ) → Option Output → Option Output → Result (Unit {0}) CommandFault
-    → Type 0
-Prints known old new (Ok u) = (text : List ℕ) × IsText known text × Took old new text (Ok tt)
-Prints known old new (Err Read) = ⊥
-Prints known old new (Err Memory) = Stays old new
-Prints known old new (Err (Write n)) = (text : List ℕ) × IsText known text
-    × Took old new text (Err (after_first n))
 
 -- So many writes had failed or accepted nothing before, if that is known, and so many have now:
 -- one more if a failed write is answered, and else no more.
@@ -43,3 +32,12 @@ CountsWriteFaults old new (Ok x) = IfSome old (λ n. new ≡ Some n)
 CountsWriteFaults old new (Err Read) = IfSome old (λ n. new ≡ Some n)
 CountsWriteFaults old new (Err Memory) = IfSome old (λ n. new ≡ Some n)
 CountsWriteFaults old new (Err (Write k)) = IfSome old (λ n. new ≡ Some (suc n))
+
+-- this is said on standard error, and this is the status
+abbrev pub IsEnding : List ℕ → ℕ → Ending → Type 0
+IsEnding line status e = (e.line.bytes ≡ line) × (e.status ≡ status)
+
+-- what a command ends with was said, a fault too, and its status is the answer: 3 for each fault
+abbrev pub EndsRun : Result Ending CommandFault → Option Output → Option Output → ℕ → Type 0
+EndsRun (Ok e) old new status = TellsLine old new e.line.bytes × (status ≡ e.status)
+EndsRun (Err f) old new status = TellsLine old new (fault_text f ++ codes "\n") × (status ≡ 3)

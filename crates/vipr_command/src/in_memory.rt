@@ -1,18 +1,16 @@
-//! Answers for a text that is read into memory: with a page for people, or with its digest.
-ghost use Rattle.std.specs.Prelude.{◌≡◌, ◌<◌, ◌^◌, [], Some, None, true, false};
+//! AnswersTask for a text that is read into memory: with a page for people, or with its digest.
+ghost use Rattle.std.specs.Prelude.{◌≡◌, ◌<◌, ◌^◌, Some, None, true, false};
 ghost use Rattle.std.specs.Prelude.{length, IfOk, IfSome, string_bytes};
 ghost use Rattle.vipr_spec.specs.Input.{Input};
 ghost use Rattle.vipr_rules.specs.Profile.{profile_of};
-ghost use Rattle.vipr_command.specs.Run.{HasRead, IsPrinted, OfInput, PrintsCheck, PrintsExplain};
-ghost use Rattle.vipr_command.specs.Run.{PrintsInMemory, PrintsWhole, ReadsOn, input_of, sum_asked};
-ghost use Rattle.vipr_command.specs.Text.{answer_lines};
+ghost use Rattle.vipr_command.specs.Answer.{AnswersWhole, HasRead, IsPrinted, ReadsOn, input_of};
+ghost use Rattle.vipr_command.specs.Text.{answer_lines, sum_asked};
 
-use crate::check::print_verdict;
-use crate::explain::print_explanation;
+use crate::answer::Printed;
 use crate::fault::CommandFault;
 use crate::request::{Job, Task};
 use std::alloc::{AllocError, Global};
-use vipr_bytes::{BUFFER_BYTES, Bytes, Failed, Sink, Source, write_bytes};
+use vipr_bytes::{BUFFER_BYTES, Bytes, Failed, Source};
 use vipr_check::{Detail, Explanation, Verdict, explain_in};
 use vipr_explain::page_for;
 use vipr_page::{Page, with_page};
@@ -20,7 +18,7 @@ use vipr_text::hex_digest;
 
 /// What a source gave: its bytes, and whether a read failed behind them.
 #[derive(Drop)]
-struct ReadText {
+pub(crate) struct ReadText {
     bytes: Vec<u8>,
     has_failed: bool,
 }
@@ -45,57 +43,8 @@ impl Source for TextReader<'_> {
     }
 }
 
-/// Prints the verdict on a certificate, with the digest of its text if the job asks for that.
-pub(crate) fn check_job<R: Source + Drop, O: Sink>(
-    alloc: Global,
-    job: &Job<'_>,
-    source: R,
-    out: &mut O,
-) -> Result<u8, CommandFault>
-    ensures { OfInput (R.input source) (λ k. PrintsCheck (profile_of job.now.profile)
-        job.now.is_long job.now.has_sum k (O.output out.old) (O.output out.new) result) }
-{
-    if job.has_sum {
-        return print_in_memory(alloc, Task::Check, job, source, out);
-    }
-    print_verdict(alloc, job.profile, source, out)
-}
-
-/// Explains a certificate, at length and with the digest of its text if the job asks for that.
-pub(crate) fn explain_job<R: Source + Drop, O: Sink>(
-    alloc: Global,
-    job: &Job<'_>,
-    source: R,
-    out: &mut O,
-) -> Result<u8, CommandFault>
-    ensures { OfInput (R.input source) (λ k. PrintsExplain (profile_of job.now.profile)
-        job.now.is_long job.now.has_sum k (O.output out.old) (O.output out.new) result) }
-{
-    if job.is_long || job.has_sum {
-        return print_in_memory(alloc, Task::Explain, job, source, out);
-    }
-    print_explanation(alloc, job.profile, source, out)
-}
-
-/// Prints the answer for a certificate, whose whole text is read into memory for that. Answers the
-/// exit status, the verdict's.
-#[inline(never)]
-fn print_in_memory<R: Source + Drop, O: Sink>(
-    alloc: Global,
-    task: Task,
-    job: &Job<'_>,
-    mut source: R,
-    out: &mut O,
-) -> Result<u8, CommandFault>
-    ensures { OfInput (R.input source) (λ k. PrintsInMemory task (profile_of job.now.profile)
-        job.now.is_long job.now.has_sum k (O.output out.old) (O.output out.new) result) }
-{
-    let text = read_all(alloc, &mut source)?;
-    print_answer(alloc, task, job, &text, out)
-}
-
-// Reads all that a source gives.
-fn read_all<R: Source>(alloc: Global, source: &mut R) -> Result<ReadText, AllocError>
+/// Reads all that a source gives.
+pub(crate) fn read_all<R: Source>(alloc: Global, source: &mut R) -> Result<ReadText, AllocError>
     ensures { IfSome (R.input source.old)
         (λ i. IfOk result (λ t. input_of t.bytes.items t.has_failed ≡ i)) }
 {
@@ -110,26 +59,6 @@ fn read_all<R: Source>(alloc: Global, source: &mut R) -> Result<ReadText, AllocE
             return Ok(text);
         }
     }
-}
-
-// Checks a text in memory, and prints the answer.
-fn print_answer<O: Sink>(
-    alloc: Global,
-    task: Task,
-    job: &Job<'_>,
-    text: &ReadText,
-    out: &mut O,
-) -> Result<u8, CommandFault>
-    ensures { PrintsWhole task (profile_of job.now.profile) job.now.is_long job.now.has_sum
-        (input_of text.now.bytes.items text.now.has_failed) (O.output out.old) (O.output out.new)
-        result }
-{
-    let (verdict, detail) = explain_in(alloc, job.profile, text.reader())?;
-    let printed = text.answer(alloc, task, job, &verdict, &detail);
-    drop(detail);
-    let printed = printed?;
-    write_bytes(out, printed.as_slice())?;
-    Ok(verdict.status())
 }
 
 impl ReadText {
@@ -169,21 +98,35 @@ impl ReadText {
         }
     }
 
-    // What is printed of the answer for it.
-    fn answer(
+    /// The answer for it: behind the lines of the job's task a page, if the job is long, and the
+    /// line of the digest, if the job has a sum.
+    pub(crate) fn answer(&self, alloc: Global, job: &Job<'_>) -> Result<Printed, CommandFault>
+        ensures { AnswersWhole job.now.command (profile_of job.now.profile) job.now.is_long
+            job.now.has_sum (input_of self.now.bytes.items self.now.has_failed) result }
+    {
+        let (verdict, detail) = explain_in(alloc, job.profile, self.reader())?;
+        let text = self.text(alloc, job, &verdict, &detail);
+        drop(detail);
+        Ok(Printed {
+            text: text?,
+            status: verdict.status(),
+        })
+    }
+
+    // What is printed of a verdict on it.
+    fn text(
         &self,
         alloc: Global,
-        task: Task,
         job: &Job<'_>,
         verdict: &Verdict,
         detail: &Detail,
     ) -> Result<Vec<u8>, AllocError>
-        ensures { IfOk result (λ text. IsPrinted task job.now.is_long job.now.has_sum
+        ensures { IfOk result (λ text. IsPrinted job.now.command job.now.is_long job.now.has_sum
             (input_of self.now.bytes.items self.now.has_failed) verdict.now detail.now
             text.items) }
     {
         let sum = self.sum(alloc, job.has_sum)?;
-        let lines = lines(alloc, task, verdict, detail)?;
+        let lines = lines(alloc, job.command, verdict, detail)?;
         let mut text = with_page(lines.into_bytes(), self.page(alloc, job, verdict, detail));
         text.extend_from_slice(sum.as_slice())?;
         Ok(text)
@@ -225,8 +168,8 @@ impl ReadText {
     }
 }
 
-// The lines of the verdict, with those of the detail for a task that explains.
-fn lines(
+/// The lines of the verdict, with those of the detail for a task that explains.
+pub(crate) fn lines(
     alloc: Global,
     task: Task,
     verdict: &Verdict,

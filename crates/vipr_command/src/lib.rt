@@ -3,28 +3,25 @@
 //! [`run`] is the whole program but for where its streams come from.
 #![tactic(auto)]
 
+mod answer;
 mod args;
-mod check;
 mod command;
-mod explain;
+mod ending;
 mod fault;
 mod folder;
 mod host;
 mod in_memory;
 mod line;
-mod output;
 mod request;
 mod show;
 mod system;
 mod tighten;
 
+pub use answer::{Printed, answer_to};
 pub use args::job;
-pub use check::print_verdict;
-pub use command::{run, run_over};
-pub use explain::print_explanation;
+pub use command::run;
 pub use fault::CommandFault;
 pub use folder::{Folder, OneFile};
 pub use host::Host;
 pub use request::{Job, Task};
-pub use show::print_text;
-pub use tighten::write_tightened;
+pub use system::SystemFiles;

@@ -4,7 +4,7 @@ ghost use Rattle.arrayvec.specs.ArrayString.{array_string_len};
 ghost use Rattle.vipr_check.specs.Text.{place_text, refusal_text};
 ghost use Rattle.vipr_tighten.specs.Text.{outcome_text};
 ghost use Rattle.vipr_command.specs.Output.{TellsLine};
-ghost use Rattle.vipr_command.specs.Run.{fault_text};
+ghost use Rattle.vipr_command.specs.Text.{fault_text};
 
 use crate::fault::CommandFault;
 use arrayvec::ArrayString;

@@ -1,11 +1,12 @@
 //! Shows a certificate: writes its text in a form.
 ghost use Rattle.vipr_bytes.specs.Known.{IfWhole};
+ghost use Rattle.vipr_command.specs.Known.{OfInput};
 ghost use Rattle.vipr_command.specs.Output.{CountsWriteFaults};
-ghost use Rattle.vipr_command.specs.Run.{OfInput, PrintsText};
+ghost use Rattle.vipr_command.specs.Run.{PrintsText};
 ghost use Rattle.vipr_command.specs.Show.{ShowsText, WritesText, text_spelling};
 
+use crate::ending::Ending;
 use crate::fault::CommandFault;
-use crate::line::{refusal_line, say};
 use std::alloc::Global;
 use vipr_bytes::{Sink, Source};
 use vipr_check::{Place, Refusal};
@@ -72,23 +73,22 @@ fn write_text<W: Sink>(
     }
 }
 
-/// Prints a certificate's text in a form, or on `err` why there is none, and answers the exit
-/// status.
-pub fn print_text<R: Source + Drop, O: Sink, E: Sink>(
+/// Prints a certificate's text in a form, and answers how that ends.
+///
+/// # Errors
+///
+/// As [`show`].
+pub(crate) fn print_text<R: Source + Drop, O: Sink>(
     alloc: Global,
     form: Form,
     source: R,
     out: &mut O,
-    err: &mut E,
-) -> Result<u8, CommandFault>
+) -> Result<Ending, CommandFault>
     ensures { OfInput (R.input source) (λ k. PrintsText form k (O.output out.old)
-        (O.output out.new) (E.output err.old) (E.output err.new) result) }
+        (O.output out.new) result) }
 {
     match show(alloc, form, source, out)? {
-        Shown::Whole => Ok(0),
-        Shown::Refused(refusal) => {
-            say(err, &refusal_line(&refusal));
-            Ok(1)
-        }
+        Shown::Whole => Ok(Ending::silent(0)),
+        Shown::Refused(refusal) => Ok(Ending::of_refusal(&refusal)),
     }
 }

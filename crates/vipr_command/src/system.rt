@@ -25,13 +25,13 @@ const EPERM: i32 = 1;
 
 /// The system's files. What they hold isn't known.
 #[derive(Drop)]
-pub(crate) struct SystemFiles<'a, H> {
+pub struct SystemFiles<'a, H> {
     pub rt: &'a H,
 }
 
 /// A text for the file at a path. Nothing is made or changed before the first write.
 #[derive(Drop)]
-pub(crate) struct OutFile<'a, H> {
+pub struct OutFile<'a, H> {
     rt: &'a H,
     /// What the path leads to.
     target: PathBuf,
@@ -177,7 +177,7 @@ impl<H: Host> OutFile<'_, H> {
         options.open(self.rt, self.name.as_str())
     }
 
-    /// Ends a text that was written whole: OUT has it then.
+    /// EndsRun a text that was written whole: OUT has it then.
     fn end(&self, path: &str) -> io::Result<()> {
         match &self.destination {
             None => Ok(()),

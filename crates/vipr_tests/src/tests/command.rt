@@ -3,40 +3,33 @@ use super::same;
 use super::tighten::{IGNORED, ROUNDED};
 use std::alloc::Global;
 use std::process::Abort;
+use std::str;
 use vipr_bytes::Bytes;
-use vipr_command::{CommandFault, OneFile, run_over};
+use vipr_command::{OneFile, run};
 
 const NAME: &str = "plan.vipr";
 
-/// What a command prints on its output, and its answer.
-fn run(
-    rt: &impl Abort,
-    alloc: Global,
-    file: &mut OneFile<'_>,
-    words: &[&str],
-    wanted: &[u8],
-) -> Result<u8, CommandFault> {
-    let mut out = Vec::new(alloc);
-    let mut err = Vec::new(alloc);
-    let input = Bytes::new(b"");
-    let answer = run_over(alloc, file, words, input, &mut out, &mut err);
-    if answer.is_ok() {
-        same(rt, out.as_slice(), wanted);
-    }
-    drop(out);
-    drop(err);
-    answer
-}
-
+/// Runs a command, and compares its status, what it prints and what it says.
 fn ends(
     rt: &impl Abort,
     alloc: Global,
     file: &mut OneFile<'_>,
     words: &[&str],
-    wanted: (u8, &[u8]),
+    wanted: (u8, &[u8], &str),
 ) {
-    let answer = run(rt, alloc, file, words, wanted.1);
-    same(rt, answer.expect(rt, "memory"), wanted.0);
+    let mut out = Vec::with_capacity(alloc, 4096).expect(rt, "room");
+    let mut err = Vec::with_capacity(alloc, 4096).expect(rt, "room");
+    let input = Bytes::new(b"");
+    let status = run(alloc, file, words, input, &mut out, &mut err);
+    same(
+        rt,
+        str::from_utf8(err.as_slice()).expect(rt, "text"),
+        wanted.2,
+    );
+    same(rt, out.as_slice(), wanted.1);
+    same(rt, status, wanted.0);
+    drop(out);
+    drop(err);
 }
 
 #[test]
@@ -53,11 +46,22 @@ fn the_named_file_is_read(rt: HostRuntime) {
         alloc,
         &mut file,
         &["vipr", "check", NAME],
-        (0, verdict),
+        (0, verdict, ""),
     );
-    ends(&rt, alloc, &mut file, &["vipr", "show", NAME], (0, ROUNDED));
-    let answer = run(&rt, alloc, &mut file, &["vipr", "check", "plan"], b"");
-    same(&rt, answer, Err(CommandFault::Read));
+    ends(
+        &rt,
+        alloc,
+        &mut file,
+        &["vipr", "show", NAME],
+        (0, ROUNDED, ""),
+    );
+    ends(
+        &rt,
+        alloc,
+        &mut file,
+        &["vipr", "check", "plan"],
+        (3, b"", "fault read\n"),
+    );
 }
 
 #[test]
@@ -68,21 +72,20 @@ fn the_file_is_replaced_by_its_name(rt: HostRuntime) {
         name: NAME,
         text: IGNORED,
     };
-    let answer = run(
+    ends(
         &rt,
         alloc,
         &mut file,
         &["vipr", "tighten", NAME, "-o", "plan"],
-        b"",
+        (3, b"", "fault write after 123\n"),
     );
-    same(&rt, answer.is_err(), true);
     same(&rt, file.text, IGNORED);
     ends(
         &rt,
         alloc,
         &mut file,
         &["vipr", "tighten", NAME, "-o", NAME],
-        (0, b""),
+        (0, b"", "kept 1 removed 1 peak 2 1\n"),
     );
     same(&rt, file.text, ROUNDED);
     file.text = b"VER";
@@ -91,7 +94,7 @@ fn the_file_is_replaced_by_its_name(rt: HostRuntime) {
         alloc,
         &mut file,
         &["vipr", "tighten", NAME, "-o", NAME],
-        (1, b""),
+        (1, b"", "refused 1 at byte 0\n"),
     );
     same(&rt, file.text, b"VER");
 }

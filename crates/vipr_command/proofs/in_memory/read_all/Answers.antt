@@ -1,5 +1,5 @@
 use Rattle.std.proofs.Common.{subst, sym, ◌∙◌}
-use Rattle.vipr_command.specs.Run.{HasRead, ReadsOn}
+use Rattle.vipr_command.specs.Answer.{HasRead, ReadsOn}
 use Rattle.vipr_command.proofs.ReadingLemmas.{nothing_read, of_known}
 use Rattle.vipr_command.proofs.in_memory.read_all.Goals as goal
 

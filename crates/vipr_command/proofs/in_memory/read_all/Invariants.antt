@@ -1,6 +1,6 @@
 use Rattle.std.proofs.Common.{◌≡◌, false}
 use Rattle.std.specs.Prelude.{IfSome}
-use Rattle.vipr_command.specs.Run.{HasRead}
+use Rattle.vipr_command.specs.Answer.{HasRead}
 use Rattle.vipr_command.proofs.in_memory.read_all.Given as goal
 
 abbrev pub invariant-loop-text : goal.invariant-loop-text
