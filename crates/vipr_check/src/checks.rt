@@ -22,6 +22,7 @@ use crate::no_proof::NoProof;
 use crate::verdict::{Fault, Report, Verdict};
 use crate::walk::run;
 use std::alloc::{AllocError, Global};
+use std::mem::forget;
 use vipr_bytes::Source;
 use vipr_rules::{Profile, Rows};
 
@@ -75,6 +76,25 @@ pub fn check_in<R: Source + Drop, S: Rows>(
 {
     let (outcome, checker) = run::<R, S>(alloc, profile, source);
     drop(checker);
+    verdict_of(outcome)
+}
+
+/// Checks as [`check_in`] does, and leaves what it holds then to the end of the program.
+///
+/// It is for a program that checks one certificate: no call frees that memory.
+///
+/// # Errors
+///
+/// If a read fails, and if a growth is refused.
+pub fn check_last<R: Source + Drop, S: Rows>(
+    alloc: Global,
+    profile: Profile,
+    source: R,
+) -> Result<Verdict, Fault>
+    ensures { ChecksIn (profile_of profile) (R.input source) result }
+{
+    let (outcome, left) = run::<R, S>(alloc, profile, source);
+    forget(left);
     verdict_of(outcome)
 }
 

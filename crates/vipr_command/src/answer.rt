@@ -11,7 +11,7 @@ use crate::in_memory::{lines, read_all};
 use crate::request::{Job, Task};
 use std::alloc::Global;
 use vipr_bytes::{Sink, Source, write_bytes};
-use vipr_check::{Detail, Table, check_in, explain_in};
+use vipr_check::{Detail, Table, check_last, explain_in};
 use vipr_rules::Profile;
 
 /// What is printed of a certificate, and the exit status. Nothing is said then.
@@ -56,7 +56,7 @@ fn check<R: Source + Drop>(
     ensures { OfInput (R.input source) (λ k. AnswersTask Check (profile_of profile) false false k
         result) }
 {
-    let verdict = check_in::<R, Table>(alloc, profile, source)?;
+    let verdict = check_last::<R, Table>(alloc, profile, source)?;
     let text = lines(alloc, Task::Check, &verdict, &Detail::None)?;
     Ok(Printed {
         text: text.into_bytes(),
