@@ -94,7 +94,7 @@ fn the_file_is_replaced_by_its_name(rt: HostRuntime) {
         alloc,
         &mut file,
         &["vipr", "tighten", NAME, "-o", NAME],
-        (1, b"", "refused 1 at byte 0\n"),
+        (1, b"", "refused 1 at byte 3\n"),
     );
     same(&rt, file.text, b"VER");
 }
