@@ -42,7 +42,7 @@ It needs glibc 2.34 or later (Debian 12, Ubuntu 22.04), and nothing else: neithe
     sudo cp -r bin include lib share /usr/local && sudo ldconfig
 
 The last command installs it; another folder than /usr/local will do. share/doc/vipr/README.md is the first page.
-    pip install ./python            the Python package
+    pip install ./python            the Python package, in an environment that python3 -m venv made
     dpkg-buildpackage -b -us -uc    makes Debian packages
 BUILD says which commit was proved by which kit.
 '''
