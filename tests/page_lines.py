@@ -34,7 +34,8 @@ class Page:
     def __init__(self, facts, file):
         self.facts, self.file = facts, file
         self.said = Counter()
-        self.place = None
+        self.place = self.part = None
+        self.changed = []
         self.entries, self.sources, self.near, self.cases, self.faults, self.values, self.offers = [], 0, [], [], [], [], []
 
 
@@ -153,8 +154,9 @@ def labelled(page, label):
         same(f'the last use of [{index}]', (facts.refused, int(found[1])), (32, facts.last_use(index)))
         return [facts.lasts[index]]
     true(label in PARTS, f'an unknown label {label!r}')
-    page.part = label
-    return [token for (kind, part), token in facts.tokens.items() if kind in PARTS[label] and is_at_fault(facts, kind, part)]
+    parts = {at: token for at, token in facts.tokens.items() if at[0] in PARTS[label] and is_at_fault(facts, *at)}
+    page.part = next((at for at, token in parts.items() if token.at == page.place), None)
+    return list(parts.values())
 
 
 # parts of a derivation: how each is called, and which tokens it may be
@@ -533,6 +535,7 @@ def other_join(page, *join):
 @form(r'  = help: with `(lin|rnd)` in place of `(lin|rnd)` the derivation follows')
 def other_word(page, word, old):
     same('the reason', (page.facts.own().reason, word != old), (old, True))
+    page.changed.append(('reason', None))
     offered(page, page.facts.parts(page.facts.own()), word)
 
 
@@ -546,6 +549,7 @@ def other_multiplier(page, new, old, index, name: str):
         changed = [*parts[:at], (index, new), *parts[at + 1:]]
         if page.facts.accepts(changed):
             break
+    page.changed += [('multiplier', it) for it in places]
     offered(page, changed)
 
 
@@ -556,6 +560,7 @@ def other_index(page, new, new_name: str, old, old_name: str, at):
     true(new < facts.number(), f'[{new}] is not earlier')
     same('the names', (new_name, old_name), tuple(shown_name(facts.constraint(it).name) for it in (new, old)))
     same(f'entry {at}', old, parts[at][0])
+    page.changed.append(('entry index', at))
     offered(page, [*parts[:at], (new, parts[at][1]), *parts[at + 1:]])
 
 

@@ -197,6 +197,8 @@ def read(page_text, text, profile=1, file='standard input'):
     helps = [it for it in lines if it.startswith('  = ')]
     page.said['help'] = sum(it.startswith('  = help: ') for it in helps)
     found += ['a line is there twice'] if len(set(helps)) < len(helps) else []
+    if page.part and page.part[0] != 'name' and page.changed and page.part not in page.changed:
+        found.append(f'the carets are at {page.part}, and what is offered is at {page.changed}')
     for kind, count in required(facts, page.said):
         got = len(page.offers) if kind == 'offers' else page.said[kind]
         if (got == 0) if count is None else got != count:
