@@ -89,16 +89,16 @@ MISTAKES = [
      '.vipr:23:43\n', 'write the last reference behind `}`'),
     # lin where rnd is needed
     ('knapsack', 'rnd 3 0 13/4 2 1/4 6 1/2', 'lin 3 0 13/4 2 1/4 6 1/2',
-     '.vipr:23:1\n', 'with `rnd` in place of `lin` the derivation follows'),
+     '.vipr:23:18\n', 'with `rnd` in place of `lin` the derivation follows'),
     # constraint indices counted from 1
     ('knapsack', 'rnd 3 0 13/4 2 1/4 6 1/2', 'rnd 3 1 13/4 3 1/4 7 1/2',
-     '.vipr:23:1\n', 'constraints count from 0: the problem has 7'),
+     '.vipr:23:37\n', 'constraints count from 0: the problem has 7'),
     # variable indices counted from 1
     ('knapsack', '3 0 10 1 13 2 7', '3 1 10 2 13 3 7',
      '.vipr:10:13\n', 'indices count from 0: that of the last variable is 2'),
     # wrong sense of a dual bound under max
     ('knapsack', 'bound L 20', 'bound G 20',
-     '.vipr:23:1\n', 'the sense: computed <=, stated >='),
+     '.vipr:23:9\n', 'the sense: computed <=, stated >='),
     # a dense solution vector of n values
     ('knapsack', 'bc 2 1 1 2 1', 'bc 3 1 1 1',
      '.vipr:21:10\n', 'is this a list of all values'),
@@ -107,10 +107,10 @@ MISTAKES = [
      '.vipr:21:1\n', 'a = 1, b = 1, c = 1; the left side is 9, which is not <= 6'),
     # sign of a multiplier
     ('knapsack', '2 1/4 6 1/2', '2 -1/4 6 1/2',
-     '.vipr:23:1\n', 'with the multiplier 1/4 in place of -1/4 at [2] a_up the derivation follows'),
+     '.vipr:23:33\n', 'with the multiplier 1/4 in place of -1/4 at [2] a_up the derivation follows'),
     # all multipliers positive, as one writes Farkas with flipped rows
     ('pigeonhole', '3 -1 4 -1', '3 1 4 1',
-     '.vipr:20:1\n', 'x11 + x21 + x31 <= 1  (line 15) <-- entry 3'),
+     '.vipr:20:36\n', 'x11 + x21 + x31 <= 1  (line 15) <-- entry 3'),
     # a variable name too many
     ('pigeonhole', 'x31 x32\n', 'x31 x32 x33\n',
      '.vipr:6:9\n', 'is the count behind `VAR` right, or is a space in a name?'),
@@ -119,10 +119,10 @@ MISTAKES = [
      '.vipr:3:1\n', 'remove the comment'),
     # forgot to declare y integer
     ('one_machine', 'INT 1\n2\n', 'INT 0\n',
-     '.vipr:24:1\n', 'y is not an integer variable: list its index 2 in INT and make the count there 1 larger'),
+     '.vipr:24:20\n', 'y is not an integer variable: list its index 2 in INT and make the count there 1 larger'),
     # uns with assumption before conclusion
     ('one_machine', 'uns 10 8 11 9', 'uns 8 10 9 11',
-     '.vipr:25:1\n', 'with `uns 10 8 11 9` the derivation follows'),
+     '.vipr:25:19\n', 'with `uns 10 8 11 9` the derivation follows'),
     # uns with the assumptions crossed
     ('one_machine', 'uns 10 8 11 9', 'uns 10 9 11 8',
      '(line 25)', '[12] no  0 >= 1  (line 25), rests on [8] [9]'),
@@ -134,10 +134,10 @@ MISTAKES = [
      '.vipr:23:41\n', 'write 12 or -1 here'),
     # a wrong multiplier
     ('one_machine', '8 -10 }', '8 -9 }',
-     '.vipr:23:1\n', 'with the multiplier -10 in place of -9 at [8] y0 the derivation follows'),
+     '.vipr:23:35\n', 'with the multiplier -10 in place of -9 at [8] y0 the derivation follows'),
     # a wrong datum (the problem is feasible then)
     ('one_machine', 's2_up L 2', 's2_up L 3',
-     '.vipr:24:1\n', 'right-hand side: computed 0, stated 1, which says 1 too much'),
+     '.vipr:24:7\n', 'right-hand side: computed 0, stated 1, which says 1 too much'),
     # forgot the bound x3 >= 0 in the sum (hidden x >= 0)
     ('set_cover', 'leaf1 G 7 OBJ { lin 3 1 4 10 3 5 1 } 13', 'leaf1 G 7 OBJ { lin 2 1 4 10 3 } 13',
      '.vipr:24:1\n', 'with one more entry, 1 x [5] l3, the derivation follows'),
@@ -170,7 +170,7 @@ MISTAKES = [
      '.vipr:24:21\n', 'by viprcomp of the VIPR package'),
     # a multiplier that leaves fractions
     ('matching', '2 1/2 }', '2 1/3 }',
-     '.vipr:18:1\n', 'the coefficient 5/6 of e23 is not whole'),
+     '.vipr:18:35\n', 'the coefficient 5/6 of e23 is not whole'),
     # solution forgotten though sol is used (52 comes first)
     ('cutoff', 'SOL 1\nbest 2 0 1 1 1\n', 'SOL 0\n',
      '', 'list a solution behind SOL'),
@@ -191,13 +191,13 @@ MISTAKES = [
      '.vipr:23:28\n', 'write 12 or -1 here'),
     # datum weaker: leaf a0 breaks
     ('two_levels', 'c2 G 1/2', 'c2 G 0',
-     '.vipr:18:1\n', 'right-hand side: computed 0, stated 1, which says 1 too much'),
+     '.vipr:18:6\n', 'right-hand side: computed 0, stated 1, which says 1 too much'),
     # y not integer
     ('parity', 'INT 2 0 1', 'INT 1 0',
-     '.vipr:12:1\n', 'y is not an integer variable: list its index 1 in INT and make the count there 1 larger'),
+     '.vipr:12:13\n', 'y is not an integer variable: list its index 1 in INT and make the count there 1 larger'),
     # script: floor computed as n//2-1
     ('five_cycle', 'odd0 L 2', 'odd0 L 1',
-     '.vipr:25:1\n', 'right-hand side: computed 2, stated 1, which says 1 too much'),
+     '.vipr:25:8\n', 'right-hand side: computed 2, stated 1, which says 1 too much'),
 ]
 
 # More mistakes: the problem, what is replaced by what, and what the long explanation says to change. A row for each hint.
