@@ -27,10 +27,9 @@ def is_entries(facts):
 
 
 def is_turned(facts):
-    """Whether the stated row is the computed one with the other sign, and so is the sense."""
+    """Whether the stated row is the computed one with the other sign."""
     computed, stated = facts.written('computed'), facts.written('stated')
-    return is_entries(facts) and stated[0] == {it: -number for it, number in computed[0].items()} != {} and \
-        stated[1] == {'G': 'L', 'L': 'G', 'E': 'E'}[computed[1]]
+    return is_entries(facts) and stated[0] == {it: -number for it, number in computed[0].items()} != {}
 
 
 def is_near_miss(facts):
