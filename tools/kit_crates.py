@@ -46,8 +46,10 @@ def lines_of(crate):
 def used(crate):
     """The libraries of the kit that a crate names, beside itself."""
     text = '\n'.join(it.read_text(encoding='utf-8') for it in (SOURCES / crate).rglob('*') if it.suffix in ('.rt', '.antt'))
-    names = set(re.findall(r'\b(?:use |Rattle\.)(\w+)(?:::|\.|;)', text))
-    return sorted(it for it in names - {crate, 'std', 'core'} if (RLIBS / f'{it}.rlib').exists())
+    names = {name for found in re.findall(r'(?<![:\w])(\w+)::|\buse (\w+);|\bRattle\.(\w+)\.', text) for name in found}
+    # (`io::` is a module of std, and also the name of a library below it)
+    others = {crate, 'std', 'core', 'io', *re.findall(r'\bmod (\w+)', text)}
+    return sorted(it for it in names - others if (RLIBS / f'{it}.rlib').exists())
 
 
 def listed():
