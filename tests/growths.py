@@ -34,8 +34,10 @@ PROGRAM = 'vipr'
 ELSEWHERE = re.compile(r'tests::bytes::')
 # how many growths of a test are refused at most
 MOST = 400
-# what a failed test says of a call whose growth was refused; a vector that is written to fails a write then
-WANT = re.compile(r'\b(AllocError|AllocFailed|Memory|OutOfMemory|out of memory|fault memory|memory: Write)\b')
+# what a failed test says of a call whose growth was refused; a vector that is written to fails a write then, and so does OUT
+# if it is one
+WANT = re.compile(r'\b(AllocError|AllocFailed|Memory|OutOfMemory|out of memory|fault memory|memory: Write)\b'
+                  r'|left: "fault write after 0\\n"')
 # the tests that call again after it, and what they say then
 CALLS_AGAIN = re.compile(r'\bspent_\w+$')
 SPENT = 'Memory, then Spent'
