@@ -1,9 +1,8 @@
 -- Entries under new indices, one after the other
 use Rattle.std.proofs.Common.{◌≡◌, ℕ, zero, suc, ◌+◌, ◌<◌, List, [], ◌∷◌, ◌++◌, take, drop, map}
-use Rattle.std.proofs.Common.{length, get_or, All, arith, refl, sym, ◌∙◌, ap, ap₂, append-nil}
+use Rattle.std.proofs.Common.{length, get_or, arith, refl, sym, ◌∙◌, ap, ap₂, append-nil}
 use Rattle.std.proofs.Math.ListN.{set}
 use Rattle.std.proofs.lemmas.List.{drop_all, get_or_read_under, take_all}
-use Rattle.std.proofs.lemmas.List.Elements.{All-get_or}
 use Rattle.vipr_spec.specs.Fraction.{ℚ}
 use Rattle.vipr_tighten.specs.Passes.{index_by}
 
@@ -46,9 +45,6 @@ module _ (first : ℕ) (table : List ℕ) (old : List (ℕ × ℚ)) where
   module _ (i : ℕ) (now : List (ℕ × ℚ)) (h : i < length old) (so_far : EntriesSoFar first table old i now) (x : ℕ × ℚ) (is : x ≡ get_or now i x) where
     old_one : x ≡ get_or old i x
     old_one = is ∙ ap (λ l. get_or l i x) so_far.those ∙ at_part (under first table) old i x h
-
-    pub next_below : (n : ℕ) → All (λ e. e.0 < n) old → x.0 < n
-    next_below n a = let e = ap (λ (y : ℕ × ℚ). y.0) old_one in let l = All-get_or (λ (e : ℕ × ℚ). e.0 < n) old i x h a in omega arith
 
     size : length now ≡ length old
     size = ap length so_far.those ∙ part_size (under first table) old i

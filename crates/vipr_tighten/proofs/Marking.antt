@@ -3,7 +3,7 @@ use Rattle.std.proofs.Common.{◌≡◌, ℕ, ◌+◌, ◌-◌, ◌<◌, ◌≤�
 use Rattle.std.proofs.Common.{take, drop, map, replicate, length, slice_index_or, get_or, Option}
 use Rattle.std.proofs.Common.{Some, None, arith, refl, sym, ◌∙◌, ap, ap₂, subst}
 use Rattle.std.specs.List.{list_any}
-use Rattle.std.proofs.Math.Bool.{or_assoc}
+use Rattle.std.proofs.Math.Bool.{and-false, and-true, or-false, or_assoc}
 use Rattle.std.proofs.lemmas.List.{drop_all, get_or-map, get_or-replicate, get_or_read_under}
 use Rattle.std.proofs.lemmas.List.{length-map, length-replicate}
 use Rattle.std.proofs.lemmas.List.Folds.{list_any_more}
@@ -35,11 +35,7 @@ also_alike first p q old new same a k h = a k h ∙ ap (λ b. has_mark old k || 
 -- a test that nothing passes
 pub also_none : (first : ℕ) (p : ℕ → Bool) (marks : List Bool) → ((i : ℕ) → p i ≡ false)
     → MarksAlso first p marks marks
-also_none first p marks none k h = by (has_mark marks k) ∙ ap (λ b. has_mark marks k || b) (sym (none (first + k)))
-  where
-    by : (b : Bool) → b ≡ (b || false)
-    by true = refl
-    by false = refl
+also_none first p marks none k h = sym (or-false (has_mark marks k)) ∙ ap (λ b. has_mark marks k || b) (sym (none (first + k)))
 
 module _ {A : Type 0} (first : ℕ) (p : ℕ → A → Bool) (es : List A) (n : ℕ) (e : A) (h : n < length es) (old mid new : List Bool) (size : length mid ≡ length old) where
   -- one more element
@@ -56,20 +52,12 @@ module _ (first : ℕ) (es : List (ℕ × ℚ)) (n : ℕ) (e : ℕ × ℚ) (h : 
       → MarksAlso first (λ i. list_any (names i) (take (n + 1) es)) old new
   entry_marked new t a b =
       also_more first names es n e h old mid new size a
-      (also_alike first (λ i. nat_eq i e.0) (λ i. names i (get_or es n e)) mid new (λ i. by (nat_eq i e.0) ∙ ap (λ u. nat_eq i e.0 && u) (sym t) ∙ ap (names i) is) b)
-    where
-      by : (u : Bool) → u ≡ (u && true)
-      by true = refl
-      by false = refl
+      (also_alike first (λ i. nat_eq i e.0) (λ i. names i (get_or es n e)) mid new (λ i. sym (and-true (nat_eq i e.0)) ∙ ap (λ u. nat_eq i e.0 && u) (sym t) ∙ ap (names i) is) b)
 
   pub entry_passed : is_nonzero e ≡ false → MarksAlso first (λ i. list_any (names i) (take n es)) old mid → MarksAlso first (λ i. list_any (names i) (take (n + 1) es)) old mid
   entry_passed t a =
       also_more first names es n e h old mid mid size a
-      (also_none first (λ i. names i (get_or es n e)) mid (λ i. ap (names i) (sym is) ∙ ap (λ u. nat_eq i e.0 && u) t ∙ by (nat_eq i e.0)))
-    where
-      by : (u : Bool) → (u && false) ≡ false
-      by true = refl
-      by false = refl
+      (also_none first (λ i. names i (get_or es n e)) mid (λ i. ap (names i) (sym is) ∙ ap (λ u. nat_eq i e.0 && u) t ∙ and-false (nat_eq i e.0)))
 
 -- ---- derivation by derivation
 
@@ -102,11 +90,7 @@ module _ (goal : Option ℕ) (first : ℕ) (ds : List Derivation) where
         also k (omega arith) ∙ ap (λ b. has_mark marks k || (b && refers_to (slice_index_or ds j d).reason (first + k))) (sym marked))
 
     pub marks_stay : has_mark marks j ≡ false → AreMarksFrom goal first ds j marks
-    marks_stay unmarked = step marks refl (λ k l. by (has_mark marks k) ∙ ap (λ b. has_mark marks k || (b && refers_to (slice_index_or ds j d).reason (first + k))) (sym unmarked))
-      where
-        by : (b : Bool) → b ≡ (b || false)
-        by true = refl
-        by false = refl
+    marks_stay unmarked = step marks refl (λ k l. sym (or-false (has_mark marks k)) ∙ ap (λ b. has_mark marks k || (b && refers_to (slice_index_or ds j d).reason (first + k))) (sym unmarked))
 
   pub marks_end : (marks : List Bool) → AreMarksFrom goal first ds 0 marks → AreMarks goal first ds marks
   marks_end marks m =

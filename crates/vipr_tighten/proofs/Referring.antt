@@ -1,9 +1,11 @@
 -- Last references, index by index
 use Rattle.std.proofs.Common.{◌≡◌, ℕ, zero, suc, ◌+◌, ◌<◌, ◌≤◌, Bool, true, false, cond, ◌&&◌, ◌||◌}
 use Rattle.std.proofs.Common.{nat_eq, List, [], ◌∷◌, take, map, length, get_or, Some, arith, refl}
-use Rattle.std.proofs.Common.{sym, ◌∙◌, ap, ap₂, eq-eqb, eqb-true}
+use Rattle.std.proofs.Common.{sym, ◌∙◌, ap, ap₂, eq-eqb}
+use Rattle.std.proofs.Math.Bool.{and-false, and-true}
 use Rattle.std.proofs.Math.ListN.{set}
 use Rattle.std.specs.List.{list_any}
+use Rattle.std.proofs.lemmas.Bool.{ne_eqb}
 use Rattle.std.proofs.lemmas.List.Folds.{list_any_more}
 use Rattle.std.proofs.lemmas.List.{length-map}
 use Rattle.vipr_spec.specs.Fraction.{ℚ}
@@ -13,13 +15,6 @@ use Rattle.vipr_spec.specs.Certificate.{Named, Derivation}
 use Rattle.vipr_spec.specs.Tightened.{referred_by}
 use Rattle.vipr_write.specs.Steps.{step_of}
 use Rattle.vipr_write.specs.declared.statements.Step.{Step}
-
-unequal : (i n : ℕ) → ¬ (i ≡ n) → nat_eq i n ≡ false
-unequal i n h = by (nat_eq i n) refl
-  where
-    by : (b : Bool) → nat_eq i n ≡ b → nat_eq i n ≡ false
-    by true e = absurd (h (eqb-true i n e))
-    by false e = e
 
 -- ---- tests
 
@@ -55,11 +50,11 @@ referred_at view last k [] place index x e h is = absurd (omega arith)
 referred_at {S} view last k (s ∷ ss) zero index x e h is =
     ap₂ (λ o l. record (step_of view x) { last = o } ∷ l)
     (ap (λ b. cond b (Some last) s.last) (sym (eq-eqb k index (omega arith))))
-    (sym (referred_none (λ i. nat_eq i index) last (suc k) (map (step_of view) ss) (λ i a b. unequal i index (λ same. omega arith))))
+    (sym (referred_none (λ i. nat_eq i index) last (suc k) (map (step_of view) ss) (λ i a b. ne_eqb i index (λ same. omega arith))))
     ∙ ap (λ (y : Step S). record (step_of view y) { last = cond (nat_eq k index) (Some last) s.last } ∷ referred_by (λ i. nat_eq i index) last (suc k) (map (step_of view) ss)) is
 referred_at view last k (s ∷ ss) (suc place) index x e h is =
     ap₂ (λ o l. record (step_of view s) { last = o } ∷ l)
-    (ap (λ b. cond b (Some last) s.last) (sym (unequal k index (λ same. omega arith))))
+    (ap (λ b. cond b (Some last) s.last) (sym (ne_eqb k index (λ same. omega arith))))
     (referred_at view last (suc k) ss place index x (omega arith) (omega arith) is)
 
 -- before the first one, and past the last one
@@ -68,7 +63,7 @@ pub referred_outside : {S : Type 0} (view : S → Named Constraint) (last k : �
     → map (step_of view) ss ≡ referred_by (λ i. nat_eq i index) last k (map (step_of view) ss)
 referred_outside view last k ss index out =
     let size : length (map (step_of view) ss) ≡ length ss = length-map ss (step_of view) in
-    sym (referred_none (λ i. nat_eq i index) last k (map (step_of view) ss) (λ i a b. unequal i index (out i a (omega arith))))
+    sym (referred_none (λ i. nat_eq i index) last k (map (step_of view) ss) (λ i a b. ne_eqb i index (out i a (omega arith))))
 
 -- ---- entry by entry
 
@@ -86,18 +81,10 @@ module _ {S : Type 0} (view : S → Named Constraint) (last k : ℕ) (es : List 
 
   pub entry_referred : (new : List (Step S)) → is_nonzero e ≡ true → map (step_of view) new ≡ referred_by (λ i. nat_eq i e.0) last k (map (step_of view) mid)
       → map (step_of view) new ≡ referred_by (λ i. list_any (names i) (take (n + 1) es)) last k (map (step_of view) old)
-  entry_referred new t this = more new (this ∙ referred_alike (λ i. nat_eq i e.0) (λ i. names i e) last k (map (step_of view) mid) (λ i. by (nat_eq i e.0) ∙ ap (λ u. nat_eq i e.0 && u) (sym t)))
-    where
-      by : (u : Bool) → u ≡ (u && true)
-      by true = refl
-      by false = refl
+  entry_referred new t this = more new (this ∙ referred_alike (λ i. nat_eq i e.0) (λ i. names i e) last k (map (step_of view) mid) (λ i. sym (and-true (nat_eq i e.0)) ∙ ap (λ u. nat_eq i e.0 && u) (sym t)))
 
   pub entry_skipped : is_nonzero e ≡ false → map (step_of view) mid ≡ referred_by (λ i. list_any (names i) (take (n + 1) es)) last k (map (step_of view) old)
-  entry_skipped t = more mid (sym (referred_none (λ i. names i e) last k (map (step_of view) mid) (λ i a b. ap (λ u. nat_eq i e.0 && u) t ∙ by (nat_eq i e.0))))
-    where
-      by : (u : Bool) → (u && false) ≡ false
-      by true = refl
-      by false = refl
+  entry_skipped t = more mid (sym (referred_none (λ i. names i e) last k (map (step_of view) mid) (λ i a b. ap (λ u. nat_eq i e.0 && u) t ∙ and-false (nat_eq i e.0))))
 
 pub none_referred : (last k : ℕ) (ds : List Derivation) → ds ≡ referred_by (λ i. false) last k ds
 none_referred last k ds = sym (referred_none (λ i. false) last k ds (λ i a b. refl))

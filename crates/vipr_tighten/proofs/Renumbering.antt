@@ -2,8 +2,8 @@
 use Rattle.std.proofs.Common.{◌≡◌, ℕ, zero, suc, ◌+◌, ◌-◌, ◌<◌, ◌≤◌, Bool, true, false, cond, ◌||◌}
 use Rattle.std.proofs.Common.{nat_lt, List, [], ◌∷◌, ◌++◌, take, drop, map, length, slice_index_or}
 use Rattle.std.proofs.Common.{get_or, Option, Some, None, IfSome, arith, refl, sym, ◌∙◌, ap, ap₂}
-use Rattle.std.proofs.Common.{subst, ⊎_elim, lt-ltb, ltb-true, eqb-true, nat_eq}
-use Rattle.std.proofs.lemmas.Bool.{cases_lt}
+use Rattle.std.proofs.Common.{subst, ⊎_elim, lt-ltb}
+use Rattle.std.proofs.lemmas.Bool.{cases_lt, le-ltb, ne_eqb}
 use Rattle.std.proofs.lemmas.List.{drop_more, get_or-map, get_or_append_left, get_or_past}
 use Rattle.std.proofs.lemmas.List.{length-append, length-drop, length-map, length-take-le, map_push}
 use Rattle.std.proofs.Math.Seq.{get_or-append_right}
@@ -72,15 +72,8 @@ module _ {S : Type 0} (view : S → Named Constraint) (first : ℕ) (marks : Lis
       (λ (l : i < first). ap (λ b. cond b i (slice_index_or table (i - first) 0)) (lt-ltb i first l) ∙ sym (index_same keep first (given_kept first marks) i (omega arith)))
       (λ (l : first ≤ i).
       let place : first + (i - first) ≡ i = omega arith in
-      ap (λ b. cond b i (slice_index_or table (i - first) 0)) (not_below i first l) ∙ so_far.indices (i - first) (omega arith) ∙ ap (new_index keep) place)
+      ap (λ b. cond b i (slice_index_or table (i - first) 0)) (le-ltb i first l) ∙ so_far.indices (i - first) (omega arith) ∙ ap (new_index keep) place)
       (cases_lt i first)
-    where
-      not_below : (i n : ℕ) → n ≤ i → nat_lt i n ≡ false
-      not_below i n h = by (nat_lt i n) refl
-        where
-          by : (b : Bool) → nat_lt i n ≡ b → nat_lt i n ≡ false
-          by true e = absurd (let l = ltb-true i n e in omega arith)
-          by false e = e
 
   module _ (x : Step S) (rest : List (Step S)) (e : left ≡ x ∷ rest) where
     next : (length table < length all) × (x ≡ get_or all (length table) x) × (drop (length table + 1) all ≡ rest)
@@ -109,14 +102,7 @@ module _ {S : Type 0} (view : S → Named Constraint) (first : ℕ) (marks : Lis
     mark_there : has_mark marks (length table) ≡ keep (first + length table)
     mark_there =
         let place : length table ≡ first + length table - first = omega arith in
-        ap (has_mark marks) place ∙ sym (ap (λ b. b || has_mark marks (first + length table - first)) (beyond (first + length table) first (omega arith)))
-      where
-        beyond : (i n : ℕ) → n ≤ i → nat_lt i n ≡ false
-        beyond i n h = by (nat_lt i n) refl
-          where
-            by : (b : Bool) → nat_lt i n ≡ b → nat_lt i n ≡ false
-            by true e = absurd (let l = ltb-true i n e in omega arith)
-            by false e = e
+        ap (has_mark marks) place ∙ sym (ap (λ b. b || has_mark marks (first + length table - first)) (le-ltb (first + length table) first (omega arith)))
 
     next_inside : length table < length (map (step_of view) all)
     next_inside = let size = all_size in let l = next.0 in omega arith
@@ -170,23 +156,6 @@ exists_at [] i h = absurd (omega arith)
 exists_at (x ∷ l) zero h = (x, refl)
 exists_at (x ∷ l) (suc i) h = exists_at l i (omega arith)
 
-pub earlier_in : {S : Type 0} (first : ℕ) (all ds : List (Step S)) (table : List ℕ) (place : ℕ)
-    → StepsNameEarlier first all → length table ≡ place → place < length all
-    → drop (length table) all ≡ drop place ds
-    → NamesEarlier (first + length table) (step_reason ds place)
-earlier_in {S} first all ds table place earlier at there e =
-    subst (λ n. NamesEarlier (first + n) (step_reason ds place)) (sym at)
-    (subst (NamesEarlier (first + place)) (read all ∙ ap (λ l. step_reason l 0) (ap (λ n. drop n all) (sym at) ∙ e) ∙ sym (read ds)) (earlier place there))
-  where
-    read : (l : List (Step S)) → step_reason l place ≡ step_reason (drop place l) 0
-    read l = by l place
-      where
-        by : (l : List (Step S)) (k : ℕ) → step_reason l k ≡ step_reason (drop k l) 0
-        by [] zero = refl
-        by [] (suc k) = refl
-        by (x ∷ l) zero = refl
-        by (x ∷ l) (suc k) = by l k
-
 -- The first `kept` are those that are kept so far, and the others follow from `place` on.
 module _ {S : Type 0} (view : S → Named Constraint) (first : ℕ) (marks : List Bool) (all ds : List (Step S)) (table : List ℕ) (kept place : ℕ) (size : length ds ≡ length all) (at : length table ≡ place) (behind : kept ≤ place)
     (so_far : SoFar view first marks all (drop place ds) table (take kept ds)) (there : place < length all) where
@@ -239,11 +208,7 @@ stand_count view c first steps stand =
 other : (n : ℕ) (goal : Option ℕ) → IfSome goal (λ g. g < n) → (i : ℕ) → n ≤ i
     → is_the_goal goal i ≡ false
 other n None h i far = refl
-other n (Some g) h i far = by (nat_eq i g) refl
-  where
-    by : (b : Bool) → nat_eq i g ≡ b → nat_eq i g ≡ false
-    by true e = absurd (let same = eqb-true i g e in omega arith)
-    by false e = e
+other n (Some g) h i far = ne_eqb i g (λ same. omega arith)
 
 module _ {S : Type 0} (view : S → Named Constraint) (first : ℕ) (steps : List (Step S)) (earlier : StepsNameEarlier first steps) (goal : Option ℕ) (inside : IfSome goal (λ g. g < first + length steps))
     (marks : List Bool) (are : AreMarks goal first (map (step_of view) steps) marks) where

@@ -1,8 +1,8 @@
 //! New indices and last references: one pass from the front.
-ghost use Rattle.std.specs.Prelude.{◌≡◌, ◌+◌, ◌<◌, ◌≤◌, ◌&&◌, nat_eq, All, OnOk, Some, None, map};
+ghost use Rattle.std.specs.Prelude.{◌≡◌, ◌+◌, ◌<◌, ◌≤◌, ◌&&◌, nat_eq, OnOk, None, map};
 ghost use Rattle.std.specs.Prelude.{◌∷◌, [], length};
 ghost use Rattle.std.specs.List.{list_any};
-ghost use Rattle.vipr_spec.specs.Certificate.{NamesEarlier, lin};
+ghost use Rattle.vipr_spec.specs.Certificate.{lin};
 ghost use Rattle.vipr_spec.specs.Reading.{is_nonzero, most_count};
 ghost use Rattle.vipr_spec.specs.Tightened.{include, refers_to, renumbered_entries};
 ghost use Rattle.vipr_spec.specs.Tightened.{renumbered_reason, with_new_indices, kept_derivations};
@@ -11,7 +11,7 @@ ghost use Rattle.vipr_cert.specs.Items.{reason_of};
 ghost use Rattle.vipr_cert.specs.Reasons.{references_of};
 ghost use Rattle.vipr_write.specs.Steps.{step_of};
 ghost use Rattle.vipr_write.specs.StepReasons.{entry_of, kept_reason_of};
-ghost use Rattle.vipr_tighten.specs.Passes.{NamedConstraint, step_reason, StepsNameEarlier};
+ghost use Rattle.vipr_tighten.specs.Passes.{NamedConstraint, StepsNameEarlier};
 ghost use Rattle.vipr_tighten.specs.Passes.{kept_by, index_by, TakesOver};
 
 use std::alloc::{AllocError, Global};
@@ -53,7 +53,6 @@ fn take_over<S>(steps: &mut [Step<S>], kept: usize, place: usize, first: u32, ta
     requires behind { kept ≤ place }
     requires there { place < length steps.old }
     requires few { first + kept ≤ most_count }
-    requires earlier { NamesEarlier (first + length table.now) (step_reason steps.old place) }
     ensures { (view : S → NamedConstraint)
         → TakesOver view first table.now kept place steps.old steps.new }
 {
@@ -64,21 +63,22 @@ fn take_over<S>(steps: &mut [Step<S>], kept: usize, place: usize, first: u32, ta
     set_last(front, first, &moved_item.reason, first + kept as u32);
 }
 
-// The new index of a constraint. The table has those of the derivations.
+// The new index of a constraint. The table has those of the derivations; past them it is 0.
 fn index_of(index: u32, first: u32, table: &[u32]) -> u32
-    requires { index < first + length table.now }
     ensures { result ≡ index_by first table.now index }
 {
     if index < first {
-        index
-    } else {
-        table[(index - first) as usize]
+        return index;
     }
+    let place = (index - first) as usize;
+    if place < table.len() {
+        return table[place];
+    }
+    0
 }
 
 // Takes out the entries with multiplier 0, and gives the others their new indices.
 fn renumber_entries<E: SumEntry>(entries: &mut Vec<E>, first: u32, table: &[u32])
-    requires { All (λ e. e.0 < first + length table.now) (map E.pair entries.old.items) }
     ensures { map E.pair entries.new.items
         ≡ renumbered_entries (index_by first table.now) (map E.pair entries.old.items) }
 {
@@ -91,7 +91,6 @@ fn renumber_entries<E: SumEntry>(entries: &mut Vec<E>, first: u32, table: &[u32]
 
 // The reason of one entry under its new index, unless its multiplier is 0.
 fn renumbered_one(entry: ShortEntry, first: u32, table: &[u32]) -> StepReason
-    requires { entry.index < first + length table.now }
     ensures { kept_reason_of result
         ≡ lin (renumbered_entries (index_by first table.now) (entry_of entry ∷ [])) }
 {
@@ -106,7 +105,6 @@ fn renumbered_one(entry: ShortEntry, first: u32, table: &[u32]) -> StepReason
 
 // Gives a reason the new indices.
 fn renumber_reason(reason: &mut Reason, first: u32, table: &[u32])
-    requires { NamesEarlier (first + length table.now) (Some (reason_of reason.old)) }
     ensures { reason_of reason.new
         ≡ renumbered_reason (index_by first table.now) (reason_of reason.old) }
 {
@@ -125,7 +123,6 @@ fn renumber_reason(reason: &mut Reason, first: u32, table: &[u32])
 
 // Gives the reason of a step the new indices.
 fn renumber_step_reason(reason: &mut StepReason, first: u32, table: &[u32])
-    requires { NamesEarlier (first + length table.now) (Some (kept_reason_of reason.old)) }
     ensures { kept_reason_of reason.new
         ≡ renumbered_reason (index_by first table.now) (kept_reason_of reason.old) }
 {
@@ -140,7 +137,6 @@ fn renumber_step_reason(reason: &mut StepReason, first: u32, table: &[u32])
 
 // Gives a step the new indices, and takes its last reference away.
 fn renumber_references<S>(step: &mut Step<S>, first: u32, table: &[u32])
-    requires { NamesEarlier (first + length table.now) (Some (kept_reason_of step.old.reason)) }
     ensures { (view : S → NamedConstraint) → step_of view step.new
         ≡ record (with_new_indices (index_by first table.now) (step_of view step.old)) {
           last = None;

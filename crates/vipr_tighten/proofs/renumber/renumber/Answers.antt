@@ -3,17 +3,9 @@ use Rattle.std.proofs.Common.{◌∙◌, ap}
 use Rattle.std.proofs.lemmas.List.{with_items_is}
 use Rattle.vipr_spec.specs.Constraint.{Constraint}
 use Rattle.vipr_spec.specs.Certificate.{Named}
-use Rattle.vipr_tighten.proofs.Marking.{no_statement}
-use Rattle.vipr_tighten.proofs.Renumbering.{earlier_in, place_left_out, place_accepted_over}
+use Rattle.vipr_tighten.proofs.Renumbering.{place_left_out, place_accepted_over}
 use Rattle.vipr_tighten.proofs.renumber.renumber.Goals as goal
 use Rattle.vipr_tighten.proofs.renumber.renumber.Goals.{then-marks-place, else-marks-place}
-
-pub take_over-requires-clause-earlier : goal.take_over-requires-clause-earlier
-take_over-requires-clause-earlier g c =
-    let all = c.args.steps.now.items in
-    let inv = c.loop-place.invariant in
-    let there : c.loop-place.place < length all = omega (arith, c.loop-place-test.true, c.len-place-end.ensures) in
-    rw (c.deref.ensures.value, c.deref_mut.ensures.value) (earlier_in c.args.first all c.loop-place.steps.items c.loop-place.table.items c.loop-place.place c.requires.earlier inv.place there (inv.so_far no_statement).others)
 
 pub loop-place-preserved : goal.loop-place-preserved
 loop-place-preserved g c =

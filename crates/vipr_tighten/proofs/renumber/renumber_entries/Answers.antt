@@ -1,33 +1,17 @@
-use Rattle.std.proofs.Common.{rules, ◌≡◌, ℕ, ◌+◌, ◌<◌, All, filter, map, length, slice_set, arith}
+use Rattle.std.proofs.Common.{rules, ◌≡◌, ℕ, ◌+◌, ◌<◌, filter, map, length, slice_set, arith}
 use Rattle.std.proofs.Common.{sym, ap, ◌∙◌, subst}
 use Rattle.std.proofs.lemmas.Fn.{filter_same}
 use Rattle.std.proofs.lemmas.List.{length-map, map-set}
-use Rattle.std.proofs.lemmas.List.Elements.{All-filter}
 use Rattle.vipr_spec.specs.Fraction.{ℚ}
 use Rattle.vipr_spec.specs.Reading.{is_nonzero}
 use Rattle.vipr_tighten.specs.Passes.{index_by}
-use Rattle.vipr_tighten.proofs.Entries.{EntriesSoFar, none_so_far, under, next_below, same_entry}
+use Rattle.vipr_tighten.proofs.Entries.{EntriesSoFar, none_so_far, under, same_entry}
 use Rattle.vipr_tighten.proofs.Entries.{next_entry, all_entries}
 use Rattle.vipr_tighten.proofs.Pairs.{pair_read, pair_filter}
 use Rattle.vipr_tighten.proofs.renumber.renumber_entries.Goals as goal
 
 pub loop-i-init : goal.loop-i-init
 loop-i-init g c = none_so_far c.args.first c.args.table.now (map g.E.SumEntry.pair c.retain.new.self.items)
-
-pub index_of-moved-requires : goal.index_of-moved-requires
-index_of-moved-requires g c =
-    let pair = g.E.SumEntry.pair in
-    let all = map pair c.args.entries.now.items in
-    let old = map pair c.retain.new.self.items in
-    let size = length-map c.retain.new.self.items pair in
-    let kept : old ≡ filter is_nonzero all = ap (map pair) (filter_same _ (λ e. is_nonzero (pair e)) _ (λ x r f' k. search rules) _ _ c.retain.ensures.filtered) ∙ pair_filter pair c.args.entries.now.items in
-    let below : All (λ e. e.0 < c.args.first + length c.args.table.now) (filter is_nonzero all) =
-    All-filter is_nonzero (λ (e : ℕ × ℚ). e.0 < c.args.first + length c.args.table.now) all c.requires in
-    let inside : c.loop-i.i < length old = omega arith in
-    rw c.index-in-loop-i.ensures
-    (next_below c.args.first c.args.table.now old c.loop-i.i (map pair c.loop-i.entries.items) inside c.loop-i.invariant (pair c.index.result.now)
-    (pair_read pair c.loop-i.entries.items c.loop-i.i c.index.result.now (search rules) c.index.ensures)
-    (c.args.first + length c.args.table.now) (subst (All (λ (e : ℕ × ℚ). e.0 < c.args.first + length c.args.table.now)) (sym kept) below))
 
 pub loop-i-preserved : goal.loop-i-preserved
 loop-i-preserved g c =
