@@ -1,6 +1,6 @@
 -- Whole numbers: two digits, and the sign
 use Rattle.std.proofs.Common.{◌≡◌, ℕ, ◌+◌, ◌/◌, ◌%◌, ◌<◌, ◌≤◌, ℤ, pos, negsuc, ◌<ℤ◌, ◌≤ℤ◌, [], ◌∷◌}
-use Rattle.std.proofs.Common.{◌++◌, unsigned_abs, refl, sym, ap, ◌∙◌, arith}
+use Rattle.std.proofs.Common.{◌++◌, append_assoc, unsigned_abs, refl, sym, ap, ◌∙◌, arith}
 use Rattle.std.specs.Fmt.{decimal, signed_decimal}
 use Rattle.std.proofs.lemmas.Fmt.{decimal_digit, decimal_step}
 use Rattle.std.proofs.lemmas.Int.{ints}
@@ -9,6 +9,16 @@ pub two_digits : (n : ℕ) → 10 ≤ n → n < 100
     → (48 + n / 10) ∷ (48 + n % 10) ∷ [] ≡ decimal n
 two_digits n more few =
     sym (decimal_step n more (omega arith) ∙ ap (λ l. l ++ (48 + n % 10) ∷ []) (decimal_digit (n / 10) (omega arith)))
+
+-- the last two of three digits and of four
+pub last_two : (n : ℕ) → 100 ≤ n → n < 10000
+    → decimal (n / 100) ++ (48 + n / 10 % 10) ∷ (48 + n % 10) ∷ [] ≡ decimal n
+last_two n more few =
+    let same : n / 100 ≡ n / 10 / 10 = omega arith in
+    ap (λ m. decimal m ++ (48 + n / 10 % 10) ∷ (48 + n % 10) ∷ []) same
+    ∙ sym (append_assoc (decimal (n / 10 / 10)) ((48 + n / 10 % 10) ∷ []) ((48 + n % 10) ∷ []))
+    ∙ ap (λ l. l ++ (48 + n % 10) ∷ []) (sym (decimal_step (n / 10) (omega arith) (omega arith)))
+    ∙ sym (decimal_step n (omega arith) (omega arith))
 
 pub with_minus : (z : ℤ) → z <ℤ pos 0 → 45 ∷ decimal (unsigned_abs z) ≡ signed_decimal z
 with_minus (pos n) h = absurd (omega (arith, ints))
