@@ -10,6 +10,10 @@ use Rattle.std.specs.List.{All}
 abbrev pub is_shown : ℕ → Bool
 is_shown b = (b == 10) || (nat_le 32 b && nat_le b 126)
 
+-- what a page has for a byte: a question mark unless it is shown
+abbrev pub page_byte : ℕ → ℕ
+page_byte b = if is_shown b then b else 63
+
 -- at most 65,536 bytes, each of which is shown
 pub record IsPage (text : List ℕ) : Type 0 where
   pub short : length text ≤ 65536

@@ -1,7 +1,7 @@
 //! A page of text for a terminal.
-ghost use Rattle.std.specs.Prelude.{◌≡◌, ◌≢◌, ◌≤◌, ◌<◌, ◌++◌, ℕ, List, [], None, true, IfSome};
-ghost use Rattle.std.specs.Prelude.{OnOk, length, slice_index, take};
-ghost use Rattle.vipr_page.specs.Page.{AreLines, IsCutPage, IsPage, is_shown};
+ghost use Rattle.std.specs.Prelude.{◌≡◌, ◌≢◌, ◌≤◌, ◌<◌, ◌++◌, ◌⊎◌, ◌∷◌, ℕ, List, [], None, true};
+ghost use Rattle.std.specs.Prelude.{false, IfSome, OnOk, length, map, slice_index, take};
+ghost use Rattle.vipr_page.specs.Page.{AreLines, IsCutPage, IsPage, page_byte};
 
 use std::alloc::{AllocError, Global};
 use std::fmt::{self, Display, Write};
@@ -25,7 +25,10 @@ pub struct Page {
 
 impl Page {
     /// A page that begins with a text.
-    pub fn begun(alloc: Global, text: &str) -> Page {
+    pub fn begun(alloc: Global, text: &str) -> Page
+        ensures { (result.bytes.items ≡ map page_byte text.now)
+            ⊎ ((result.is_cut ≡ true) ⊎ (result.has_failed ≡ true)) }
+    {
         let mut page = Page {
             bytes: Vec::new(alloc),
             is_cut: false,
@@ -36,12 +39,14 @@ impl Page {
     }
 
     /// Writes a text.
-    pub fn put(&mut self, text: &str) {
+    pub fn put(&mut self, text: &str)
+        ensures text { (self.new.bytes.items ≡ self.old.bytes.items ++ map page_byte text.now)
+            ⊎ ((self.new.is_cut ≡ true) ⊎ (self.new.has_failed ≡ true)) }
+        ensures cut { self.old.is_cut ≡ true → self.new.is_cut ≡ true }
+        ensures failed { self.old.has_failed ≡ true → self.new.has_failed ≡ true }
+    {
         for byte in text.as_bytes() {
-            match *byte {
-                10 | 32..=126 => self.put_byte(*byte),
-                _ => self.put_byte(b'?'),
-            }
+            self.put_byte(*byte);
         }
     }
 
@@ -53,7 +58,10 @@ impl Page {
     /// The page whole. A longer text is cut at the end of a line, and the last line says so. There
     /// is none if a growth was refused.
     pub fn end(mut self) -> Option<Page>
-        ensures { IfSome result (λ page. page.is_cut ≡ true → IsCutPage page.bytes.items) }
+        ensures cut { self.is_cut ≡ true → IfSome result (λ page. IsCutPage page.bytes.items) }
+        ensures failed { self.has_failed ≡ true → result ≡ None }
+        ensures whole { self.is_cut ≡ false
+            → IfSome result (λ page. page.bytes.items ≡ self.bytes.items) }
     {
         if self.has_failed || (self.is_cut && self.end_cut().is_err()) {
             return None;
@@ -82,11 +90,18 @@ impl Page {
 
     // Writes a byte, if there is room for it.
     fn put_byte(&mut self, byte: u8)
-        requires { is_shown byte ≡ true }
+        ensures byte { (self.new.bytes.items ≡ self.old.bytes.items ++ page_byte byte ∷ [])
+            ⊎ ((self.new.is_cut ≡ true) ⊎ (self.new.has_failed ≡ true)) }
+        ensures cut { self.old.is_cut ≡ true → self.new.is_cut ≡ true }
+        ensures failed { self.old.has_failed ≡ true → self.new.has_failed ≡ true }
     {
+        let shown = match byte {
+            10 | 32..=126 => byte,
+            _ => b'?',
+        };
         if self.bytes.len() >= MOST_BEFORE {
             self.is_cut = true;
-        } else if self.bytes.push(byte).is_err() {
+        } else if self.bytes.push(shown).is_err() {
             self.has_failed = true;
         }
     }
