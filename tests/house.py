@@ -207,9 +207,9 @@ def dead_lemmas():
             yield '%s:%d: nothing cites %s' % (shown(path), n, name)
 
 
-# calls for callers, which nothing here makes but tests
+# calls for callers, which nothing here makes but tests, and that of `write!`
 OFFERED = {'apply', 'count_items', 'from_pairs', 'holds_at', 'in_solutions', 'refers_back', 'tighten_certificate',
-           'is_of_text', 'is_overflow', 'is_verified'}
+           'is_of_text', 'is_overflow', 'is_verified', 'write_fmt'}
 # a public call, and its body if that is empty: such a function states a law
 CALL = re.compile(r'^( *)pub (?:const |unsafe )*fn (\w+).*(?:\{$|(?:\n(?!\1\{).*)*\n\1\{(\})?$)', re.M)
 

@@ -168,17 +168,23 @@ def of_long_names(room):
 
 
 def beside_beginnings(room, proof, other):
-    """FILE beside a file of each of its name's beginnings: names that programs give to copies, and names at random."""
+    """FILE, and OUT, beside a file of each of its name's beginnings: names that programs give to copies, and names at random."""
     dice = random.Random(16)
     names = [f'plan.vipr{end}' for end in ('.orig', '.bak', '~', '.old', '.new', '.tmp', '.save', '.part', '.swp', '.gz', '.1')]
     names += [''.join(dice.choices('abz.-_~ 019', k=dice.randrange(2, 12))) + 'v' for _ in range(20)]
     for name in names:
         room.mkdir()
-        for beginning in {name[:at] for at in range(1, len(name))} - {'.', '..'}:
-            (room / beginning).write_bytes(other)
+        beginnings = {room / name[:at] for at in range(1, len(name))} - {room / '.', room / '..'}
+        for beginning in beginnings:
+            beginning.write_bytes(other)
         expect('a beginning of it alone', (b'', b'fault read\n', 3), ['check', room / name])
         (room / name).write_bytes(proof)
-        expect('a file beside its beginnings', verdict('verified infeas\nsolutions 0 derived 1 peak 1'), ['check', room / name])
+        lines = verdict('verified infeas\nsolutions 0 derived 1 peak 1')
+        expect('a file beside its beginnings', lines, ['check', room / name])
+        (room / name).write_bytes(b'before')
+        expect('OUT beside its beginnings', (b'', b'kept 1 removed 0 peak 1 1\n', 0), ['tighten', '--out', room / name], proof)
+        expect('the text that OUT has', lines, ['check', room / name])
+        CHECKS.expect(f'the beginnings of {name!r}', {it.read_bytes() for it in beginnings}, {other})
         shutil.rmtree(room)
 
 

@@ -131,7 +131,13 @@ TIGHTENING = {
     'known': 'If `tighten_as` answers that it tightened, the text that the sink accepted spells a proof of the same claim about '
              'the same problem, with the same solutions. Each of its derivations is needed, and its peak isn\'t larger. If the '
              'text is no proof, nothing is written. For a file in place of a text in memory `written` says the same of some '
-             'proof.'}
+             'proof.\n\n'
+             '**With `--out OUT`** the sink is what a folder begins for OUT, which has accepted nothing yet (`WritesFile` in '
+             '`vipr_command/Tighten.antt`). If the answer is that it tightened, each name of that file holds the accepted text, '
+             'and every other name what it held (`IsReplaced` in `vipr_command/Folder.antt`). A failed write after the whole text is '
+             'answered only if the folder may refuse it, and each name holds what it held; or if the folder may fail late, and '
+             'OUT holds the text (`Replaces`). After every other answer each name holds what it held. All this is said of a '
+             'folder that exposes what it holds.'}
 
 # What no clause of `Checks` cites, and why it is quoted.
 APPENDIX = ['over', '◌+ℚ◌', '◌*ℚ◌', '◌≤ℚ◌', 'IsTrueClaim', 'PassesSteps', 'IsExplained']

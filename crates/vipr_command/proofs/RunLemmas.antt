@@ -14,13 +14,14 @@ use Rattle.vipr_write.specs.declared.form.Form.{Form}
 use Rattle.vipr_tighten.specs.declared.outcome.TightenFault.TheVariants as tighten
 use Rattle.vipr_command.specs.Answer.{AnswersTask, Prints}
 use Rattle.vipr_command.specs.Args.{are_accepted, request_of, asked_by, words_fault}
-use Rattle.vipr_command.specs.Folder.{IsFileOf, Names, Unchanged, text_held}
+use Rattle.vipr_command.specs.Folder.{Files, IsFileOf, Unchanged, begun_for, text_held}
 use Rattle.vipr_command.specs.Known.{KnownInput, OfInput, unknown_input}
 use Rattle.vipr_command.specs.Output.{Stays}
 use Rattle.vipr_command.specs.Run.{AnswersError, Does, DoesJob, FailsToRead, AnswersWords}
 use Rattle.vipr_command.specs.Run.{Outside, PrintsAnswer, SaysNoMore, UnlessMissing, outside_of, read_from}
 use Rattle.vipr_command.proofs.InputLemmas.{of_input}
 use Rattle.vipr_command.proofs.ShowLemmas.{stays}
+use Rattle.vipr_command.proofs.TightenLemmas.{unwritten}
 use Rattle.vipr_command.specs.declared.answer.Printed.{Printed}
 use Rattle.vipr_command.specs.declared.ending.Ending.{Ending}
 use Rattle.vipr_command.specs.declared.fault.CommandFault.{CommandFault}
@@ -30,11 +31,11 @@ use Rattle.vipr_command.specs.declared.request.Task.{Task}
 use Rattle.vipr_command.specs.declared.request.Task.TheVariants.{Check, Explain, Show, Tighten}
 
 -- each name holds what it held
-pub same_files : (files : Names) → Unchanged files files
+pub same_files : (files : Files) → Unchanged files files
 same_files files n = refl
 
 pub declined : (words : List Text) (input : Option Input) (e : Error)
-    (old new before after : Option Output) (files : Names) (r : Result Ending CommandFault)
+    (old new before after : Option Output) (files : Files) (r : Result Ending CommandFault)
     → HasKind (words_fault words) e → AnswersError (kind_of e) old new before after r
     → AnswersWords words input (outside_of old files) (outside_of new files) before after r
 declined words input e old new before after files r (inl memory) (inl (other, d)) = absurd (other memory)
@@ -59,15 +60,15 @@ named o = option_map (λ s. s.now) o
 
 -- a file that can't be opened
 unread : (t : Task) (P : Profile) (F : Form) (l s : Bool) (out : Option Text)
-    (old : Option Output) (files : Names)
+    (old : Option Output) (files : Files)
     → Does t P F l s out unknown_input (outside_of old files) (outside_of old files) (Err Read)
 unread Check P F l s out old files = ((Err Read, tt, (refl, stays old)), same_files files)
 unread Explain P F l s out old files = ((Err Read, tt, (refl, stays old)), same_files files)
 unread Show P F l s out old files = ((tt, stays old), same_files files)
 unread Tighten P F l s None old files = ((Err tighten.Read, refl, (tt, stays old)), same_files files)
-unread Tighten P F l s (Some out) old files = (inl (Err tighten.Read, refl, ((tt, tt), same_files files)), stays old)
+unread Tighten P F l s (Some out) old files = (unwritten P F (unknown_input.proof P) files out tighten.Read (tt, stays (begun_for files out)), stays old)
 
-pub unread_job : (j : Job) (old : Option Output) (files : Names)
+pub unread_job : (j : Job) (old : Option Output) (files : Files)
     → DoesJob j unknown_input (outside_of old files) (outside_of old files) (Err Read)
 unread_job j old files = unread j.command (profile_of j.profile) j.form j.is_long j.has_sum (named j.out) old files
 
@@ -102,7 +103,7 @@ module _ (j : Job) (source : Option Input) (old new : Outside) (before after : O
   done_with_input is done quiet = subst DoneWith (sym is) (done, tt, inl quiet)
 
   -- a file of the folder
-  pub done_with_file : (file : Bor (List ℕ)) → j.file ≡ Some file → OfInput (text_held (old.files file.now)) (λ k. DoesJob j k old new r) → (old.files file.now ≡ Some None → FailsToRead old.output new.output r) → SaysNoMore j.command j.is_long old.files (Some file.now) before after r → DoneWith j.file
+  pub done_with_file : (file : Bor (List ℕ)) → j.file ≡ Some file → OfInput (text_held (old.files.holds file.now)) (λ k. DoesJob j k old new r) → (old.files.holds file.now ≡ Some None → FailsToRead old.output new.output r) → SaysNoMore j.command j.is_long old.files (Some file.now) before after r → DoneWith j.file
   done_with_file file is done found said = subst DoneWith (sym is) (done, found, said)
 
   -- the words ask for what is done
@@ -115,12 +116,12 @@ module _ (j : Job) (source : Option Input) (old new : Outside) (r : Result Endin
   done_as t is done = subst (λ (t : Task). OfInput source (λ k. Does t (profile_of j.profile) j.form j.is_long j.has_sum (named j.out) k old new r)) (sym is) done
 
 -- no file is changed
-pub beside : (source : Option Input) (P : KnownInput → Type 0) (files : Names) → OfInput source P
+pub beside : (source : Option Input) (P : KnownInput → Type 0) (files : Files) → OfInput source P
     → OfInput source (λ k. P k × Unchanged files files)
 beside source P files done = of_input source P (λ k. P k × Unchanged files files) (λ k p. (p, same_files files)) done
 
 -- an answer was printed
-pub done_answer : (j : Job) (source : Option Input) (old new : Option Output) (files : Names)
+pub done_answer : (j : Job) (source : Option Input) (old new : Option Output) (files : Files)
     (a : Result Printed CommandFault) (r : Result Ending CommandFault)
     → (j.command ≡ Check) ⊎ (j.command ≡ Explain)
     → OfInput source (λ k. AnswersTask j.command (profile_of j.profile) j.is_long j.has_sum k a)

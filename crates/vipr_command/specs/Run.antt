@@ -13,7 +13,7 @@ use Rattle.vipr_check.specs.Text.{refusal_text}
 use Rattle.vipr_write.specs.declared.form.Form.{Form}
 use Rattle.vipr_command.specs.Answer.{AnswersTask, Prints}
 use Rattle.vipr_command.specs.Args.{asked_by, command_word, words_fault}
-use Rattle.vipr_command.specs.Folder.{Names, Unchanged, text_held}
+use Rattle.vipr_command.specs.Folder.{Files, Unchanged, text_held}
 use Rattle.vipr_command.specs.Known.{KnownInput, OfInput}
 use Rattle.vipr_command.specs.Output.{EndsRun, IsEnding, Stays, Took, after_first}
 use Rattle.vipr_command.specs.Show.{ShowsText}
@@ -49,9 +49,9 @@ PrintsText F k old new (Err f) = ShowsText F k.kind old new (Err f)
 -- what is known of where a run writes: what its output accepted, and what its files hold
 pub record Outside : Type 0 where
   pub output : Option Output
-  pub files : Names
+  pub files : Files
 
-abbrev pub outside_of : Option Output → Names → Outside
+abbrev pub outside_of : Option Output → Files → Outside
 outside_of output files = record { output = output; files = files }
 
 -- the tightened certificate was written: to standard output, or else to OUT with nothing printed
@@ -80,31 +80,31 @@ DoesJob j k old new r = Does j.command (profile_of j.profile) j.form j.is_long j
     (option_map (λ s. s.now) j.out) k old new r
 
 -- what is read, if it is known: the named file, or else standard input
-abbrev pub read_from : Names → Option Input → Option Text → Option Input
-read_from holds input None = input
-read_from holds input (Some file) = text_held (holds file)
+abbrev pub read_from : Files → Option Input → Option Text → Option Input
+read_from files input None = input
+read_from files input (Some file) = text_held (files.holds file)
 
 -- nothing was answered but that a read failed
 abbrev pub FailsToRead : Option Output → Option Output → Result Ending CommandFault → Type 0
 FailsToRead old new r = (r ≡ Err Read) × Stays old new
 
 -- a named file that is known to be none that can be opened fails to be read
-abbrev pub UnlessMissing : Names → Option Text → Option Output → Option Output
+abbrev pub UnlessMissing : Files → Option Text → Option Output → Option Output
     → Result Ending CommandFault → Type 0
-UnlessMissing holds None old new r = ⊤
-UnlessMissing holds (Some file) old new r = holds file ≡ Some None → FailsToRead old new r
+UnlessMissing files None old new r = ⊤
+UnlessMissing files (Some file) old new r = files.holds file ≡ Some None → FailsToRead old new r
 
 -- a file was named that isn't known to be one that can be opened
-abbrev pub MayBeMissing : Names → Option Text → Type 0
-MayBeMissing holds None = ⊥
-MayBeMissing holds (Some file) = (i : Input) → holds file ≢ Some (Some i)
+abbrev pub MayBeMissing : Files → Option Text → Type 0
+MayBeMissing files None = ⊥
+MayBeMissing files (Some file) = (i : Input) → files.holds file ≢ Some (Some i)
 
 -- nothing was said while the task was done, unless the file couldn't be opened for an explanation
 -- that is to be long; before and after are what standard error took
-abbrev pub SaysNoMore : Task → Bool → Names → Option Text → Option Output → Option Output
+abbrev pub SaysNoMore : Task → Bool → Files → Option Text → Option Output → Option Output
     → Result Ending CommandFault → Type 0
-SaysNoMore t long holds file before after r = Stays before after
-    ⊎ ((t ≡ Explain) × (long ≡ true) × (r ≡ Err Read) × MayBeMissing holds file)
+SaysNoMore t long files file before after r = Stays before after
+    ⊎ ((t ≡ Explain) × (long ≡ true) × (r ≡ Err Read) × MayBeMissing files file)
 
 -- the words ask for a task, which is done with the named file, or else with standard input
 abbrev pub DoesAsked : List Text → Option Input → Outside → Outside → Option Output → Option Output

@@ -1,16 +1,16 @@
 -- What `tighten` does: how it answers, and what was written then.
-use Rattle.std.specs.Prelude.{⊤, ◌≡◌, ◌⊎◌, ◌++◌, ℕ, List, Option, Some, None, IfSome}
-use Rattle.std.specs.Prelude.{Result, Ok, Err, codes}
+use Rattle.std.specs.Prelude.{◌≡◌, ◌⊎◌, ◌++◌, ℕ, List, Option, Result, Ok, Err, codes}
 use Rattle.vipr_spec.specs.Constraint.{Profile}
 use Rattle.vipr_bytes.specs.Output.{Output}
 use Rattle.vipr_tighten.specs.Text.{outcome_status, outcome_text}
-use Rattle.vipr_tighten.specs.Tightens.{AreFigures, ForProof, KindOfText, TightensText}
+use Rattle.vipr_bytes.specs.declared.write.WriteFailed.{WriteFailed}
+use Rattle.vipr_tighten.specs.Tightens.{KindOfText, TightensText}
 use Rattle.vipr_write.specs.declared.form.Form.{Form}
 use Rattle.vipr_tighten.specs.declared.outcome.Outcome.{Outcome}
 use Rattle.vipr_tighten.specs.declared.outcome.Outcome.TheVariants.{Tightened, Refused}
 use Rattle.vipr_tighten.specs.declared.outcome.TightenFault.{TightenFault}
 use Rattle.vipr_tighten.specs.declared.outcome.TightenFault.TheVariants as tighten
-use Rattle.vipr_command.specs.Folder.{Names, Replaces, Unchanged, UnchangedBut, whole_input}
+use Rattle.vipr_command.specs.Folder.{Files, Replaces, Unchanged, begun_for}
 use Rattle.vipr_command.specs.Output.{IsEnding}
 use Rattle.vipr_command.specs.declared.ending.Ending.{Ending}
 use Rattle.vipr_command.specs.declared.fault.CommandFault.{CommandFault}
@@ -39,32 +39,21 @@ abbrev pub WritesTightened : Profile → Form → KindOfText → Option Output �
 WritesTightened P F k old new result = (r : Result Outcome TightenFault)
     × EndsAs (tighten_answer r) result × TightensText P F k old new r
 
--- What is answered of a text that was tightened to a file, which out is the place of. Once it was
--- written, the file may still fail to keep it, and then that is a failed write. All else is
--- answered as it is, and each name of the folder holds what it held.
-abbrev pub Settles : Result Outcome TightenFault → Names → Names → List ℕ → Option Output
+-- What is answered of a text that was tightened to out, for the file of this name. Once it was
+-- written, the folder may still refuse it, and then that is a failed write. All else is answered as
+-- it is, and each name holds what it held.
+abbrev pub Settles : Result Outcome TightenFault → Files → Files → List ℕ → Option Output
     → Result Outcome CommandFault → Type 0
 Settles (Ok (Tightened kept removed before after)) old new name out r =
     ((r ≡ Ok (Tightened kept removed before after)) × Replaces old new name out (Ok tt))
-    ⊎ (((n : ℕ) × (r ≡ Err (Write n))) × Unchanged old new)
+    ⊎ ((e : WriteFailed) × (r ≡ Err (Write e.accepted)) × Replaces old new name out (Err e))
 Settles (Ok (Refused x)) old new name out r = (r ≡ Ok (Refused x)) × Unchanged old new
 Settles (Err e) old new name out r = (r ≡ Err (tighten_fault_for e)) × Unchanged old new
 
--- A text of this kind was tightened to the file of this name. Tightened: the name holds the whole
--- text of the tightened certificate, if it is known what it held, and each other name what it held.
--- Else each holds what it held.
-abbrev pub PutsTightened : Profile → Form → KindOfText → Names → Names → List ℕ
-    → Result Outcome TightenFault → Type 0
-PutsTightened P F k old new name (Ok (Tightened kept removed before after)) =
-    ForProof P F k (λ c t text. AreFigures c t kept removed before after
-    × IfSome (old name) (λ _. new name ≡ Some (Some (whole_input text))))
-    × UnchangedBut name old new
-PutsTightened P F k old new name r = TightensText P F k None None r × Unchanged old new
-
--- The answer is that of what became of a text that was tightened to a file; or the text is that of
--- a proof, and the file failed to keep what was written: each name holds what it held.
-abbrev pub WritesFile : Profile → Form → KindOfText → Names → Names → List ℕ
+-- A text of this kind was tightened to what was begun for the file of this name, which is out then,
+-- and the answer is that of what became of it.
+abbrev pub WritesFile : Profile → Form → KindOfText → Files → Files → List ℕ
     → Result Ending CommandFault → Type 0
-WritesFile P F k old new name result = ((r : Result Outcome TightenFault)
-    × EndsAs (tighten_answer r) result × PutsTightened P F k old new name r)
-    ⊎ (((n : ℕ) × (result ≡ Err (Write n))) × ForProof P F k (λ c t text. ⊤) × Unchanged old new)
+WritesFile P F k old new name result =
+    (x : Result Outcome TightenFault) × (out : Option Output) × (r : Result Outcome CommandFault)
+    × TightensText P F k (begun_for old name) out x × Settles x old new name out r × EndsAs r result

@@ -39,8 +39,8 @@ pub fn run<D: Folder, R: Source + Drop, O: Sink, E: Sink>(
     ensures status { result ≤ 3 }
     ensures usage { result ≡ 2 → are_accepted (map (λ w. w.now) words.now) ≡ false }
     ensures runs { RunsOver (map (λ w. w.now) words.now) (R.input input)
-        (outside_of (O.output out.old) (D.holds files.old))
-        (outside_of (O.output out.new) (D.holds files.new))
+        (outside_of (O.output out.old) (D.known files.old))
+        (outside_of (O.output out.new) (D.known files.new))
         (E.output err.old) (E.output err.new) result }
 {
     match answer_words(alloc, files, words, input, out, err) {
@@ -62,8 +62,8 @@ fn answer_words<D: Folder, R: Source + Drop, O: Sink, E: Sink>(
     ensures usage { IfOk result
         (λ e. e.status ≡ 2 → are_accepted (map (λ w. w.now) words.now) ≡ false) }
     ensures answered { AnswersWords (map (λ w. w.now) words.now) (R.input input)
-        (outside_of (O.output out.old) (D.holds files.old))
-        (outside_of (O.output out.new) (D.holds files.new))
+        (outside_of (O.output out.old) (D.known files.old))
+        (outside_of (O.output out.new) (D.known files.new))
         (E.output err.old) (E.output err.new) result }
 {
     let job = match job(alloc, words) {
@@ -108,12 +108,12 @@ fn do_task_on_file<D: Folder, O: Sink, E: Sink>(
     out: &mut O,
     err: &mut E,
 ) -> Result<Ending, CommandFault>
-    ensures done { OfInput (text_held (D.holds files.old name.now)) (λ k. DoesJob job.now k
-        (outside_of (O.output out.old) (D.holds files.old))
-        (outside_of (O.output out.new) (D.holds files.new)) result) }
-    ensures missing { D.holds files.old name.now ≡ Some None
+    ensures done { OfInput (text_held ((D.known files.old).holds name.now)) (λ k. DoesJob job.now k
+        (outside_of (O.output out.old) (D.known files.old))
+        (outside_of (O.output out.new) (D.known files.new)) result) }
+    ensures missing { (D.known files.old).holds name.now ≡ Some None
         → FailsToRead (O.output out.old) (O.output out.new) result }
-    ensures said { SaysNoMore job.now.command job.now.is_long (D.holds files.old) (Some name.now)
+    ensures said { SaysNoMore job.now.command job.now.is_long (D.known files.old) (Some name.now)
         (E.output err.old) (E.output err.new) result }
 {
     match files.open(name) {
@@ -135,8 +135,8 @@ fn do_task<D: Folder, R: Source + Drop, O: Sink>(
     out: &mut O,
 ) -> Result<Ending, CommandFault>
     ensures { OfInput (R.input source) (λ k. DoesJob job.now k
-        (outside_of (O.output out.old) (D.holds files.old))
-        (outside_of (O.output out.new) (D.holds files.new)) result) }
+        (outside_of (O.output out.old) (D.known files.old))
+        (outside_of (O.output out.new) (D.known files.new)) result) }
 {
     match job.command {
         Task::Show => print_text(alloc, job.form, source, out),

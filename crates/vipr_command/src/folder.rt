@@ -1,7 +1,9 @@
 //! Files by their names.
-ghost use Rattle.std.specs.Prelude.{ℕ, List, Option, IfOk, IfSome};
-ghost use Rattle.vipr_spec.specs.Input.{Input};
-ghost use Rattle.vipr_command.specs.Folder.{BeginsEmpty, IsFileOf, Replaces, Unchanged, one_file};
+ghost use Rattle.std.specs.Prelude.{◌≡◌, IfOk, IfSome};
+ghost use Rattle.std.specs.List.{list_any};
+ghost use Rattle.std.specs.Str.{bytes_eq};
+ghost use Rattle.vipr_command.specs.Folder.{Files, IsFileOf, Replaces, Unchanged, begun_for};
+ghost use Rattle.vipr_command.specs.Folder.{two_files};
 
 use std::alloc::{AllocError, Global};
 use std::io;
@@ -10,8 +12,8 @@ use vipr_bytes::{Bytes, Sink, Source, WriteFailed};
 
 /// Files that can be read and replaced, by their names.
 pub trait Folder {
-    // What each name holds, if that is known: a text, or nothing that can be opened.
-    ghost holds: { Self → List ℕ → Option (Option Input) };
+    // What is known of them.
+    ghost known: { Self → Files };
 
     /// A file that is read from its start.
     type In: Source + Drop;
@@ -21,7 +23,8 @@ pub trait Folder {
 
     /// Opens the file of this name.
     fn open(&self, name: &str) -> io::Result<Self::In>
-        ensures { IfSome (holds self.now name.now) (λ held. IsFileOf Self.In.input held result) };
+        ensures { IfSome ((known self.now).holds name.now)
+            (λ held. IsFileOf Self.In.input held result) };
 
     /// Begins a text for this name, which holds what it held.
     ///
@@ -30,40 +33,52 @@ pub trait Folder {
     /// A growth is refused.
     fn begin(&self, name: &str) -> Result<Self::Out, AllocError>
         ensures { IfOk result
-            (λ text. BeginsEmpty (holds self.now name.now) (Self.Out.output text)) };
+            (λ text. Self.Out.output text ≡ begun_for (known self.now) name.now) };
 
     /// Gives this name the text that was begun for it.
     ///
     /// # Errors
     ///
-    /// The text can't be kept. The name holds what it held.
+    /// The text is refused, and the name holds what it held; or it may not be on its disk.
     fn keep(&mut self, name: &str, text: Self::Out) -> Result<(), WriteFailed>
-        ensures { Replaces (holds self.old) (holds self.new) name.now (Self.Out.output text)
+        ensures { Replaces (known self.old) (known self.new) name.now (Self.Out.output text)
             result };
 
     /// Gives up a text that was begun.
     fn abandon(&mut self, text: Self::Out)
-        ensures { Unchanged (holds self.old) (holds self.new) };
+        ensures { Unchanged (known self.old) (known self.new) };
 }
 
-/// One file in memory. A text that replaced another one is never freed.
+/// A text in memory, and the names under which it is found.
 #[derive(Clone, Copy)]
-pub struct OneFile<'a> {
-    pub alloc: Global,
-    pub name: &'a str,
+pub struct NamedText<'a> {
+    pub names: &'a [&'a str],
     pub text: &'a [u8],
 }
 
-impl<'a> Folder for OneFile<'a> {
-    ghost holds = { λ f. one_file f.name.now f.text.now };
+/// Two files in memory. A name that both have is the first one's. A text that replaced another
+/// one is never freed.
+#[derive(Clone, Copy)]
+pub struct TwoFiles<'a> {
+    pub alloc: Global,
+    pub first: NamedText<'a>,
+    pub second: NamedText<'a>,
+}
+
+impl<'a> Folder for TwoFiles<'a> {
+    ghost known = { λ f. two_files (λ n. list_any (λ m. bytes_eq m.now n) f.first.names.now)
+        f.first.text.now (λ n. list_any (λ m. bytes_eq m.now n) f.second.names.now)
+        f.second.text.now };
 
     type In = Bytes<'a>;
 
     type Out = Vec<u8>;
 
     fn open(&self, name: &str) -> io::Result<Bytes<'a>> {
-        if name == self.name {
-            Ok(Bytes::new(self.text))
+        if self.first.names.contains(&name) {
+            Ok(Bytes::new(self.first.text))
+        } else if self.second.names.contains(&name) {
+            Ok(Bytes::new(self.second.text))
         } else {
             Err(io::Error::from(ErrorKind::NotFound))
         }
@@ -74,12 +89,15 @@ impl<'a> Folder for OneFile<'a> {
     }
 
     fn keep(&mut self, name: &str, text: Vec<u8>) -> Result<(), WriteFailed> {
-        if name != self.name {
+        if self.first.names.contains(&name) {
+            self.first.text = text.leak();
+        } else if self.second.names.contains(&name) {
+            self.second.text = text.leak();
+        } else {
             return Err(WriteFailed {
                 accepted: text.len() as u64,
             });
         }
-        self.text = text.leak();
         Ok(())
     }
 

@@ -21,7 +21,7 @@ pub use answer::{Printed, answer_to};
 pub use args::job;
 pub use command::run;
 pub use fault::CommandFault;
-pub use folder::{Folder, OneFile};
+pub use folder::{Folder, NamedText, TwoFiles};
 pub use host::Host;
 pub use request::{Job, Task};
 pub use system::SystemFiles;

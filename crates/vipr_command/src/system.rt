@@ -1,7 +1,7 @@
 //! The system's files: all calls by which the program opens, writes and replaces them.
 //!
 //! OUT is looked at before the certificate is read, and replaced by a new file if it is the same.
-ghost use Rattle.std.specs.Prelude.{None};
+ghost use Rattle.std.specs.Prelude.{None, true};
 
 use crate::folder::Folder;
 use crate::host::Host;
@@ -23,7 +23,7 @@ const NAME: usize = 36;
 /// The system's number of the error that a right is missing.
 const EPERM: i32 = 1;
 
-/// The system's files. What they hold isn't known.
+/// The system's files. What they hold isn't known, nor what the system refuses.
 #[derive(Drop)]
 pub struct SystemFiles<'a, H> {
     pub rt: &'a H,
@@ -61,7 +61,13 @@ enum Destination {
 }
 
 impl<'a, H: Host> Folder for SystemFiles<'a, H> {
-    ghost holds = { λ _ _. None };
+    ghost known = { λ _. record {
+      holds = λ _. None;
+      same = λ _ _. true;
+      room = λ _. None;
+      may_refuse = λ _. true;
+      may_fail_late = λ _. true;
+    } };
 
     type In = FromRead<File>;
 

@@ -31,8 +31,8 @@ pub(crate) fn print_tightened<D: Folder, R: Source + Drop, O: Sink>(
 ) -> Result<Ending, CommandFault>
     ensures { OfInput (R.input source) (λ k. PrintsTightened (profile_of job.now.profile)
         job.now.form (option_map (λ s. s.now) job.now.out) k
-        (outside_of (O.output out.old) (D.holds files.old))
-        (outside_of (O.output out.new) (D.holds files.new)) result) }
+        (outside_of (O.output out.old) (D.known files.old))
+        (outside_of (O.output out.new) (D.known files.new)) result) }
 {
     match job.out {
         None => write_tightened(alloc, job, source, out),
@@ -62,7 +62,7 @@ fn write_file<D: Folder, R: Source + Drop>(
     name: &str,
 ) -> Result<Ending, CommandFault>
     ensures { OfInput (R.input source) (λ k. WritesFile (profile_of job.now.profile) job.now.form
-        (k.proof (profile_of job.now.profile)) (D.holds files.old) (D.holds files.new) name.now
+        (k.proof (profile_of job.now.profile)) (D.known files.old) (D.known files.new) name.now
         result) }
 {
     let mut place = files.begin(name)?;
@@ -78,7 +78,7 @@ fn settle<D: Folder>(
     place: D::Out,
     tightened: Result<Outcome, TightenFault>,
 ) -> Result<Outcome, CommandFault>
-    ensures { Settles tightened (D.holds files.old) (D.holds files.new) name.now
+    ensures { Settles tightened (D.known files.old) (D.known files.new) name.now
         (D.Out.output place) result }
 {
     if let Ok(Outcome::Tightened { .. }) = tightened {

@@ -7,7 +7,7 @@ pub returns-in-Show : goal.returns-in-Show
 returns-in-Show g c =
     let j = c.args.job.now in
     let source = g.R.Source.input c.args.source in
-    let files = g.D.Folder.holds c.args.files.now in
+    let files = g.D.Folder.known c.args.files.now in
     let old = g.O.Sink.output c.args.out.now in
     let new = g.O.Sink.output c.print_text.new.out in
     let r = c.print_text.result in
@@ -15,7 +15,7 @@ returns-in-Show g c =
 
 pub returns-in-Tighten : goal.returns-in-Tighten
 returns-in-Tighten g c =
-    done_as c.args.job.now (g.R.Source.input c.args.source) (outside_of (g.O.Sink.output c.args.out.now) (g.D.Folder.holds c.args.files.now)) (outside_of (g.O.Sink.output c.print_tightened.new.out) (g.D.Folder.holds c.print_tightened.new.files)) c.print_tightened.result Tighten c.in-Tighten.is c.print_tightened.ensures
+    done_as c.args.job.now (g.R.Source.input c.args.source) (outside_of (g.O.Sink.output c.args.out.now) (g.D.Folder.known c.args.files.now)) (outside_of (g.O.Sink.output c.print_tightened.new.out) (g.D.Folder.known c.print_tightened.new.files)) c.print_tightened.result Tighten c.in-Tighten.is c.print_tightened.ensures
 
 pub returns-in-Check : goal.returns-in-Check
-returns-in-Check g c = done_answer c.args.job.now (g.R.Source.input c.args.source) (g.O.Sink.output c.args.out.now) (g.O.Sink.output c.print_answer.new.out) (g.D.Folder.holds c.args.files.now) c.answer_to.result c.print_answer.result c.in-Check.is c.answer_to.ensures c.print_answer.ensures
+returns-in-Check g c = done_answer c.args.job.now (g.R.Source.input c.args.source) (g.O.Sink.output c.args.out.now) (g.O.Sink.output c.print_answer.new.out) (g.D.Folder.known c.args.files.now) c.answer_to.result c.print_answer.result c.in-Check.is c.answer_to.ensures c.print_answer.ensures
