@@ -1,7 +1,7 @@
 #!/usr/bin/env python3
 """Tries the Python package: its reader, its calls of the library, and each of its commands.
 
-usage: tests/python.py [PROGRAM]     crates/vipr/out/vipr without it
+usage: tests/python.py [PROGRAM [PART ..]]     crates/vipr/out/vipr without it; a part is a function below, as `comparisons`
 
 - The package is installed from a copy of python/ into a folder, without a network, if this Python has pip; else its commands
   are run from python/ itself, with a word.
@@ -24,6 +24,7 @@ import functools
 import gzip
 import hashlib
 import importlib.util
+import inspect
 import itertools
 import json
 import lzma
@@ -90,17 +91,21 @@ def families_lines(family):
 
 # ---- the package as it is installed
 
+def modules():
+    """The commands as modules of python/."""
+    return {name: [sys.executable, '-m', f'vipr.{name.replace("-", "_")}'] for name in NAMES}
+
+
 def installed(room):
-    """The commands of the package: those that pip installs, or the modules of python/."""
-    modules = {name: [sys.executable, '-m', f'vipr.{name.replace("-", "_")}'] for name in NAMES}
+    """The commands of the package: those that pip installs, or the modules."""
     if importlib.util.find_spec('pip') is None:
         print('python: not installed, for want of pip')
-        return modules
+        return modules()
     shutil.copytree(TOP / 'python', room / 'source', ignore=shutil.ignore_patterns('__pycache__'))
     said, fault, status = run([sys.executable, '-m', 'pip', 'install', '-q', '--no-index', '--disable-pip-version-check',
                                '--target', room / 'site', room / 'source'])
     check(status == 0, (said + fault).decode())
-    return {name: [sys.executable, room / 'site/bin' / f'vipr-{name}'] for name in NAMES} if status == 0 else modules
+    return {name: [sys.executable, room / 'site/bin' / f'vipr-{name}'] for name in NAMES} if status == 0 else modules()
 
 
 # ---- the reader, and the calls
@@ -420,6 +425,8 @@ def figures():
         if found['goal'] is not None:
             kept = re.match(rb'kept (\d+)', run([PROGRAM, 'tighten'], text).stderr)[1]
             check(found['needed_derivations'] == int(kept), f'{path}: {found["needed_derivations"]} needed, {kept} kept')
+    found = stats.figures(vipr.read(NO_GOAL.replace(b'OBJ min 1 0 1', b'OBJ min 1 0 1000')))
+    check(found['written_bits'] == 10, f'the number of the objective is not counted: {found}')
     found = stats.figures(vipr.read(EXAMPLES[TOP / 'examples/overflow.vipr']))
     check((found['written_bits'], found['computed_bits']) == (127, 128), found)
     found = stats.figures(vipr.read(EXAMPLES[TOP / 'examples/branch_and_bound.vipr']))
@@ -561,6 +568,8 @@ def commands(room, words):
     for flag, wanted in ((['--infinity', '1e30'], 0), (['--infinity=inf'], 2), (['--infinity', '5'], 2), (['--infinity', '1e50'], 2)):
         status = run([*words['compare-mps'], *flag, model, example]).returncode
         check(status == wanted, f'compare-mps {flag}: status {status}')
+    out, fault, status = run([*words['compare-mps'], '-', '-'], EXAMPLES[example])
+    check((status, out) == (2, b'') and b'only one of the two' in fault, f'compare-mps - -: {status} {out} {fault}')
     if library():
         checked(room, words['compare-mps'])
     out, _, status = run([*words['stats'], '--json', example])
@@ -683,31 +692,30 @@ def large(room, words):
         path.unlink()
 
 
+def check_all(room, words):
+    many_files.check_all(check, room, words['check-all'], PROGRAM)
+
+
+def called(texts):
+    if library():
+        calls(texts[::3])
+
+
+PARTS = (called, inputs, types, causes, comparisons, sides, many_rows, turned_claims, figures, sets_of_assumptions, pictures, hostile, commands,
+         manual, check_all, large)
+
+
 def main():
-    dice = random.Random(20)
+    dice, chosen = random.Random(20), sys.argv[2:]
     os.environ['PYTHONPATH'] = str(TOP / 'python')
     os.environ['PYTHONDONTWRITEBYTECODE'] = '1'
     with tempfile.TemporaryDirectory(prefix='vipr-python-') as name:
         room = Path(name)
-        words = installed(room)
-        texts = reader(dice)
-        if library():
-            calls(texts[::3])
-        inputs(room)
-        types(room)
-        causes()
-        comparisons(dice)
-        sides()
-        many_rows()
-        turned_claims()
-        figures()
-        sets_of_assumptions(dice)
-        pictures(texts)
-        hostile(room, words)
-        commands(room, words)
-        manual(room, words)
-        many_files.check_all(check, room, words['check-all'], PROGRAM)
-        large(room, words)
+        given = {'room': room, 'dice': dice, 'words': modules() if chosen else installed(room)}
+        given['texts'] = reader(dice) if not chosen or {'reader', 'pictures', 'called'} & {*chosen} else []
+        for part in PARTS:
+            if not chosen or part.__name__ in chosen:
+                part(**{it: given[it] for it in inspect.signature(part).parameters})
     return CHECKS.end()
 
 

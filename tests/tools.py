@@ -223,6 +223,36 @@ def libraries(place):
         check(place.python('-c', question) == (0, said), f'a library {seconds} seconds after the sources: not {said}')
 
 
+def plants(place):
+    """tools/plant.py lists what no test refuses, and nothing else."""
+    shutil.copytree(TOP / 'tools', place.tree / 'tools', dirs_exist_ok=True)
+    folder, args = place.tree / 'python', place.tree / 'crates/vipr_command/src/args.rt'
+    shutil.rmtree(folder)
+    folder.mkdir()
+    (folder / 'stats.py').write_text('def is_less(one, other):\n    return one < other\n')
+    (place.tree / 'docs/PLANTS.md').write_text('\n'.join(('<!-- what survives: written by tools/plant.py -->', '<!-- end of what survives -->')))
+    wanted = {'return True': 'is_less(2, 1)', 'return False': 'not is_less(1, 2)', '<=': 'is_less(1, 1)'}
+    for known in ([], ['return True'], [*wanted]):
+        test = 'import sys\nsys.path.insert(0, "python")\nfrom stats import is_less\n'
+        (place.tree / 'tests/python.py').write_text(test + ''.join(f'if {wanted[it]}:\n    sys.exit(1)\n' for it in known))
+        shutil.rmtree(place.tree / 'out', ignore_errors=True)
+        status, out = place.python('tools/plant.py', '--write', 'python')
+        left = [it for it in wanted if it not in known]
+        check(status == (1 if left else 0) and last(out) == f'planted 3, refused {len(known)}, survive {len(left)}'
+              and all((it in out) == (it in left) for it in wanted), f'tests that refuse {known}: {status}, {out}')
+        page = (place.tree / 'docs/PLANTS.md').read_text()
+        check(all((it in page) == (it in left) for it in wanted), f'tests that refuse {known}: the page has {page}')
+    (place.tree / 'tests/python.py').write_text('raise ValueError\n')
+    shutil.rmtree(place.tree / 'out')
+    status, out = place.python('tools/plant.py', 'python')
+    check(status == 1 and 'no change planted' in out, f'a test that fails without a change: {status}, {out}')
+    args.write_text('fn first(all: &[u8], n: usize) -> bool {\n    if n < 2 {\n        note(n);\n    }\n    all[n] == b\'0\'\n}\n')
+    status, out = place.python('tools/plant.py', '--list', 'vipr_command')
+    said = re.findall(r'first: (.*)', out)
+    check(status == 0 and said == ['its answer is `true`', 'its answer is `false`', '`n < 2` is `false`', '`n < 2` is `true`', '`n < 2` is `n <= 2`',
+                                   '`n < 2` is `n < 3`', 'no `note(n);`', "`all[n] == b'0'` is `all[n] != b'0'`"], f'the changes of a function: {out}')
+
+
 def main():
     with tempfile.TemporaryDirectory(prefix='vipr-tools-') as name:
         place = Place(Path(name))
@@ -232,6 +262,7 @@ def main():
         changes(place)
         wrong(place)
         libraries(place)
+        plants(place)
         tests(place)
     return CHECKS.end()
 

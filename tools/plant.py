@@ -1,0 +1,251 @@
+#!/usr/bin/env python3
+"""Plants changes in the code, one at a time, and lists those that no test refuses.
+
+usage: tools/plant.py [--every N] [--jobs N] [--again] [--list] [--write] [--program PROGRAM] AREA ..
+An AREA is vipr_command, vipr_explain, vipr_page, vipr_bytes or python.
+
+changes.py finds the changes. Those of the crates are all in one program, which is built without a proof, as `rt try` compiles
+it; a number in its file says which of them is there. Those that don't compile aren't planted. For python/ a module is changed
+in a copy of the repository, whose tests run PROGRAM, or the one that is built here.
+
+Scripts of tests/ run with each, up to the first that ends with another status than 0, prints a fault, or goes on for 20
+minutes; another page than one that tests/long.py compares byte for byte counts as refused by it. Each script first runs with
+no change planted. --every N plants one in N of the changes, always the same; --list prints them, and does nothing more.
+
+What each came to is kept in out/plants, and a run that is cut off goes on there. A change is tried anew if its function changes,
+and with --again if it survived. --write puts what survives into docs/PLANTS.md, with the reasons that stand there. Prints each
+that survives, and last `planted N, refused R, survive S`; the exit status is 1 if one has no reason.
+"""
+import argparse
+import json
+import os
+import re
+import shutil
+import signal
+import struct
+import subprocess
+import sys
+import tempfile
+import threading
+from collections import Counter, defaultdict
+from concurrent.futures import ThreadPoolExecutor
+from pathlib import Path
+
+from changes import changed_module, of_crate, of_python
+from unproved import CALL, MARK, compiled, copied
+
+TOP = Path(__file__).resolve().parent.parent
+sys.path.insert(0, str(TOP / 'tests'))
+from sources import replaced  # noqa: E402
+from texts import run  # noqa: E402
+
+AREAS = ['vipr_command', 'vipr_explain', 'vipr_page', 'vipr_bytes', 'python']
+PAGE, KEPT = TOP / 'docs/PLANTS.md', TOP / 'out/plants'
+MARKS = '<!-- what survives: written by tools/plant.py -->', '<!-- end of what survives -->'
+# the scripts that try a program, the short ones first, and those that try a module of python/, with the parts that do.
+# (tests/archive.py alone tries the others, with what is proved and built)
+SUMS, ALL = 'python sides many_rows turned_claims comparisons commands', 'answers interface output calls conformance kills fuzz hostile large long'.split()
+SCRIPTS = {
+    'vipr_command': ALL, 'vipr_bytes': ALL, 'vipr_explain': ['long', 'hostile'], 'vipr_page': ['long', 'hostile'],
+    'mps.py': [SUMS], 'compare_mps.py': [SUMS], 'verdict.py': [f'{SUMS} reader check_all'], 'algebra.py': [SUMS, 'browser'], 'files.py': ['python commands'],
+    'certificate.py': ['python reader inputs'], 'check_all.py': ['python check_all'], 'picture.py': ['python pictures commands'],
+    'stats.py': ['python figures commands'], 'proof.py': ['python figures sets_of_assumptions pictures', 'browser'], 'html.py': ['browser'],
+    'library.py': ['python called inputs commands'], 'writer.py': ['writer'], 'build_manual.py': ['python manual'],
+}
+SECONDS, NO_REASON = 1200, 'not looked at'
+
+
+# ---- a program with all of them
+
+def guarded(text, low, high, rows):
+    """A part of a text with changes in it, each behind its number: rows of a number and a change, the outer ones first."""
+    made, at = [], low
+    while rows:
+        (number, it), *rows = rows
+        count = next((n for n, (_, other) in enumerate(rows) if other.start >= it.end), len(rows)) if it.end > it.start else 0
+        made += text[at:it.start], it.form(guarded(text, it.start, it.end, rows[:count]), number)
+        at, rows = it.end, rows[count:]
+    return ''.join(made) + text[at:high]
+
+
+def build(changes, program):
+    """Builds a program with these changes, each behind its number from 1 on, and gives those that are in it by their numbers."""
+    numbered = dict(enumerate(changes, 1))
+    with tempfile.TemporaryDirectory(prefix='vipr-plant-') as name:
+        room = Path(name)
+        copied(room)
+        while True:
+            for file in {it.file for it in changes}:
+                text = (TOP / file).read_text(encoding='utf-8')
+                rows = [row for row in numbered.items() if row[1].file == file]
+                (room / file).write_text(guarded(text, 0, len(text), rows), encoding='utf-8')
+            said = compiled(room, program)
+            if not said:
+                return numbered
+            faulty = set()
+            for file, line, column in re.findall(r'(\S+?\.rt):(\d+):(\d+): error', said):
+                shown = (room / file).read_text(encoding='utf-8').split('\n')[int(line) - 1]
+                near = [int(it[1]) for it in re.finditer(rf'{CALL}\((\d+)\)', shown[:int(column) + len(CALL) + 8])]
+                faulty |= set(near[-1:])
+            if not faulty & numbered.keys():
+                sys.exit(f'{said[:4000]}\nthe program is not built')
+            numbered = {number: it for number, it in numbered.items() if number not in faulty}
+
+
+# ---- what refuses them
+
+def scripts_for(change):
+    """The scripts that try a change: those of its crate, or of its module."""
+    return next(SCRIPTS[it] for it in change.file.split('/')[::-1] if it in SCRIPTS)
+
+
+def refuses(words, folder):
+    """Whether a script ends with another status than 0, prints a fault, or takes too long."""
+    with tempfile.TemporaryDirectory(prefix='vipr-plant-') as room, \
+            subprocess.Popen([sys.executable, *map(str, words)], cwd=folder, stdin=subprocess.DEVNULL, stdout=subprocess.PIPE, text=True,
+                             stderr=subprocess.STDOUT, errors='replace', start_new_session=True,
+                             env={**os.environ, 'TMPDIR': room, 'PYTHONDONTWRITEBYTECODE': '1'}) as child:
+        os.chmod(room, 0o755)
+        clock = threading.Timer(SECONDS, os.killpg, (child.pid, signal.SIGKILL))
+        clock.start()
+        fault = next((line for line in child.stdout if not line.startswith(f'{Path(words[0]).stem}: ')), None)
+        clock.cancel()
+        if fault and child.poll() is None:
+            os.killpg(child.pid, signal.SIGKILL)
+        return child.wait() != 0
+
+
+def pages_of(program, kept):
+    """The texts of which tests/long.py compares the page byte for byte, with words and answer: what a run of it hands to a program."""
+    if not kept.is_file():
+        with tempfile.TemporaryDirectory(prefix='vipr-plant-') as name:
+            copier = Path(name) / 'vipr'
+            copier.write_text('#!/bin/sh\nfor last; do :; done\ncase "$*" in "explain --long "*) '
+                              f'it=$(mktemp {name}/XXXXXXXX) && cp "$last" $it.vipr && echo "$*" > $it.words;; esac 2> /dev/null\n'
+                              f'exec {program} "$@"\n')
+            copier.chmod(0o755)
+            # (it also counts how often a file is opened, and finds that the copier does so)
+            subprocess.run([sys.executable, 'tests/long.py', '--texts', '0', copier], cwd=TOP, stdout=subprocess.DEVNULL, check=False)
+            known, found = set(re.split('==== .*\n', (TOP / 'tests/long_pages.txt').read_text(encoding='ascii'))), set()
+            for path in sorted(Path(name).glob('*.words')):
+                text, words = path.with_suffix('.vipr').read_bytes(), path.read_text().split('/')[0].split()
+                long, short = (run([program, *(it for it in words if it != left)], text).stdout.decode('latin-1') for left in ('', '--long'))
+                if known & {it.replace('standard input', 'FILE') for it in (long, long[len(short):])}:
+                    found.add((text.decode('latin-1'), long, *words))
+            kept.write_text(json.dumps(sorted(found)))
+    return json.loads(kept.read_text())
+
+
+def first_that_refuses(change, number, program, pages):
+    """The first script that refuses a change, and nothing if none does."""
+    with tempfile.TemporaryDirectory(prefix='vipr-plant-') as name:
+        folder, room = TOP, Path(name)
+        room.chmod(0o755)
+        if change.file.startswith('python/'):
+            folder = room / 'tree'
+            folder.mkdir()
+            for path in TOP.iterdir():
+                if path.name in ('python', 'tests'):
+                    shutil.copytree(path, folder / path.name, ignore=shutil.ignore_patterns('__pycache__'))
+                elif path.name != '.git':
+                    (folder / path.name).symlink_to(path)
+            (folder / change.file).write_bytes(changed_module(change))
+        else:
+            # (by other processes: one that this thread forks meanwhile would hold the file open, and it couldn't be run)
+            planted, program = program, room / 'vipr'
+            run(['cp', planted, program])
+            run(['dd', f'of={program}', 'bs=1', f'seek={planted.read_bytes().index(MARK) + len(MARK)}', 'conv=notrunc'], struct.pack('<I', number))
+            for text, page, *words in pages:
+                if run([program, *words], text.encode('latin-1')).stdout != page.encode('latin-1'):
+                    return 'long'
+        runs = map(str.split, scripts_for(change))
+        return next((script for script, *parts in runs if refuses([f'tests/{script}.py', program, *parts], folder)), '')
+
+
+# ---- the list
+
+def shown(it):
+    """A change as the page names it."""
+    return f'`{it.file.removeprefix("crates/")}`, `{it.function}`: {it.what.replace("|", "&#124;")}'
+
+
+def reasons():
+    """The reasons that stand in the page."""
+    rows = re.findall(r'^\| (`[^|]*) \| ([^|]+) \|$', PAGE.read_text(encoding='utf-8'), re.M)
+    return {name: why for name, why in rows if why != NO_REASON}
+
+
+def listed(changes, came):
+    """The part of the page: how many each script refused, and each change that survives, with its reason."""
+    lines = ['| Changed | Planted | Refused | By | Survive | Not tried to the end |', '|---|---|---|---|---|---|']
+    groups, known = defaultdict(list), reasons()
+    for it in changes:
+        groups['python' if it.file.startswith('python') else it.file.split('/')[1]].append(came.get(it.key, '?'))
+    for group, scripts in groups.items():
+        count = Counter(scripts)
+        rest, survive = count.pop('?', 0), count.pop('', 0)
+        by = ', '.join(f'`{script}.py` {number}' for script, number in count.most_common())
+        lines.append(f'| `{group}` | {len(scripts)} | {sum(count.values())} | {by} | {survive} | {rest} |')
+    lines += ['', '| Survives | Why |', '|---|---|']
+    lines += [f'| {shown(it)} | {known.get(shown(it), NO_REASON)} |' for it in changes if came.get(it.key) == '']
+    return '\n'.join(lines)
+
+
+def main():
+    words = argparse.ArgumentParser(description=__doc__.split('\n', maxsplit=1)[0])
+    words.add_argument('areas', nargs='+', choices=AREAS, metavar='AREA', help=', '.join(AREAS))
+    words.add_argument('--every', type=int, default=1, metavar='N', help='plant one in N changes')
+    words.add_argument('--jobs', type=int, default=2, metavar='N', help='try N at once')
+    words.add_argument('--program', type=Path, default=TOP / 'crates/vipr/out/vipr', help='the program for the tests of python/')
+    words.add_argument('--again', action='store_true', help='try once more what survived')
+    words.add_argument('--list', action='store_true', help='print the changes')
+    words.add_argument('--write', action='store_true', help='write the list into docs/PLANTS.md')
+    given = words.parse_args()
+    known = {area: list(of_python(SCRIPTS) if area == 'python' else of_crate(area)) for area in AREAS}
+    changes = [it for area in given.areas for it in known[area] if int(it.key, 16) % given.every == 0]
+    if given.list:
+        print(*(f'{it.file}:{it.line}: {it.function}: {it.what}' for it in changes), sep='\n')
+        return 0
+    KEPT.parent.mkdir(exist_ok=True)
+    came = dict(line.split(' ') for line in KEPT.read_text().split('\n')[:-1]) if KEPT.is_file() else {}
+    todo = [it for it in changes if it.key not in came or given.again and not came[it.key]]
+    if todo:
+        try_all(todo, came, given)
+    changes = [it for it in changes if came[it.key] != '-']
+    missing = sum(not came[it.key] and shown(it) not in reasons() for it in changes)
+    if given.write:
+        text = listed([it for area in AREAS for it in known[area] if came.get(it.key) != '-'], came)
+        PAGE.write_text(replaced(PAGE.read_text(encoding='utf-8'), MARKS, '\n'.join([MARKS[0], text, MARKS[1]])), encoding='utf-8')
+    survive = sum(not came[it.key] for it in changes)
+    print(f'planted {len(changes)}, refused {len(changes) - survive}, survive {survive}')
+    return int(missing > 0)
+
+
+def try_all(todo, came, given):
+    """Tries changes, and keeps what each came to; those that are no program are not planted."""
+    of_crates, numbers, pages = [it for it in todo if it.file.startswith('crates/')], {}, []
+    planted = KEPT.with_name('planted')
+    if of_crates:
+        numbers = {it.key: number for number, it in build(of_crates, planted).items()}
+        pages = pages_of(planted, KEPT.with_name('pages.json'))
+
+    def tried(it, is_planted=True):
+        is_of_crate = it in of_crates
+        if is_of_crate and it.key not in numbers:
+            return it, '-'
+        return it, first_that_refuses(it if is_planted else it._replace(form=lambda inner, _: inner), numbers[it.key] * is_planted if is_of_crate else 0,
+                                      planted if is_of_crate else given.program, pages if is_of_crate else [])
+    for it in {str(scripts_for(it)): it for it in todo}.values():
+        script = tried(it, False)[1]
+        if script:
+            sys.exit(f'tests/{script}.py fails with no change planted')
+    with ThreadPoolExecutor(given.jobs) as pool, open(KEPT, 'a', encoding='utf-8') as file:
+        for it, script in pool.map(tried, todo):
+            came[it.key] = script
+            print(f'{it.key} {script}', file=file, flush=True)
+            if not script:
+                print(f'{it.file}:{it.line}: {it.function}: {it.what}', flush=True)
+
+
+if __name__ == '__main__':
+    sys.exit(main())
