@@ -98,7 +98,7 @@ MISTAKES = [
      '.vipr:10:13\n', 'indices count from 0: that of the last variable is 2'),
     # wrong sense of a dual bound under max
     ('knapsack', 'bound L 20', 'bound G 20',
-     '.vipr:23:9\n', 'the sense: computed <=, stated >='),
+     '.vipr:23:7\n', 'the sense: computed <=, stated >='),
     # a dense solution vector of n values
     ('knapsack', 'bc 2 1 1 2 1', 'bc 3 1 1 1',
      '.vipr:21:10\n', 'is this a list of all values'),
@@ -119,7 +119,7 @@ MISTAKES = [
      '.vipr:3:1\n', 'remove the comment'),
     # forgot to declare y integer
     ('one_machine', 'INT 1\n2\n', 'INT 0\n',
-     '.vipr:24:20\n', 'y is not an integer variable: list its index 2 in INT and make the count there 1 larger'),
+     '.vipr:24:20\n', 'y is not an integer variable: is its index 2 left out behind INT?'),
     # uns with assumption before conclusion
     ('one_machine', 'uns 10 8 11 9', 'uns 8 10 9 11',
      '.vipr:25:19\n', 'with `uns 10 8 11 9` the derivation follows'),
@@ -194,7 +194,7 @@ MISTAKES = [
      '.vipr:18:6\n', 'right-hand side: computed 0, stated 1, which says 1 too much'),
     # y not integer
     ('parity', 'INT 2 0 1', 'INT 1 0',
-     '.vipr:12:13\n', 'y is not an integer variable: list its index 1 in INT and make the count there 1 larger'),
+     '.vipr:12:13\n', 'y is not an integer variable: is its index 1 left out behind INT?'),
     # script: floor computed as n//2-1
     ('five_cycle', 'odd0 L 2', 'odd0 L 1',
      '.vipr:25:8\n', 'right-hand side: computed 2, stated 1, which says 1 too much'),
@@ -296,8 +296,8 @@ HINTS = [
     ('set_cover', 'lin 3 1 4', 'lin 3 1 3', 'with the multiplier 4 in place of 3 at [1] b the derivation follows'),
     ('set_cover', 'lin 3 1 4 10 3 5 1', 'lin 3 1 -4 10 -3 5 -1', 'each coefficient has the other sign: has each multiplier the wrong one?'),
     ('knapsack', '2 1/4 6 1/2', '5 1/4 6 1/2', 'with [2] a_up in place of [5] c_lo at entry 1 the derivation follows'),
-    ('knapsack', '0 13/4 2 1/4', '0 -13/4 5 1/4', 'is another constraint meant (bounds are counted, too)'),
-    ('set_cover', 'uns 11 9 12 10', 'uns 11 9 13 10', 'case 2 gives [13], this derivation itself'),
+    ('knapsack', '0 13/4 2 1/4', '0 -13/4 5 1/4', 'is another constraint meant (indices count bounds, too)'),
+    ('set_cover', 'uns 11 9 12 10', 'uns 11 9 13 10', 'with `uns 11 9 12 10` the derivation follows'),
     ('two_levels', 'uns 9 7 10 8', 'uns 9 4 10 8', 'they are about different rows'),
     ('cutoff', 'cut L 7', 'cut L 6', '`sol` gives the best listed value, and nothing better'),
     # a claim
@@ -322,7 +322,7 @@ HINTS = [
     ('rounded_sum', 'lin 1 2 5', 'lin 1 2 4', 'with the multiplier 5 in place of 4 at [2] r the derivation follows'),
     ('burma14', '147 328', '147 238', 'with the multiplier 328 in place of 238 at [147] least4_8 the derivation follows'),
     ('split_cut', 'uns 4 2 5 3', 'uns 4 3 5 2', 'are l1 and l2 exchanged? `uns 4 2 5 3`'),
-    ('first_example', '10 14 }', '11 14 }', '14 x [11], this derivation itself <-- entry 2'),
+    ('first_example', '10 14 }', '11 14 }', '14 x [11], this derivation itself\n'),
     ('diet', 'VAR 2', 'VAR 5', 'is the count behind `VAR` right, or is a space in a name?'),
     ('diet', 'nm G 0 1 1 1', 'nm G 0 1 1 1 0 1', "or is the last constraint's count of coefficients too small?"),
     # a solution
@@ -375,16 +375,15 @@ TRUE = [
      ['u0  objective >= 1  (line 1), strong enough, rests on [1] [2] [3] [5]'], ['no assumption\n']),
     # the index of a constraint that isn't earlier is behind a fault of the text
     ([], 'VER 1.0 VAR 0 INT 0 OBJ min 0 CON 0 0 RTP infeas SOL 0 DER 2 a G 1 0 { lin 1 1 1 } -1 b G one',
-     ['1 x [1], which is not before this derivation <-- entry 0', 'the problem has 0'], ["isn't one of this text"]),
+     ['1 x [1], which is not before this derivation\n', 'the problem has 0'], ["isn't one of this text"]),
     # many entries name the constraint at fault: one is marked
     ([], 'VER 1.0 VAR 0 INT 0 OBJ min 0 CON 1 0 c G 0 0 RTP infeas SOL 0 DER 1 a G 1 0 { lin 600' + ' 7 1' * 600
-     + ' } -1', ['<-- entry 0', '(600 entries)', 'constraints count from 0', '= see: docs/FORMAT.md, cause 31'],
-     ['<-- entry 1']),
+     + ' } -1', ['(600 entries)', 'constraints count from 0', '= see: docs/FORMAT.md, cause 31'], ['<-- entry']),
     # an entry with multiplier 0 needs nothing
     ([], 'VER 1.0 VAR 0 INT 0 OBJ min 0 CON 1 0 c G 0 0 RTP infeas SOL 0 DER 3 a G 1 0 { asm } 1 '
      'b G 1 0 { asm } 1 d G 1 0 { asm } -1 e G 1 0 { lin 3 1 0 0 1 1 1 } -1'.replace('{ asm } 1', '{ lin 0 } 1')
      .replace('DER 3', 'DER 4').replace('G 1 0 { lin 0 } 1', 'G 0 0 { lin 0 } 1'),
-     ['<-- entry 2', 'write 4 or -1 here'], ['<-- entry 0']),
+     [' ' * 63 + '^ this index', 'write 4 or -1 here'], ['<-- entry']),
     # counts with leading zeros
     ([], 'VER 1.0 VAR ' + '0' * 80 + '1 x INT 0 OBJ mid 0', ['wanted `min` or `max`'], ['wanted the number']),
     # by the second profile a bound of a whole objective is rounded
@@ -471,7 +470,7 @@ TRUE = [
     ([], 'VER 1', ['only version 1.0 is read'], ['weak']),
     ([], ' \n \t', ['nothing is in the text but white space or a comment', 'no token is here'], ['ends behind this']),
     # names and tokens as they are shown
-    ([], 'VER 1.0 VAR 1 x INT 0 OBJ min 0 CON 1 0 ' + 'n' * 100 + ' Q', ['`' + 'n' * 40 + '..`'], ['n' * 61 + '`']),
+    ([], 'VER 1.0 VAR 1 x INT 0 OBJ min 0 CON 1 0 ' + 'n' * 100 + ' Q', ['`' + 'n' * 19 + '..' + 'n' * 19 + '`'], ['n' * 20 + '`']),
     ([], 'VER 1.0 VAR 1 x INT 0 OBJ min 0 CON 1 0 a\\x1b Q', ['`a\\\\x1b`'], []),
     ([], 'VER 1.0 VAR 0 INT 0 OBJ m\xfcn', ['| ' + ' ' * 24 + '^' * 6 + ' this was found'], []),
 ]
@@ -518,6 +517,7 @@ CAUSES = [
     'VER 1.0 VAR 2 x y INT 0 OBJ min 0 CON 1 0 c G 1 1 0 1 RTP infeas SOL 0 DER 1 a G 1 2 0 1 1 1 { lin 1 0 1 } -1',
     # of two multipliers that mend a coefficient the second one makes the right-hand side too
     'VER 1.0 VAR 1 x INT 0 OBJ min 0 CON 2 0 a G 0 1 0 1 b G 1 1 0 1 RTP infeas SOL 0 DER 1 d G 2 1 0 3 { lin 2 0 1 1 1 } -1',
+    f'VER 1.0 VAR 2 {"n" * 50}a {"n" * 50}b INT 0 OBJ min 0 CON 1 0 c E 1 2 0 1 1 1 RTP infeas SOL 0 DER 1 d E {LARGE} 2 0 1 1 1 {{ lin 1 0 1 }} -1',
     # a long row that is broken, and a best solution that is behind those that are shown
     'VER 1.0 VAR 11 a b c d e f g h i j k INT 0 OBJ min 0 CON 1 0 c G 1 11 ' + ' '.join(f'{it} 1' for it in range(11))
     + ' RTP infeas SOL 1 s 0 DER 0',

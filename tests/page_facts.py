@@ -323,7 +323,7 @@ def shown(name):
 
 
 def shown_name(name):
-    return f'{shown(name[:MOST_OF_NAME])}..' if len(name) > MOST_OF_NAME else shown(name)
+    return f'{shown(name[:19])}..{shown(name[-19:])}' if len(name) > MOST_OF_NAME else shown(name)
 
 
 def algebra(facts, it):
@@ -333,13 +333,31 @@ def algebra(facts, it):
     for at, index in enumerate(sorted(row)[:MOST_TERMS]):
         size = '' if abs(row[index]) == 1 else f'{abs(row[index])} '
         sign = (' - ' if row[index] < 0 else ' + ') if at else '-' if row[index] < 0 else ''
-        text += f'{sign}{size}{shown_name(facts.problem.names[index])}'
+        text += f'{sign}{size}{variable(facts, index)}'
     more = f' .. ({len(row)} terms)' if len(row) > MOST_TERMS else ''
     return f'{text or "0"}{more} {SIGNS[sense]} {bound}'
 
 
 def variable(facts, index):
-    return shown_name(facts.problem.names[index])
+    name = facts.problem.names[index]
+    return shown_name(name) + (f'#{index}' if len(name) > MOST_OF_NAME else '')
+
+
+def is_long(number):
+    return max(abs(number.numerator), number.denominator) >= 10 ** 18
+
+
+def rounded(number):
+    """A number as a decimal of six digits, the first of which isn't 0, and a power of ten if it is large or small."""
+    power = next(it for it in range(-50, 50) if abs(number) < 10 ** Fraction(it + 1))
+    digits = int(abs(number) / 10 ** Fraction(power - 5) + Fraction(1, 2))
+    behind = 5 - power if -4 <= power < 5 else 5
+    whole, rest = divmod(digits, 10 ** behind)
+    return f'{"-" * (number < 0)}{whole}.{rest:0{behind}}{"" if -4 <= power < 5 else f"e{power}"}'
+
+
+def measured(number):
+    return f'{number} (about {rounded(number)})' if is_long(number) else str(number)
 
 
 def place_of(text, at):

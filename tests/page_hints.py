@@ -26,10 +26,11 @@ def is_entries(facts):
     return cause_is(38)(facts) and facts.own().reason in ('lin', 'rnd')
 
 
-def is_turned(facts):
-    """Whether the stated row is the computed one with the other sign."""
+def is_negated(facts):
+    """Whether the stated row is the computed one with the other sign, and a multiple of that may have the stated sense."""
     computed, stated = facts.written('computed'), facts.written('stated')
-    return is_entries(facts) and stated[0] == {it: -number for it, number in computed[0].items()} != {}
+    is_other = computed[1] == 'E' or {computed[1], stated[1]} == {'G', 'L'}
+    return is_entries(facts) and is_other and stated[0] == {it: -number for it, number in computed[0].items()} != {}
 
 
 def is_near_miss(facts):
@@ -209,14 +210,14 @@ HINTS = {
     'list a solution behind SOL, or claim no primal bound behind RTP (`inf` for min, `-inf` for max)':
         lambda facts: facts.refused == 52 and facts.listed == 0,
     # derivations
-    '`uns i1 l1 i2 l2` names what follows first, and behind it its assumption, a derivation by `asm`': cause_is(33),
+    '`uns i1 l1 i2 l2`: l1 and l2 are the assumptions of the two cases, derivations by `asm`; i1 holds if l1 does, and i2 if l2 does': cause_is(33),
     'a sum that is >= takes positive multiples of >= and negative ones of <=, and a sum that is <= the other way round: is a sign '
-    'wrong, or is another constraint meant (bounds are counted, too)?': cause_is(34),
+    'wrong, or is another constraint meant (indices count bounds, too)?': cause_is(34),
     'list a solution in SOL, or give another reason': cause_is(39),
     'is what was computed meant? `sol` gives the best listed value, and nothing better':
         lambda facts: facts.refused == 38 and facts.own().reason == 'sol',
     'is what was computed meant, or another constraint as the case?': lambda facts: facts.refused == 38 and facts.own().reason == 'uns',
-    'each coefficient has the other sign: has each multiplier the wrong one?': lambda facts: is_entries(facts) and is_turned(facts),
+    'each coefficient has the other sign: has each multiplier the wrong one?': lambda facts: is_entries(facts) and is_negated(facts),
     'is what was computed meant, or another multiplier, another constraint, or another number in one of them?': is_entries,
     '`lin` in place of `rnd` proves this sum as it is; a sum is rounded if all coefficients are whole, and all its variables are '
     'integer ones': cause_is(36),

@@ -12,7 +12,7 @@ from math import ceil, floor
 
 from page_facts import (
     EMPTY, ITEMS, KEYWORDS, MOST_CARETS, MOST_ENTRIES, MOST_NEAR, MOST_OF_SET, MOST_SHOWN, MOST_VALUES,
-    NOTHING, NUMBER, SIGNS, algebra, constraint_shown, difference, rules, same, shown, shown_name, true, variable,
+    NOTHING, NUMBER, SIGNS, algebra, constraint_shown, difference, measured, rounded, rules, same, shown, shown_name, true, variable,
 )
 
 
@@ -34,8 +34,8 @@ class Page:
     def __init__(self, facts, file):
         self.facts, self.file = facts, file
         self.said = Counter()
-        self.place = self.part = None
-        self.changed = []
+        self.place = self.part = self.mended = None
+        self.changed, self.mends, self.abouts = [], {}, []
         self.entries, self.sources, self.near, self.cases, self.faults, self.values, self.offers = [], 0, [], [], [], [], []
 
 
@@ -104,6 +104,15 @@ def excerpt(page, line, text: str):
     page.excerpt = text
 
 
+@form(r'(\d+) ~ (.*)')
+def mended(page, line, text: str):
+    same('the line', line, page.line)
+    front, token = page.excerpt[:page.front], shown(page.facts.tokens[page.part].bytes)
+    rest = page.excerpt[page.front + len(token):] if page.excerpt[page.front:].startswith(token) else page.excerpt[-2:]
+    true(text.startswith(front) and text.endswith(rest), f'it has not {front!r} and {rest!r}')
+    page.mended = text[len(front):len(text) - len(rest)]
+
+
 @form(r'( *) \| ( *)(\^+) (.+)')
 def carets(page, margin: str, front: str, marks: str, label: str):
     facts = page.facts
@@ -127,6 +136,7 @@ def carets(page, margin: str, front: str, marks: str, label: str):
                 ends.add(len(whole))
             elif page.excerpt.endswith('..') and whole.startswith(page.excerpt[:-2]) and len(whole) > len(page.excerpt) - 2:
                 ends.add(len(page.excerpt) - 2)
+    page.front = len(front)
     true(ends, f'the excerpt {page.excerpt!r} is not of the line, or the carets are at another place of it')
     same('the carets', len(marks), max(1, min(MOST_CARETS, len(shown(token.bytes)), max(ends) - len(front))))
 
@@ -154,29 +164,28 @@ def labelled(page, label):
         same(f'the last use of [{index}]', (facts.refused, int(found[1])), (32, facts.last_use(index)))
         return [facts.lasts[index]]
     true(label in PARTS, f'an unknown label {label!r}')
-    parts = {at: token for at, token in facts.tokens.items() if at[0] in PARTS[label] and is_at_fault(facts, *at)}
+    parts = {at: token for at, token in facts.tokens.items() if at[0] in PARTS[label]}
     page.part = next((at for at, token in parts.items() if token.at == page.place), None)
     return list(parts.values())
 
 
 # parts of a derivation: how each is called, and which tokens it may be
-PARTS = {'this derivation': ('name',), 'this right-hand side': ('right-hand side',), 'this reason': ('reason',),
-         'this multiplier': ('multiplier',), 'this index': ('entry index', 'branch')}
+PARTS = {'this derivation': ('name',), 'this sense': ('sense',), 'this right-hand side': ('right-hand side',),
+         'this reason': ('reason',), 'this multiplier': ('multiplier',), 'this index': ('entry index', 'branch'),
+         'this assumption, and that of case 2': ('branch',)}
 
 
 def is_at_fault(facts, kind, part):
-    """Whether this part of a derivation is the one at fault; a sum that does not follow may have its fault at each entry."""
-    position = facts.entry_at_fault() if kind != 'branch' else None
-    if kind == 'right-hand side':
-        return facts.refused == 38 and not facts.differences()
+    """Whether this part of a derivation is the one at fault, if no change of it is offered."""
+    if facts.refused == 38 and not facts.differences():
+        computed, stated = facts.written('computed')[1], facts.written('stated')[1]
+        return kind == ('right-hand side' if computed in ('E', stated) else 'sense')
     if kind == 'branch' and 'index' in facts.details:
         index = int(facts.details['index'])
         return facts.own().indices[part] == index and (facts.refused != 33 or part % 2 == 1)
-    if kind == 'branch':
-        return part in ((1, 3) if facts.refused == 37 else (0, 2))
-    if kind in ('entry index', 'multiplier') and position is not None and facts.refused in (31, 32, 35):
-        return part == position
-    return True
+    if facts.entry_at_fault() is not None:
+        return part == facts.entry_at_fault()
+    return kind == ('branch' if facts.refused == 37 else 'name' if facts.refused == 38 else 'reason') and part in (None, 1)
 
 
 def dual_tokens(facts):
@@ -212,7 +221,7 @@ def solution_error(page, number, name: str, words: str):
     same('the place', f'SOL {number}', facts.place)
     same('the name', name, shown_name(facts.solutions[number].name))
     same('what is wrong', words, {21: 'is not whole at an integer variable', 22: 'breaks a constraint',
-                                  23: 'has a value past 2^127 - 1'}.get(facts.refused))
+                                  23: 'passes 2^127 - 1'}.get(facts.refused))
 
 
 @form(rf'  (\S+) \(variable (\d+)\) is ({NUMBER}) here, and has to be whole \(INT\)')
@@ -236,8 +245,8 @@ def broken(page, index, name: str, text: str, line):
     constraint_shown(page.facts, index, name, text, line)
 
 
-@form(rf'  (?:at the solution: (.+)|the row is empty); the left side is ({NUMBER}), which is not (<=|>=|=) ({NUMBER})(?:, off by ({NUMBER}))?')
-def left_side(page, values: str, left, sign, right, gap):
+@form(rf'  (?:at the solution: (.+)|the row is empty); the left side is ({NUMBER}), which is not (<=|>=|=) ({NUMBER})(?:, off by (.+))?')
+def left_side(page, values: str, left, sign, right, gap: str):
     facts = page.facts
     index = int(facts.details['constraint'].split()[0])
     row, sense, bound = facts.plain(index)
@@ -248,7 +257,8 @@ def left_side(page, values: str, left, sign, right, gap):
     total = sum((value * Fraction(point.get(it, 0)) for it, value in row.items()), Fraction(0))
     same('the sides', (left, sign, right), (total, SIGNS[sense], bound))
     true(not rules.holds(total, sense, bound), 'the constraint holds')
-    same('the gap', gap, difference(bound, total))
+    off = difference(bound, total)
+    same('the gap', gap, None if off is None else measured(off))
 
 
 @form(r'  it is past the limit in (?:constraint (\d+)|the objective)')
@@ -267,23 +277,24 @@ def wanted_value(page, bound):
     same('the bound', bound, page.facts.checker.primal)
 
 
-@form(rf'  (primal )?solution (\d+) `(\S+)`: objective ({NUMBER})')
-def value(page, primal, number, name: str, objective):
+@form(r'  (primal )?solution (\d+) `(\S+)`: objective (.+)')
+def value(page, primal, number, name: str, objective: str):
     facts = page.facts
     same('the name', name, shown_name(facts.solutions[number].name))
-    same('the objective', objective, facts.objective(number))
+    known = facts.objective(number)
+    same('the objective', objective, measured(known))
     if primal:
         true(facts.refused is None, 'nothing is proved')
-        same('the best value', objective, facts.best())
-        same('the first of the best', number, [facts.objective(it) for it in range(len(facts.solutions))].index(objective))
+        same('the best value', known, facts.best())
+        same('the first of the best', number, [facts.objective(it) for it in range(len(facts.solutions))].index(known))
     else:
         same('the next solution', (facts.refused, number), (52, len(page.values)))
         page.values.append(number)
 
 
-@form(rf'  primal a listed solution: objective ({NUMBER})')
-def best_value(page, objective):
-    same('the best value', objective, page.facts.best())
+@form(r'  primal a listed solution: objective (.+)')
+def best_value(page, objective: str):
+    same('the best value', objective, measured(page.facts.best()))
 
 
 @form(r'  primal no solution is listed')
@@ -342,11 +353,13 @@ def plain_reason(page, word, note):
 @form(rf'      ({NUMBER}) x (?:{LISTED}|\[(\d+)\], (this derivation itself|which is not before this derivation))(?: <-- entry (\d+))?')
 def entry(page, multiplier, index, name: str, text: str, line, later, what: str, marked):
     facts = page.facts
-    position = len(page.entries) if marked is None else marked
+    position = len(page.entries)
+    if len(page.entries) == MOST_ENTRIES:
+        position = facts.entry_at_fault()
     page.entries.append(position)
     index = later if index is None else index
     same(f'entry {position}', (index, multiplier), facts.own().entries[position])
-    same('the mark of an entry', marked is not None, position == facts.entry_at_fault())
+    same('the mark of an entry', marked, position if 'entry' in facts.details and position == facts.entry_at_fault() else None)
     named(facts, index, name, text, line, what)
 
 
@@ -400,7 +413,7 @@ def compared(page, words: str):
         same('the difference', words, f'the sense: computed {SIGNS[sense]}, stated {SIGNS[wanted_sense]}')
     else:
         gap = difference(side, bound)
-        more = '' if gap is None else f', which says {gap} too much'
+        more = '' if gap is None else f', which is {measured(gap)} off' if wanted_sense == 'E' else f', which says {measured(gap)} too much'
         same('the difference', words, f'right-hand side: computed {side}, stated {bound}{more}')
 
 
@@ -424,23 +437,12 @@ def source(page, name: str, words: str):
     same('whether there is none', words == 'no entry', not terms and not is_cut)
 
 
-@form(r'  = help: `rnd` in place of `lin` rounds the right-hand side to (-?\d+)')
-def round_instead(page, side):
-    facts = page.facts
-    row, sense, bound = facts.written('computed')
-    same('the reason', facts.own().reason, 'lin')
-    true(rules.whole_at(row, facts.problem.integers) and sense != 'E', 'the sum is not rounded')
-    same('the side', side, ceil(bound) if sense == 'G' else floor(bound))
-    own = facts.own()
-    true(facts.checker.accepts(facts.number(), facts.plain(facts.number()), 'rnd', facts.parts(own)), 'it does not follow by `rnd`')
-
-
 @form(rf'    the coefficient ({NUMBER}) of (\S+) is not whole')
 def coefficient_fault(page, number, name: str):
     row_fault(page, 'coefficient', name, number)
 
 
-@form(r'    (\S+) is not an integer variable: list its index (\d+) in INT and make the count there 1 larger, or leave it out here')
+@form(r'    (\S+) is not an integer variable: is its index (\d+) left out behind INT\?')
 def variable_fault(page, name: str, index):
     row_fault(page, 'variable', name, index)
 
@@ -454,7 +456,7 @@ def row_fault(page, kind, name, number):
     page.faults.append(known)
 
 
-@form(r'    they are about different rows: a split is of one row, at most k and at least k \+ 1')
+@form(r'    they are about different rows: a split is of one row, `<=` and `>=`')
 def other_rows(page):
     true(page.facts.written('first')[0] != page.facts.written('second')[0], 'they are of one row')
 
@@ -477,15 +479,33 @@ def is_second(facts):
     return facts.profile == 1 and rules.covers(facts.written('first'), facts.written('second'), facts.problem.integers)
 
 
-@form(rf'    ({NUMBER}) x (?:({NUMBER}) at (\S+) has|\[(\d+)\] makes a number of) more than 127 bits')
-def past_bits(page, multiplier, coefficient, name: str, index):
+def products(facts):
+    """The products at which a number may be past the limit: a factor, a coefficient, and its variable."""
+    if facts.refused == 35:
+        index, multiplier = facts.own().entries[int(facts.details['entry'])]
+        return [(Fraction(multiplier), Fraction(it), at) for at, it in sorted(facts.constraint(index).row.items())]
+    values = facts.solutions[facts.number()].values
+    at = facts.details.get('constraint')
+    row = facts.constraint(int(at.split()[0])).row if at else facts.problem.objective
+    return [(Fraction(values.get(at, 0)), Fraction(it), at) for at, it in sorted(row.items())]
+
+
+def first_past(facts):
+    return next((it for it in products(facts) if not fits(*it[:2])), None)
+
+
+@form(rf'    ({NUMBER}) x ({NUMBER}) at (\S+) has (\d+) bits')
+def past_bits(page, factor, coefficient, name: str, bits):
+    first, other, at = first_past(page.facts)
+    same('the first product past the limit', (factor, coefficient, name), (first, other, variable(page.facts, at)))
+    same('its bits', bits, max((first * other).numerator.bit_length(), (first * other).denominator.bit_length()))
+
+
+@form(rf'    adding ({NUMBER}) x \[(\d+)\] makes a number of more than 127 bits')
+def past_sum(page, multiplier, index):
     facts = page.facts
-    position = int(facts.details['entry'])
-    same('the entry', (facts.refused, multiplier, index), (35, facts.own().entries[position][1], None if coefficient is not None else facts.own().entries[position][0]))
-    if coefficient is not None:
-        row = facts.constraint(facts.own().entries[position][0]).row
-        true(any(number == coefficient and variable(facts, it) == name for it, number in row.items()), 'it has no such coefficient')
-        true(not fits(multiplier, coefficient), 'the product has fewer bits')
+    same('the entry', (index, multiplier), facts.own().entries[int(facts.details['entry'])])
+    true(first_past(facts) is None, 'a product is past the limit')
 
 
 def fits(one, other):
@@ -516,11 +536,13 @@ def from_zero(page, count, first):
 
 
 NAMED = r'\[(\d+)\] (\S+)'
+# the kinds of lines that offer a change
+OFFERS = 'other_join', 'other_word', 'other_multiplier', 'other_index', 'one_more'
 
 
 def offered(page, parts, word=None):
     """A change that is offered is one with which the derivation follows."""
-    true(page.facts.refused in (33, 34, 36, 37, 38), 'no reason is changed')
+    true(page.facts.refused in (31, 32, 33, 34, 36, 37, 38), 'no reason is changed')
     page.offers.append(parts)
     true(page.facts.accepts(parts, word), 'the derivation does not follow with this')
 
@@ -528,7 +550,9 @@ def offered(page, parts, word=None):
 @form(r'  = help: with `uns (\d+) (\d+) (\d+) (\d+)` the derivation follows')
 def other_join(page, *join):
     same('the reason', page.facts.own().reason, 'uns')
-    true(join != page.facts.own().indices, 'it is the same')
+    old = page.facts.own().indices
+    others = [('branch', at) for at in range(4) if join[at] != old[at]]
+    page.changed += others if 'index' in page.facts.details else others[:1]
     offered(page, list(join))
 
 
@@ -536,6 +560,7 @@ def other_join(page, *join):
 def other_word(page, word, old):
     same('the reason', (page.facts.own().reason, word != old), (old, True))
     page.changed.append(('reason', None))
+    page.mends['reason', None] = str(word)
     offered(page, page.facts.parts(page.facts.own()), word)
 
 
@@ -550,17 +575,19 @@ def other_multiplier(page, new, old, index, name: str):
         if page.facts.accepts(changed):
             break
     page.changed += [('multiplier', it) for it in places]
+    page.mends.update({('multiplier', it): str(new) for it in places})
     offered(page, changed)
 
 
-@form(rf'  = help: with {NAMED} in place of {NAMED} at entry (\d+) the derivation follows')
+@form(rf'  = help: with {NAMED} in place of \[(\d+)\](?: (\S+))? at entry (\d+) the derivation follows')
 def other_index(page, new, new_name: str, old, old_name: str, at):
     facts = page.facts
     parts = facts.parts(facts.own())
     true(new < facts.number(), f'[{new}] is not earlier')
-    same('the names', (new_name, old_name), tuple(shown_name(facts.constraint(it).name) for it in (new, old)))
+    same('the names', (new_name, old_name), tuple(shown_name(facts.constraint(it).name) if it <= facts.number() else None for it in (new, old)))
     same(f'entry {at}', old, parts[at][0])
     page.changed.append(('entry index', at))
+    page.mends['entry index', at] = str(new)
     offered(page, [*parts[:at], (new, parts[at][1]), *parts[at + 1:]])
 
 
@@ -597,7 +624,7 @@ def nearest(page):
     true(page.facts.nearest(), 'nothing is near')
 
 
-@form(rf'    {LISTED}(?:, (strong enough|the other way round|too weak by {NUMBER}(?: when it is rounded)?))?'
+@form(rf'    {LISTED}(?:, (strong enough|the other way round|too weak by {NUMBER}(?: \(about \S+\))?(?: when it is rounded)?))?'
       r', rests on (?:no assumption|((?:\[\d+\] ?)+)(?:and (\d+) more)?)')
 def near(page, index, name: str, text: str, line, how: str, rest: str, more):
     facts = page.facts
@@ -611,7 +638,7 @@ def near(page, index, name: str, text: str, line, how: str, rest: str, more):
         same('how near it is', how, 'strong enough')
     elif gap is not None:
         is_rounded = facts.rounds() and facts.constraint(index).bound.denominator != 1
-        same('how near it is', how, f'too weak by {gap}{" when it is rounded" if is_rounded else ""}')
+        same('how near it is', how, f'too weak by {measured(gap)}{" when it is rounded" if is_rounded else ""}')
     else:
         same('how near it is', how, 'the other way round' if facts.turned(index) else None)
     wanted_set = facts.rest(index)
@@ -655,13 +682,6 @@ def other_sign(page, index):
     same('what is proved', index, proved(facts))
 
 
-def is_crossed(facts, join):
-    """Whether each branch of a join rests on the other one's assumption, and not on its own."""
-    i1, l1, i2, l2 = join
-    first, second = facts.checker.sets[i1], facts.checker.sets[i2]
-    return l1 not in first and l2 in first and l2 not in second and l1 in second
-
-
 @form(r'  = help: \[(\d+)\] is an assumption itself: is its reason left out\?')
 def assumption(page, index):
     facts = page.facts
@@ -693,6 +713,12 @@ def add_derivation(page, sense, side):
 
 
 # ---- pages of what is verified
+
+@form(rf'  ({NUMBER}) is about (.*)')
+def about(page, bound, words: str):
+    same('the bound', words, rounded(Fraction(bound)))
+    page.abouts.append(bound)
+
 
 @form(r'proved: (.*)')
 def claim(page, words: str):

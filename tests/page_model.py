@@ -9,7 +9,7 @@ from itertools import zip_longest
 
 from page_facts import MOST_ENTRIES, MOST_SHOWN, MOST_SOLUTIONS, MOST_SOURCES, MOST_TRIED, NUMBER, Facts, Wrong, rules
 from page_hints import HINTS, ends_text, is_near_miss, is_strong_near
-from page_lines import FORMS, Page, is_crossed, is_second, proved
+from page_lines import FORMS, OFFERS, Page, first_past, is_at_fault, is_second, proved
 
 
 def required(facts, said):
@@ -19,6 +19,8 @@ def required(facts, said):
     if cause is None:
         yield 'claim', 1
         yield ('no_goal' if facts.lines[-1] == 'goal none' else 'goal'), 1
+        bounds = dict.fromkeys(it for it in facts.checker.bounds or () if it is not None)
+        yield 'about', sum(it.denominator != 1 for it in bounds)
         if facts.checker.bounds is not None:
             values = [facts.objective(it) for it in range(min(facts.listed, MOST_SOLUTIONS))]
             is_shown = facts.listed and facts.best() in values
@@ -31,6 +33,8 @@ def required(facts, said):
     elif facts.place.startswith('SOL'):
         kinds = {21: ('not_whole',), 22: ('broken', 'left_side'), 23: ('past_limit',)}[cause]
         yield from dict.fromkeys((*kinds, 'solution_error', 'label this', 'help'), 1).items()
+        if cause == 23:
+            yield 'past_bits', int(first_past(facts) is not None)
         if cause == 22 and facts.plain(int(facts.details['constraint'].split()[0]))[0] and facts.solutions[facts.number()].values:
             yield 'hint: is a value rounded, as one of floating point is? Write exact fractions', int(is_near_miss(facts))
     elif cause == 52:
@@ -75,7 +79,7 @@ def required_of_step(facts, said):
     if cause != 37:
         yield 'help', None
     if cause == 31:
-        yield 'from_zero', 1
+        yield 'from_zero', int(not any(said[it] for it in OFFERS))
     if cause == 32:
         yield from {'dropped': 1, 'label write': 1, 'other_constraint': 1}.items()
     if cause == 38:
@@ -84,8 +88,9 @@ def required_of_step(facts, said):
             yield 'source', min(MOST_SOURCES, len(facts.differences()))
         rounds = own.reason == 'lin' and not facts.differences() and facts.written('computed')[1] == facts.written('stated')[1] != 'E' \
             and facts.checker.accepts(facts.number(), facts.plain(facts.number()), 'rnd', facts.parts(own))
-        said['word'] = said['round_instead'] + said['other_word']
-        yield from [('word', None)] if rounds else []
+        yield from [('other_word', None)] if rounds else []
+    if cause == 35:
+        yield ('past_sum' if first_past(facts) is None else 'past_bits'), 1
     if cause == 36:
         yield 'sum', 1
         yield 'row faults', min(MOST_SHOWN, len(list(facts.row_faults(facts.written('sum')[0]))))
@@ -197,8 +202,10 @@ def read(page_text, text, profile=1, file='standard input'):
     helps = [it for it in lines if it.startswith('  = ')]
     page.said['help'] = sum(it.startswith('  = help: ') for it in helps)
     found += ['a line is there twice'] if len(set(helps)) < len(helps) else []
-    if page.part and page.part[0] != 'name' and page.changed and page.part not in page.changed:
+    if page.part and page.part not in page.changed and (page.changed or not is_at_fault(facts, *page.part)):
         found.append(f'the carets are at {page.part}, and what is offered is at {page.changed}')
+    if page.mended != page.mends.get(page.part):
+        found.append(f'the line with the change has {page.mended}, and what is offered is {page.mends}')
     for kind, count in required(facts, page.said):
         got = len(page.offers) if kind == 'offers' else page.said[kind]
         if (got == 0) if count is None else got != count:

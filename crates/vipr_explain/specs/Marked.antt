@@ -59,6 +59,7 @@ is_past_head _ = true
 abbrev pub is_part_at : ItemPart → Wanted → ℕ → Bool
 is_part_at part.LowerBound wanted.LowerBound n = true
 is_part_at part.UpperBound wanted.UpperBound n = true
+is_part_at part.Sense wanted.Sense n = true
 is_part_at part.RightHandSide wanted.RightHandSide n = true
 is_part_at part.Reason wanted.Reason n = true
 is_part_at part.LastReference wanted.LastReference n = true

@@ -113,6 +113,23 @@ impl Changes {
         }
     }
 
+    /// Whether the first change is one of a token of a sum.
+    pub(crate) fn has_token(&self) -> bool {
+        self.multiplier.is_some() || matches!(self.exchange, Some(Change::Entry(..) | Change::Word))
+    }
+
+    /// Writes that token as it is with the change.
+    pub(crate) fn write_token(&self, page: &mut Page, reason: &Reason) {
+        match (self.multiplier, self.exchange) {
+            (Some(Change::Entry(_, _, multiplier)), _) => write!(page, "{multiplier}"),
+            (None, Some(Change::Entry(_, index, _))) => write!(page, "{index}"),
+            _ => page.put(match reason {
+                Reason::Lin(_) => "rnd",
+                _ => "lin",
+            }),
+        }
+    }
+
     /// Finds changes of the derivation of this constraint.
     pub(crate) fn find(subject: Subject<'_>, index: u32) -> Reread<Changes>
         ensures found { IfOk result (AreChanges (profile_of subject.entry.profile)

@@ -51,18 +51,34 @@ impl<'a> KnownPlace<'a> {
         let file = StrangeBytes(file);
         write!(page, "{file}:{line}:{column}\n");
         write_copies(page, " ", margin, " |\n");
-        let front = if column > MOST_SHOWN + 1 { ".." } else { "" };
-        let before = StrangeBytes(self.before);
-        let behind = StrangeBytes(self.behind);
-        let end = if self.is_cut { ".." } else { "" };
-        write!(page, "{line} | {front}{before}{behind}{end}\n");
-        let width = width_of_all(self.before).saturating_add(front.len());
-        let carets = width_of_all(&self.behind[..self.size.min(self.behind.len())]);
+        let token = &self.behind[..self.size.min(self.behind.len())];
+        self.write_front(page, "|");
+        write!(page, "{}", StrangeBytes(token));
+        self.write_rest(page);
+        let front = if column > MOST_SHOWN + 1 { 2 } else { 0 };
+        let width = width_of_all(self.before).saturating_add(front);
+        let carets = width_of_all(token);
         write_copies(page, " ", margin, " | ");
         write_copies(page, " ", width, "");
         write_copies(page, "^", carets.max(1).min(MOST_CARETS), " ");
         write!(page, "{label}\n");
         write_copies(page, " ", margin, " |\n");
+    }
+
+    /// Writes what is before the place in its line.
+    pub(crate) fn write_front(&self, page: &mut Page, mark: &str) {
+        let line = self.spot.line;
+        let is_behind = self.spot.column > MOST_SHOWN + 1;
+        let front = if is_behind { ".." } else { "" };
+        let before = StrangeBytes(self.before);
+        write!(page, "{line} {mark} {front}{before}");
+    }
+
+    /// Writes what is behind the place in its line.
+    pub(crate) fn write_rest(&self, page: &mut Page) {
+        let rest = StrangeBytes(&self.behind[self.size.min(self.behind.len())..]);
+        let end = if self.is_cut { ".." } else { "" };
+        write!(page, "{rest}{end}\n");
     }
 }
 

@@ -17,7 +17,7 @@ use vipr_cert::{Claim, Goal};
 use vipr_check::Report;
 use vipr_frac::Frac;
 use vipr_linear::{Constraint, compares};
-use vipr_page::{Algebra, Page, sign_of, size_of};
+use vipr_page::{About, Algebra, Measured, Page, sign_of, size_of};
 use vipr_rules::Target;
 
 /// How many assumptions of a constraint are shown.
@@ -52,10 +52,18 @@ impl ProvedClaim {
             }
         }
     }
+
     /// Writes the page of a verified certificate: what proves each side of its claim.
     pub(crate) fn write(&self, page: &mut Page, report: &Report) {
         let claim = &report.claim;
         write!(page, "proved: {claim}\n");
+        if let Claim::Range(lower, upper) = *claim {
+            for bound in [lower, upper.filter(|upper| Some(*upper) != lower)] {
+                if let Some(bound) = bound.filter(|bound| !bound.is_whole()) {
+                    write!(page, "  {bound} is about {}\n", About(bound));
+                }
+            }
+        }
         match (&self.goal, report.goal) {
             (Some(known), Some(index)) => {
                 page.put("  goal   ");
@@ -293,7 +301,7 @@ fn write_near(page: &mut Page, known: &UnprovedClaim, near: &Near) {
         if near.is_strong {
             page.put(", strong enough");
         } else if let Some(gap) = near.gap {
-            let size = size_of(gap);
+            let size = Measured(size_of(gap));
             write!(page, ", too weak by {size}");
             if known.is_rounded(near.index) {
                 page.put(" when it is rounded");

@@ -50,6 +50,7 @@ pub(crate) enum ItemPart {
     Name,
     LowerBound,
     UpperBound,
+    Sense,
     RightHandSide,
     /// The constraint of this position that the reason refers to.
     Reference(usize),
@@ -67,6 +68,7 @@ impl ItemPart {
         match (self, progress.wanted) {
             (ItemPart::LowerBound, Wanted::LowerBound)
             | (ItemPart::UpperBound, Wanted::UpperBound)
+            | (ItemPart::Sense, Wanted::Sense)
             | (ItemPart::RightHandSide, Wanted::RightHandSide)
             | (ItemPart::Reason, Wanted::Reason)
             | (ItemPart::LastReference, Wanted::LastReference) => true,

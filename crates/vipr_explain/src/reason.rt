@@ -11,6 +11,7 @@ use std::alloc::{AllocError, Global};
 use vipr_cert::{Reason, References};
 use vipr_check::{StepDetail, cause};
 use vipr_frac::Frac;
+use vipr_linear::Sense;
 use vipr_page::{Page, VariableName};
 
 /// How many entries of a sum are shown.
@@ -91,15 +92,15 @@ pub(crate) fn part_at_fault(fault: StepFault<'_>, reason: &Reason, changes: &Cha
         (None, Some(Change::Word)) => return ItemPart::Reason,
         _ => {}
     }
-    match (fault.what, reason.references()) {
-        (StepDetail::Entry(position), _) => ItemPart::Multiplier(*position as usize),
-        (StepDetail::Index(_), References::Entries(entries)) => {
+    match (fault.what, reason.references(), changes.exchange) {
+        (StepDetail::Entry(position), ..) => ItemPart::Multiplier(*position as usize),
+        (StepDetail::Index(_), References::Entries(entries), _) => {
             match position_at_fault(fault, entries) {
                 Some(position) => ItemPart::Reference(position),
                 None => ItemPart::Name,
             }
         }
-        (StepDetail::Index(index), References::Branches { i1, l1, i2, .. }) => {
+        (StepDetail::Index(index), References::Branches { i1, l1, i2, .. }, _) => {
             let is_assumption = fault.cause == cause::NOT_ASSUMPTION;
             ItemPart::Reference(match *index {
                 index if index == i1 && !is_assumption => 0,
@@ -108,18 +109,31 @@ pub(crate) fn part_at_fault(fault: StepFault<'_>, reason: &Reason, changes: &Cha
                 _ => 3,
             })
         }
-        (StepDetail::Pair(..), _) => ItemPart::Reference(1),
-        (StepDetail::Sum(_) | StepDetail::Nothing, _) => ItemPart::Reason,
-        (StepDetail::Rows { computed, stated }, _) if computed.row.is_same(&stated.row) => {
+        (_, References::Branches { i1, l1, i2, .. }, Some(Change::Join(join))) => {
+            let is_same = [join.i1 == i1, join.l1 == l1, join.i2 == i2];
+            ItemPart::Reference(is_same.iter().take_while(|is_same| **is_same).count())
+        }
+        (StepDetail::Pair(..), ..) => ItemPart::Reference(1),
+        (StepDetail::Sum(_) | StepDetail::Nothing, ..) => ItemPart::Reason,
+        (StepDetail::Rows { computed, stated }, ..) if !computed.row.is_same(&stated.row) => {
+            ItemPart::Name
+        }
+        (StepDetail::Rows { computed, stated }, ..)
+            if computed.sense == Sense::E || computed.sense == stated.sense => {
             ItemPart::RightHandSide
         }
+        (StepDetail::Rows { .. }, ..) => ItemPart::Sense,
         _ => ItemPart::Name,
     }
 }
 
 /// What is said below this part of a derivation.
-pub(crate) fn label_of(part: ItemPart) -> &'static str {
+pub(crate) fn label_of(fault: StepFault<'_>, part: ItemPart, changes: &Changes) -> &'static str {
     match part {
+        _ if changes.is_empty() && matches!(fault.what, StepDetail::Pair(..)) => {
+            "this assumption, and that of case 2"
+        }
+        ItemPart::Sense => "this sense",
         ItemPart::RightHandSide => "this right-hand side",
         ItemPart::Reference(_) => "this index",
         ItemPart::Multiplier(_) => "this multiplier",
@@ -158,7 +172,7 @@ pub(crate) fn write_reason(
                 if position < MOST_ENTRIES || is_at_fault {
                     write!(page, "      {multiplier} x ");
                     write_constraint(page, known, own, index);
-                    if is_at_fault {
+                    if let (true, StepDetail::Entry(_)) = (is_at_fault, fault.what) {
                         write!(page, " <-- entry {position}");
                     }
                     page.put("\n");

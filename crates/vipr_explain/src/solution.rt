@@ -21,7 +21,9 @@ use vipr_cert::{Claim, Goal, Name, Named, Problem};
 use vipr_check::Detail;
 use vipr_frac::Frac;
 use vipr_linear::{Constraint, Row, Sense, Solution, compares, value_at};
-use vipr_page::{Algebra, Page, ShownName, VariableName, sign_of, size_of};
+use vipr_page::{
+    Algebra, Measured, Page, ShownName, VariableName, sign_of, size_of, write_if_past,
+};
 use vipr_read::Solutions;
 use vipr_rules::better;
 
@@ -75,7 +77,7 @@ impl<'a> RefusedSolution<'a> {
         let fault = match detail {
             Detail::NotWhole { .. } => "is not whole at an integer variable",
             Detail::Breaks { .. } => "breaks a constraint",
-            _ => "has a value past 2^127 - 1",
+            _ => "passes 2^127 - 1",
         };
         write!(page, "error: solution {number} `{name}` {fault}\n");
         if let Some(place) = self.place {
@@ -91,14 +93,16 @@ impl<'a> RefusedSolution<'a> {
             Detail::SolutionOverflow {
                 at: Some((index, _)),
                 ..
-            } => write!(
-                page,
-                "  it is past the limit in constraint {index}\n{PAST_LIMIT}"
-            ),
-            _ => write!(
-                page,
-                "  it is past the limit in the objective\n{PAST_LIMIT}"
-            ),
+            } => {
+                if let Some(constraint) = self.problem.cons().get(*index as usize) {
+                    write!(page, "  it is past the limit in constraint {index}\n");
+                    write_past_limit(page, self, &constraint.item.row);
+                }
+            }
+            _ => {
+                page.put("  it is past the limit in the objective\n");
+                write_past_limit(page, self, self.problem.objective());
+            }
         }
     }
 }
@@ -117,6 +121,17 @@ fn broken_place(subject: Subject<'_>, detail: &Detail) -> Result<Option<ItemPlac
 
 pub(crate) const PAST_LIMIT: &str =
     "  = help: docs/FORMAT.md says what can help when a number is past the limit\n";
+
+// Writes which product of a row is past the limit at a solution, if one is and not a sum alone.
+fn write_past_limit(page: &mut Page, known: &RefusedSolution<'_>, row: &Row) {
+    for term in row.entries() {
+        let value = known.solution.item.0.coefficient(term.0);
+        if write_if_past(page, &known.problem, value, *term) {
+            break;
+        }
+    }
+    page.put(PAST_LIMIT);
+}
 
 // Writes which variable isn't whole.
 fn write_not_whole(page: &mut Page, known: &RefusedSolution<'_>, index: u32) {
@@ -161,7 +176,7 @@ fn write_broken(page: &mut Page, known: &RefusedSolution<'_>, index: u32, left: 
     );
     let gap = right.add(left.neg()).ok();
     if let Some(gap) = gap {
-        let gap = size_of(gap);
+        let gap = Measured(size_of(gap));
         write!(page, ", off by {gap}");
     }
     let hint = solution_hint(known, constraint, gap);
@@ -309,7 +324,7 @@ impl ListedValues {
                 return;
             }
         }
-        write!(page, "a listed solution: objective {best}\n");
+        write!(page, "a listed solution: objective {}\n", Measured(best));
     }
 
     // Adds the objective at all solutions that are to come.
@@ -391,7 +406,7 @@ pub(crate) fn is_exchanged(claim: Claim) -> bool
 
 // Writes a solution and the objective there on a line.
 fn write_value(page: &mut Page, known: &(u32, Name, Frac)) {
-    let (number, value) = (known.0, known.2);
+    let (number, value) = (known.0, Measured(known.2));
     let name = ShownName(known.1.as_bytes());
     write!(page, "solution {number} `{name}`: objective {value}\n");
 }

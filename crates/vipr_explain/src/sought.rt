@@ -236,7 +236,8 @@ fn constraint_at(sum: Sum<'_>, index: u32) -> Option<&Constraint> {
     }
 }
 
-// Other multipliers of the entries: that with the other sign comes first.
+// Other multipliers of the entries: that with the other sign comes first, if it gives the stated
+// sense.
 fn other_multipliers(
     sum: Sum<'_>,
     entries: &[(u32, Frac)],
@@ -248,9 +249,12 @@ fn other_multipliers(
         if let Some(constraint) = constraint_at(sum, index) {
             if let Some((factor, off)) = factor_for(constraint, missing) {
                 if let (Some(rank), Ok(multiplier)) = (rank_of(sum, off), present.add(factor)) {
-                    let is_turned = multiplier == present.neg();
+                    let sense = constraint.sense;
+                    let is_stated = sense == sum.step.constraint.sense;
+                    let is_right = sense == Sense::E || is_stated == (factor.numer() > 0);
+                    let is_first = is_right && multiplier == present.neg();
                     let change = Change::Entry(position, index, multiplier);
-                    ranking.add(if is_turned { 0 } else { rank }, change)?;
+                    ranking.add(if is_first { 0 } else { rank }, change)?;
                 }
             }
         }
@@ -304,12 +308,14 @@ fn wanted_at(
     requires { length scratch.old.sums ≡ variables sum.problem.now }
     ensures { length scratch.new.sums ≡ length scratch.old.sums }
 {
-    let (Some(constraint), Some(factor)) = (constraint_at(sum, index), inverse(multiplier)) else {
+    let Some(factor) = inverse(multiplier) else {
         return Ok(None);
     };
     scratch.clear();
     add_both_sides(sum, scratch, missing, factor)?;
-    add_both_sides(sum, scratch, constraint, Frac::one())?;
+    if let Some(constraint) = constraint_at(sum, index) {
+        add_both_sides(sum, scratch, constraint, Frac::one())?;
+    }
     finished(sum.subject.alloc, scratch)
 }
 

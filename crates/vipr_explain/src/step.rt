@@ -17,6 +17,7 @@ use crate::drops::LastUse;
 use crate::excerpt::KnownPlace;
 use crate::items::{Items, Numbered, derivation_among, read_items};
 use crate::marks::{ItemSort, Sought};
+use crate::near::is_turned;
 use crate::reason::{label_of, part_at_fault, step_indices, write_reason, write_sources};
 use crate::shown::{PlacedItems, part_place};
 use crate::solution::PAST_LIMIT;
@@ -25,10 +26,10 @@ use std::alloc::AllocError;
 use vipr_cert::{Problem, Reason, References};
 use vipr_check::{StepDetail, cause};
 use vipr_frac::Frac;
-use vipr_linear::{Constraint, covers};
+use vipr_linear::{Constraint, Sense, covers};
 use vipr_page::{
-    Algebra, Difference, Page, RowFault, ShownName, VariableName, row_differences, row_faults,
-    sign_of, write_differences, write_faults,
+    Algebra, Difference, Page, RowFault, ShownName, row_differences, row_faults, sign_of,
+    write_differences, write_faults, write_if_past,
 };
 use vipr_rules::Profile;
 use vipr_scan::TextError;
@@ -118,20 +119,18 @@ impl<'a> RefusedStep<'a> {
         page.put(behind);
         if let Some(place) = self.place {
             let part = part_at_fault(fault, &own.reason, &self.changes);
-            place.write(page, file, label_of(part));
+            place.write(page, file, label_of(fault, part, &self.changes));
+            if self.changes.has_token() {
+                place.write_front(page, "~");
+                self.changes.write_token(page, &own.reason);
+                place.write_rest(page);
+            }
         }
         let problem = &self.known.items.problem;
         write_facts(page, self, &own.reason, fault);
         self.changes.write(page, &self.known.items, &own.reason);
-        if fault.cause == cause::NOT_EARLIER {
-            let count = problem.cons().len();
-            write!(
-                page,
-                "  = help: constraints count from 0: the problem has {count}, so the first \
-                 derivation is {count}; is this line in front of one that it needs?\n"
-            );
-        } else if self.changes.is_empty() {
-            page.put(help_for(fault.cause));
+        if self.changes.is_empty() {
+            write_help(page, fault.cause, problem.cons().len());
         }
         if let StepFacts::Dropped(dropped) = &self.facts {
             dropped.write(page, file);
@@ -150,7 +149,9 @@ fn changes_for(subject: Subject<'_>, fault: StepFault<'_>) -> Reread<Changes>
     ensures missing { IfErr result (λ m. m ≡ Memory) }
 {
     match fault.cause {
-        cause::NOT_ASSUMPTION
+        cause::NOT_EARLIER
+        | cause::DROPPED
+        | cause::NOT_ASSUMPTION
         | cause::MIXED_SIGNS
         | cause::NOT_ROUNDABLE
         | cause::NOT_SPLIT
@@ -240,10 +241,11 @@ impl<'a> StepFacts<'a> {
     }
 }
 
-// Whether the coefficients of a sum are the stated ones with the other sign.
-fn is_turned(stated: &Constraint, differences: &[Difference]) -> bool {
+// Whether a sum has the stated coefficients with the other sign, and not the stated sense.
+fn is_negated(computed: Sense, stated: &Constraint, differences: &[Difference]) -> bool {
     !differences.is_empty()
         && differences.len() == stated.row.entries().len()
+        && (computed == Sense::E || is_turned(computed, stated.sense))
         && are_opposite(differences)
 }
 
@@ -285,7 +287,7 @@ fn write_facts(page: &mut Page, refused: &RefusedStep<'_>, reason: &Reason, faul
             }
             page.put(match reason.references() {
                 References::Entries(entries)
-                    if entries.len() > 1 && is_turned(stated, differences) => {
+                    if entries.len() > 1 && is_negated(computed.sense, stated, differences) => {
                     "  = help: each coefficient has the other sign: has each multiplier the wrong \
                      one?\n"
                 }
@@ -316,8 +318,7 @@ fn write_facts(page: &mut Page, refused: &RefusedStep<'_>, reason: &Reason, faul
         (StepDetail::Pair(first, second), StepFacts::Pair(faults, is_split)) => {
             if first.row.entries() != second.row.entries() {
                 page.put(
-                    "    they are about different rows: a split is of one row, at most k and at \
-                     least k + 1\n",
+                    "    they are about different rows: a split is of one row, `<=` and `>=`\n",
                 );
             } else if faults.is_empty() {
                 write_gap(page, refused.profile, *is_split, first, second);
@@ -340,19 +341,12 @@ fn write_facts(page: &mut Page, refused: &RefusedStep<'_>, reason: &Reason, faul
 fn write_overflow(page: &mut Page, items: &Items, index: u32, multiplier: Frac) {
     if let Some(constraint) = items.constraint(index) {
         for term in constraint.row.entries() {
-            let (name, coefficient) = (VariableName(&items.problem, term.0), term.1);
-            if multiplier.mul(coefficient).is_err() {
-                write!(
-                    page,
-                    "    {multiplier} x {coefficient} at {name} has more than 127 bits\n"
-                );
+            if write_if_past(page, &items.problem, multiplier, *term) {
                 return;
             }
         }
-        write!(
-            page,
-            "    {multiplier} x [{index}] makes a number of more than 127 bits\n"
-        );
+        write!(page, "    adding {multiplier} x [{index}] ");
+        page.put("makes a number of more than 127 bits\n");
     }
 }
 
@@ -384,20 +378,29 @@ fn write_labelled(page: &mut Page, problem: &Problem, label: &str, constraint: &
     write!(page, "{label}{}\n", Algebra(problem, constraint));
 }
 
-// What is likely to be wrong, by the cause.
-fn help_for(cause: u8) -> &'static str {
-    match cause {
+// Writes what is likely to be wrong, by the cause, in a problem of so many constraints.
+fn write_help(page: &mut Page, cause: u8, count: usize) {
+    let help = match cause {
+        cause::NOT_EARLIER => {
+            write!(
+                page,
+                "  = help: constraints count from 0: the problem has {count}, "
+            );
+            write!(page, "so the first derivation is {count}; ");
+            "is this line in front of one that it needs?\n"
+        }
         cause::NOT_ASSUMPTION => {
-            "  = help: `uns i1 l1 i2 l2` names what follows first, and behind it its assumption, a \
-             derivation by `asm`\n"
+            "  = help: `uns i1 l1 i2 l2`: l1 and l2 are the assumptions of the two cases, \
+             derivations by `asm`; i1 holds if l1 does, and i2 if l2 does\n"
         }
         cause::MIXED_SIGNS => {
             "  = help: a sum that is >= takes positive multiples of >= and negative ones of <=, \
              and a sum that is <= the other way round: is a sign wrong, or is another constraint \
-             meant (bounds are counted, too)?\n"
+             meant (indices count bounds, too)?\n"
         }
         cause::OVERFLOW => PAST_LIMIT,
         cause::NO_SOLUTION => "  = help: list a solution in SOL, or give another reason\n",
         _ => "",
-    }
+    };
+    page.put(help);
 }

@@ -1,6 +1,6 @@
 -- Rows and constraints as people write them
-use Rattle.std.specs.Prelude.{ℕ, List, [], ◌∷◌, ◌++◌, length, take, flat_map, slice_get, option_map}
-use Rattle.std.specs.Prelude.{unwrap_or, codes, decimal, nat_lt, pos, if◌then◌else◌}
+use Rattle.std.specs.Prelude.{ℕ, List, [], ◌∷◌, ◌++◌, ◌-◌, length, take, drop, flat_map, slice_get}
+use Rattle.std.specs.Prelude.{option_map, unwrap_or, codes, decimal, nat_lt, pos, if◌then◌else◌}
 use Rattle.std.specs.Int.{is_negative}
 use Rattle.vipr_spec.specs.Fraction.{ℚ, neg_ℚ, whole}
 use Rattle.vipr_spec.specs.FractionOrder.{eq_ℚ}
@@ -9,14 +9,21 @@ use Rattle.std.specs.FinMap.{entries}
 use Rattle.vipr_spec.specs.Constraint.{Constraint, Sense, at_least, at_most, equal}
 use Rattle.vipr_page.specs.Page.{shown_bytes}
 
--- a name, of which 40 bytes are shown
+-- a name, of which 40 bytes are shown, or 19 at each end
 abbrev pub shown_name : List ℕ → List ℕ
-shown_name name = if nat_lt 40 (length name) then shown_bytes (take 40 name) ++ codes ".."
+shown_name name = if nat_lt 40 (length name)
+    then shown_bytes (take 19 name) ++ (codes ".." ++ shown_bytes (drop (length name - 19) name))
     else shown_bytes name
+
+-- the same, with the variable's index behind a name that is cut
+abbrev pub variable_name : ℕ → List ℕ → List ℕ
+variable_name variable name = if nat_lt 40 (length name)
+    then shown_name name ++ (codes "#" ++ decimal variable) else shown_name name
 
 -- the name of a variable of a problem with these names, or its index if it has none
 abbrev pub variable_text : List (List ℕ) → ℕ → List ℕ
-variable_text names variable = unwrap_or (option_map shown_name (slice_get names variable))
+variable_text names variable =
+    unwrap_or (option_map (variable_name variable) (slice_get names variable))
     (codes "variable " ++ decimal variable)
 
 -- the size of a number

@@ -13,10 +13,13 @@ use vipr_linear::{Constraint, Sense};
 /// How many terms of a row are shown.
 const MOST_TERMS: usize = 12;
 
-/// How many bytes of a name are shown.
+/// How many bytes a name has at most that is shown whole.
 const MOST_OF_NAME: usize = 40;
 
-/// The bytes of a name, cut if they are many.
+/// How many bytes are shown of each end of a longer one.
+const END_OF_NAME: usize = 19;
+
+/// The bytes of a name, cut in the middle if they are many.
 #[derive(Clone, Copy)]
 pub struct ShownName<'a>(pub &'a [u8]);
 
@@ -26,14 +29,16 @@ impl Display for ShownName<'_> {
     fn fmt<W: Write>(&self, f: &mut Formatter<W>) -> fmt::Result {
         let bytes = self.0;
         if bytes.len() > MOST_OF_NAME {
-            write!(f, "{}..", StrangeBytes(bytes.split_at(MOST_OF_NAME).0))
+            let front = StrangeBytes(&bytes[..END_OF_NAME]);
+            let end = StrangeBytes(&bytes[bytes.len() - END_OF_NAME..]);
+            write!(f, "{front}..{end}")
         } else {
             write!(f, "{}", StrangeBytes(bytes))
         }
     }
 }
 
-/// The name of a problem's variable, by its index.
+/// The name of a problem's variable, by its index, which is behind a name that is cut.
 #[derive(Clone, Copy)]
 pub struct VariableName<'a>(pub &'a Problem, pub u32);
 
@@ -41,9 +46,13 @@ impl Display for VariableName<'_> {
     ghost output = { λ v. Some (variable_text v.0.now.names v.1) };
 
     fn fmt<W: Write>(&self, f: &mut Formatter<W>) -> fmt::Result {
-        match self.0.names().get(self.1 as usize) {
+        let index = self.1;
+        match self.0.names().get(index as usize) {
+            Some(name) if name.as_bytes().len() > MOST_OF_NAME => {
+                write!(f, "{}#{index}", ShownName(name.as_bytes()))
+            }
             Some(name) => write!(f, "{}", ShownName(name.as_bytes())),
-            None => write!(f, "variable {}", self.1),
+            None => write!(f, "variable {index}"),
         }
     }
 }

@@ -4,6 +4,7 @@ ghost use Rattle.vipr_page.specs.Differences.{addition_at, change_at, difference
 ghost use Rattle.vipr_page.specs.Differences.{row_differences};
 
 use crate::algebra::{VariableName, sign_of, size_of};
+use crate::decimal::Measured;
 use crate::page::Page;
 use std::alloc::{AllocError, Global};
 use vipr_cert::Problem;
@@ -90,11 +91,14 @@ fn write_sides(page: &mut Page, computed: &Constraint, stated: &Constraint) {
         write!(page, "the sense: computed {given}, stated {stated}");
         return;
     }
-    let (given, stated) = (computed.rhs, stated.rhs);
-    write!(page, "right-hand side: computed {given}, stated {stated}");
-    if let Ok(gap) = given.add(stated.neg()) {
-        let size = size_of(gap);
-        write!(page, ", which says {size} too much");
+    let (given, side) = (computed.rhs, stated.rhs);
+    write!(page, "right-hand side: computed {given}, stated {side}");
+    if let Ok(gap) = given.add(side.neg()) {
+        let size = Measured(size_of(gap));
+        match stated.sense {
+            Sense::E => write!(page, ", which is {size} off"),
+            _ => write!(page, ", which says {size} too much"),
+        }
     }
 }
 

@@ -47,11 +47,8 @@ pub fn write_faults(page: &mut Page, problem: &Problem, faults: &[RowFault]) {
             }
             RowFault::NotInteger(index) => {
                 let name = VariableName(problem, index);
-                write!(
-                    page,
-                    "    {name} is not an integer variable: list its index {index} in INT and make \
-                     the count there 1 larger, or leave it out here\n"
-                );
+                write!(page, "    {name} is not an integer variable: ");
+                write!(page, "is its index {index} left out behind INT?\n");
             }
         }
     }

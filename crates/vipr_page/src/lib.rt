@@ -10,7 +10,7 @@ mod page;
 mod stranger;
 
 pub use algebra::{Algebra, ShownName, VariableName, sign_of, size_of};
-pub use decimal::fraction_of;
+pub use decimal::{About, Measured, fraction_of, write_if_past};
 pub use differences::{Difference, row_differences, write_differences};
 pub use faults::{RowFault, row_faults, write_faults};
 pub use page::{Page, with_page};
