@@ -1,28 +1,21 @@
 -- Items of a text that are read again, one after the other
-use Rattle.std.proofs.Common.{◌≡◌, ℕ, zero, suc, ◌+◌, ◌-◌, ◌<◌, inl, inr, ◌⊎◌, List, [], ◌∷◌, ◌++◌, map}
-use Rattle.std.proofs.Common.{length, filter, Option, Some, None, Result, Ok, Err, refl, sym, ap}
-use Rattle.std.proofs.Common.{◌∙◌, arith, subst, IfErr, IfOk, OnOk}
+use Rattle.std.proofs.Common.{◌≡◌, ℕ, zero, suc, ◌+◌, ◌-◌, ◌<◌, inl, inr, ◌⊎◌, List, [], ◌∷◌, ◌++◌}
+use Rattle.std.proofs.Common.{length, Option, Some, None, Result, Ok, Err, refl, ap}
+use Rattle.std.proofs.Common.{◌∙◌, arith, subst, IfOk, OnOk}
 use Rattle.std.specs.Option.{IsSome}
 use Rattle.std.specs.Result.{result_and}
-use Rattle.std.specs.List.{enumerate_from}
 use Rattle.std.proofs.lemmas.List.{length-append}
-use Rattle.std.proofs.lemmas.List.Elements.{filter-append}
-use Rattle.vipr_spec.specs.Certificate.{Named, Problem, Derivation}
+use Rattle.vipr_spec.specs.Certificate.{Named, Problem}
 use Rattle.vipr_spec.specs.Constraint.{Row}
-use Rattle.vipr_spec.specs.Reading.{Rest, Fault, Read, ◌>>=◌, read_each, derivation_read}
+use Rattle.vipr_spec.specs.Reading.{Rest, Fault, Read, ◌>>=◌, read_each}
 use Rattle.vipr_spec.specs.Reading.{derivations_read, problem_read}
 use Rattle.vipr_scan.specs.Faults.{Fails}
 use Rattle.vipr_scan.specs.Giving.{rest_of}
 use Rattle.vipr_scan.specs.declared.error.TextError.{TextError}
 use Rattle.vipr_read.specs.Items.{Items as Reader, Knows, Remembers, Moves, HasNone, HasPassed}
 use Rattle.vipr_read.specs.Items.{NextItem}
-use Rattle.vipr_explain.specs.Found.{AreDerivationsRead, AreFoundItems, AreReadSoFar, AreSolutionsRead}
-use Rattle.vipr_explain.specs.Found.{HasFault}
-use Rattle.vipr_explain.specs.Found.{IsReaderBehind, Missed, all_read, count_read, head_read}
-use Rattle.vipr_explain.specs.Found.{is_wanted, items_up_to, numbered_of}
-use Rattle.vipr_explain.specs.Found.{solutions_read, wanted_among}
-use Rattle.vipr_explain.specs.declared.items.Items.{Items}
-use Rattle.vipr_explain.specs.declared.items.Numbered.{Numbered}
+use Rattle.vipr_explain.specs.Found.{AreReadSoFar, AreSolutionsRead, HasFault, IsReaderBehind}
+use Rattle.vipr_explain.specs.Found.{Missed, head_read, solutions_read}
 use Rattle.vipr_explain.proofs.Lacks.{because, fault_behind, fault_first, missed_of}
 
 -- ---- so many in a row
@@ -168,26 +161,6 @@ none_behind {item = item} {head = head} {p = p} {xs = xs} old e count some more 
     because e _ _ (λ fault. fault_behind head _ (λ h. read_each (item h.0.0) (count h.0) h.1) h.counted (fault_of_more (item p) (length xs) (all - (length xs + 1)) all h.start (rest_of old.rest) xs (omega arith) h.read fault))
     (missed_of e _ fails.1)
 
--- ---- all derivations
-
--- what can't be read up to an index can't be read at all
-pub some_missed : (wanted : List ℕ) (text : Rest) (m : TextError) → Missed m (items_up_to wanted text)
-    → Missed m (all_read text)
-some_missed wanted text m = because m _ _ (by (head_read text))
-  where
-    by : (h : Read (Problem × ℕ))
-        → HasFault (h >>= λ h. read_each (derivation_read h.0.0) (count_read wanted (length h.0.0.constraints) h.0.1) h.1)
-        → HasFault (h >>= λ h. read_each (derivation_read h.0.0) h.0.1 h.1)
-    by (Err f) fault = (f, refl)
-    by (Ok h) fault =
-        let some = count_read wanted (length h.0.0.constraints) h.0.1 in
-        fault_of_first (derivation_read h.0.0) some (h.0.1 - some) h.0.1 h.1 (omega arith) fault
-
-pub some_err : {A : Type 0} (r : Result A TextError) (wanted : List ℕ) (text : Rest)
-    → IfErr r (λ m. Missed m (items_up_to wanted text)) → IfErr r (λ m. Missed m (all_read text))
-some_err (Ok x) wanted text h = h
-some_err (Err m) wanted text h = some_missed wanted text m h
-
 -- ---- the head of a text
 
 pub head_found : (text : Rest) (p : Problem) (ss : List (Named Row)) (r d : Reader)
@@ -211,40 +184,3 @@ pub solutions_missed : (text : Rest) (p : Problem) (r : Reader) (e : TextError)
 solutions_missed text p r e h missed =
     let all : 0 + r.left ≡ r.left = omega arith in
     because e _ _ (λ fault. (fault.0, rw (h.counted, all, rw h.counted at fault.1) refl)) missed
-
--- ---- derivations, of which those that are wanted are kept
-
-pub numbered_more : {X : Type 0} (first : ℕ) (xs : List X) (x : X)
-    → enumerate_from first (xs ++ x ∷ []) ≡ enumerate_from first xs ++ (first + length xs, x) ∷ []
-numbered_more first [] x = ap (λ n. (n, x) ∷ []) (omega arith)
-numbered_more first (y ∷ xs) x = ap (λ ys. (first, y) ∷ ys) (numbered_more (first + 1) xs x ∙ ap (λ n. enumerate_from (first + 1) xs ++ (n, x) ∷ []) (omega arith))
-
--- so many derivations were read, and those of them that are wanted were kept
-abbrev pub KeepsPartWay : Rest → Problem → List ℕ → ℕ → Reader → List Numbered → Type 0
-KeepsPartWay text p wanted done r kept = AreReadSoFar (AreDerivationsRead text p)
-    (λ ds. map numbered_of kept ≡ wanted_among wanted (length p.constraints) ds) done r
-
-pub keeps_more : (wanted : List ℕ) (first index : ℕ) (d : Derivation) (before now : List Numbered)
-    → map numbered_of now ≡ map numbered_of before ++ wanted_among wanted index (d ∷ [])
-    → (ds : List Derivation) → index ≡ first + length ds
-    → map numbered_of before ≡ wanted_among wanted first ds
-    → map numbered_of now ≡ wanted_among wanted first (ds ++ d ∷ [])
-keeps_more wanted first index d before now kept ds at so_far =
-    let is = is_wanted wanted in
-    kept ∙ ap (λ xs. xs ++ wanted_among wanted index (d ∷ [])) so_far
-    ∙ ap (λ n. wanted_among wanted first ds ++ wanted_among wanted n (d ∷ [])) at
-    ∙ sym (ap (filter is) (numbered_more first ds d) ∙ filter-append is (enumerate_from first ds) ((first + length ds, d) ∷ []))
-
-pub keeps_all : (text : Rest) (wanted : List ℕ) (done : ℕ) (r : Reader) (items : Items)
-    → done ≡ count_read wanted (length items.problem.constraints) (done + r.left)
-    → KeepsPartWay text items.problem wanted done r items.derivations.items
-    → AreFoundItems wanted text items
-keeps_all text wanted done r items all so_far = record {
-  count = length so_far.read + r.left;
-  behind = so_far.behind.start;
-  head = so_far.behind.counted;
-  read = so_far.read;
-  rest = rest_of r.rest;
-  each = rw (← so_far.size) at (ap (λ n. read_each (derivation_read items.problem) n so_far.behind.start) (sym all)) ∙ so_far.behind.read;
-  kept = so_far.known;
-}

@@ -5,4 +5,3 @@ mod Walking
 mod NearOrder
 mod Nearing
 mod Valuing
-mod Replaying

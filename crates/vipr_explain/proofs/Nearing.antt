@@ -2,7 +2,7 @@
 use Rattle.std.proofs.Common.{◌≡◌, ℕ, zero, suc, ◌+◌, ◌<◌, Bool, true, false, List, []}
 use Rattle.std.proofs.Common.{◌∷◌, ◌++◌, length, map, take, get_or, Option, None, Some, refl, sym, ap}
 use Rattle.std.proofs.Common.{◌∙◌, append_assoc, subst, inl, inr, arith, IsTrue}
-use Rattle.std.specs.Prelude.{◌↔◌, ◌≢◌, if◌then◌else◌, All, option_and_then}
+use Rattle.std.specs.Prelude.{◌↔◌, ◌≢◌, if◌then◌else◌, All, option_and_then, option_map, Ok}
 use Rattle.std.specs.FinSet as set
 use Rattle.std.specs.FinSet.{FinSet, contains, contains-empty, same_set, nat_cmp-IsAntisymmetric}
 use Rattle.std.specs.Cmp.{nat_cmp_total}
@@ -15,10 +15,12 @@ use Rattle.vipr_spec.specs.Certificate.{Problem, Derivation, Certificate, count,
 use Rattle.vipr_spec.specs.Certificate.{Named as Given, variables}
 use Rattle.vipr_spec.specs.Certificate.{reason_at, sol, RefersTo, RestsOn, RestsOnNothing, NamesEarlier}
 use Rattle.vipr_spec.specs.Certificate.{no_constraint, is_assumption}
+use Rattle.vipr_spec.specs.Reading.{Rest, derivation_read, end_read}
 use Rattle.vipr_spec.specs.Steps.{with_more, with_next, RefersBack, RestsBy}
 use Rattle.vipr_spec.proofs.Laws.{constraint_before, constraint_next, constraints_listed, count_next}
 use Rattle.vipr_spec.proofs.Laws.{last_next, reason_before, reason_given, reason_next}
 use Rattle.vipr_spec.proofs.Laws.{reason_past, rests_given, rests_more, rests_next}
+use Rattle.vipr_read.specs.Items.{Items as Reader, HasEnded, Moves, NextItem}
 use Rattle.vipr_linear.specs.Constraint.{condition_of, constraint_of}
 use Rattle.vipr_linear.specs.declared.constraint.Constraint.{Constraint}
 use Rattle.vipr_cert.specs.Items.{derivation_of, named_of, reason_of}
@@ -33,14 +35,18 @@ use Rattle.vipr_table.specs.declared.rows.Entry.{Entry}
 use Rattle.vipr_rules.specs.Apply.{entry_resting_on}
 use Rattle.vipr_rules.specs.Claim.{IsTargetIn}
 use Rattle.vipr_rules.specs.declared.claim.Target.{Target}
+use Rattle.vipr_explain.specs.Found.{AreDerivationsRead, HasFault, head_read}
 use Rattle.vipr_explain.specs.Near.{IsLike, comes_before, with_near, in_order, IsNear, AreNearest}
 use Rattle.vipr_explain.specs.Near.{IsOpenJoin, join_of}
 use Rattle.vipr_explain.specs.Near.{of_like, of_unlike, without_solutions, IsNextEntry, HasPassedAll}
-use Rattle.vipr_explain.specs.Near.{HasReplayed}
+use Rattle.vipr_explain.specs.Near.{HasReplayed, SearchesTo, HasNoStep, IsStepOf, LacksGoal}
+use Rattle.vipr_explain.specs.Near.{passed_to, up_to}
 use Rattle.vipr_explain.specs.declared.changes.Replay.{Replay}
 use Rattle.vipr_explain.specs.declared.near.Join.{Join}
 use Rattle.vipr_explain.specs.declared.near.Near.{Near}
 use Rattle.vipr_explain.specs.declared.near.NearSearch.{NearSearch}
+use Rattle.vipr_explain.proofs.Again.{one_behind}
+use Rattle.vipr_explain.proofs.Lacks.{fault_first}
 use Rattle.vipr_explain.proofs.NearOrder.{next_near}
 
 -- ---- one constraint more
@@ -205,6 +211,49 @@ kept_by_solution c step' by back =
         is_assumed = ap is_assumption (sym (reason_next c d));
         last = sym (last_next c d);
       };
+    }
+
+-- ---- up to the derivation of a constraint
+
+pub before_it : (end : Option ℕ) (given all n : ℕ) → n < passed_to end given all → n < up_to end given all
+before_it (Some k) given all n l = omega (arith, l)
+before_it None given all n l = l
+
+-- the next one is that of constraint k
+pub step_of : (text : Rest) (p : Problem) (before : List Derivation) (k : ℕ) (old new : Reader)
+    (o : Option Step) → Moves HasEnded old new (Ok o)
+    → NextItem derivation_of (derivation_read p) end_read old new (Ok o)
+    → AreDerivationsRead text p before old → 0 < old.left → count (without_solutions p before) ≡ k
+    → IsStepOf text p before k (option_map derivation_of o)
+step_of text p before k old new (Some d) moves next behind some at =
+    let one = next behind.known in
+    (new, one_behind (derivation_of d) old new moves one.1 one.2 behind, at)
+step_of text p before k old new None moves next behind some at = absurd (omega (arith, moves.none))
+
+pub goal_missed : (P : Profile) (text : Rest) (end : Option ℕ) → HasFault (head_read text)
+    → LacksGoal P text end
+goal_missed P text (Some k) fault = inl (fault_first (head_read text) _ fault)
+goal_missed P text None fault = fault
+
+-- none is behind those that were passed, or that is of another constraint
+pub no_step : (P : Profile) (text : Rest) (p : Problem) (k : ℕ) (r : Reader) (s : NearSearch)
+    → SearchesTo P text p (Some k) r s → (s.replay.rows.next ≡ k → r.left ≡ 0) → HasNoStep text k
+no_step P text p k r s h none =
+    let so_far = h.1 in
+    let next = so_far.known.replayed.rows.next in
+    let reach = h.2 in
+    record {
+      problem = p;
+      count = length so_far.read + r.left;
+      rest = so_far.behind.start;
+      head = so_far.behind.counted;
+      outside = elim (cases_lt k (length p.constraints)) [
+        | inl l ↦ inl l
+        | inr l ↦ inr (elim (cases_lt 0 r.left) [
+          | inl some ↦ (let at : s.replay.rows.next ≡ k = omega (arith, next, so_far.size, reach) in absurd (omega (arith, none at)))
+          | inr all ↦ omega (arith, so_far.size, reach)
+        ])
+      ];
     }
 
 pub not_by_solution : (r : Reason) → r ≢ by.Sol → reason_of r ≢ sol

@@ -1,20 +1,13 @@
 -- Changes of one entry with which a refused sum follows
-use Rattle.std.specs.Prelude.{◌≡◌, ◌+◌, ◌++◌, ℕ, List, [], ◌∷◌, length, take, drop, min, None}
-use Rattle.std.specs.Prelude.{IfSome}
+use Rattle.std.specs.Prelude.{◌+◌, ◌++◌, ℕ, List, ◌∷◌, length, take, drop, min, None, IfSome}
 use Rattle.vipr_spec.specs.Fraction.{ℚ}
 use Rattle.vipr_spec.specs.Constraint.{Profile, condition}
-use Rattle.vipr_spec.specs.Certificate.{Problem, Derivation, Certificate, Reason, lin, rnd, uns}
-use Rattle.vipr_spec.specs.Certificate.{count}
+use Rattle.vipr_spec.specs.Certificate.{Derivation, Certificate, Reason, lin, rnd, uns}
 use Rattle.vipr_spec.specs.Steps.{FirstFailing, PassesStep, step_tests}
-use Rattle.vipr_spec.specs.Reading.{Rest}
-use Rattle.vipr_read.specs.Items.{Items as Reader}
-use Rattle.vipr_explain.specs.Found.{AreDerivationsRead, AreReadSoFar, text_rest}
-use Rattle.vipr_explain.specs.Near.{HasReplayed, without_solutions}
 use Rattle.vipr_explain.specs.declared.changes.Change.{Change}
 use Rattle.vipr_explain.specs.declared.changes.Change.TheVariants.{Entry, Word}
 use Rattle.vipr_explain.specs.declared.changes.Change.TheVariants.{Join as Joined}
 use Rattle.vipr_explain.specs.declared.changes.Changes.{Changes}
-use Rattle.vipr_explain.specs.declared.changes.Replay.{Replay}
 
 -- the entry in place of the one at its position, or behind the last one
 abbrev pub changed_entries : Change → List (ℕ × ℚ) → List (ℕ × ℚ)
@@ -45,24 +38,3 @@ FollowsWith P c d x =
 abbrev pub FollowEach : Profile → Certificate → Derivation → Changes → Type 0
 FollowEach P c d xs = IfSome xs.multiplier (FollowsWith P c d)
     × IfSome xs.exchange (FollowsWith P c d) × IfSome xs.addition (FollowsWith P c d)
-
--- so it is of the derivation of constraint k of a text
-pub record FollowsIn (P : Profile) (text : List ℕ) (k : ℕ) (x : Change) : Type 0 where
-  pub problem : Problem
-  pub before : List Derivation
-  pub derivation : Derivation
-  pub reader : Reader
-  pub behind : AreDerivationsRead (text_rest text) problem (before ++ derivation ∷ []) reader
-  pub index_is : count (without_solutions problem before) ≡ k
-  pub follows : FollowsWith P (without_solutions problem before) derivation x
-
-abbrev pub AreChanges : Profile → List ℕ → ℕ → Changes → Type 0
-AreChanges P text k xs = IfSome xs.multiplier (FollowsIn P text k)
-    × IfSome xs.exchange (FollowsIn P text k) × IfSome xs.addition (FollowsIn P text k)
-
--- ---- the derivations before it
-
--- so many derivations of a text were read and passed
-abbrev pub ReplaysPartWay : Rest → Problem → ℕ → Reader → Replay → Type 0
-ReplaysPartWay text p done reader r =
-    AreReadSoFar (AreDerivationsRead text p) (λ ds. HasReplayed p ds r) done reader

@@ -1,8 +1,6 @@
 -- What is found when a text is read again
-use Rattle.std.specs.Prelude.{◌≡◌, ◌≤◌, ◌⊎◌, ℕ, ◌+◌, ◌-◌, ◌<◌, ◌==◌, ◌++◌, ◌∷◌, [], ⊤, min}
-use Rattle.std.specs.Prelude.{max, fold, filter, Bool, List, map, length, Result}
+use Rattle.std.specs.Prelude.{◌≡◌, ◌≤◌, ◌⊎◌, ℕ, ◌+◌, ◌<◌, ◌++◌, ◌∷◌, [], ⊤, List, length, Result}
 use Rattle.std.specs.Prelude.{Ok, Err, IfOk, IsSome, false}
-use Rattle.std.specs.List.{list_any, enumerate_from}
 use Rattle.vipr_spec.specs.Certificate.{Named, Problem, Derivation}
 use Rattle.vipr_spec.specs.Constraint.{Row}
 use Rattle.vipr_spec.specs.Reading.{Rest, Fault, Read, ◌>>=◌, read_each, problem_read}
@@ -10,14 +8,8 @@ use Rattle.vipr_spec.specs.Reading.{solution_read, derivations_read, derivation_
 use Rattle.vipr_bytes.specs.Known.{text_of}
 use Rattle.vipr_scan.specs.Giving.{rest_of}
 use Rattle.vipr_read.specs.Items.{Items as Reader, Knows}
-use Rattle.vipr_cert.specs.Items.{derivation_of}
-use Rattle.vipr_explain.specs.Marked.{AreMarksIn}
 use Rattle.vipr_scan.specs.declared.error.TextError.{TextError}
 use Rattle.vipr_scan.specs.declared.error.TextError.TheVariants as error
-use Rattle.vipr_explain.specs.declared.items.Numbered.{Numbered}
-use Rattle.vipr_explain.specs.declared.items.Items.{Items}
-use Rattle.vipr_explain.specs.declared.marks.Sought.{Sought}
-use Rattle.vipr_explain.specs.declared.shown.PlacedItems.{PlacedItems}
 
 -- all that there is to read of a text in memory
 abbrev pub text_rest : List ℕ → Rest
@@ -45,10 +37,6 @@ head_read r = do
   ss ← read_each (solution_read p.0.0) p.0.1 p.1
   d ← derivations_read p.0.0 ss.1
   Ok ((p.0.0, d.0), d.1)
-
--- all derivations of a text
-abbrev pub all_read : Rest → Read (List Derivation)
-all_read r = head_read r >>= λ h. read_each (derivation_read h.0.0) h.0.1 h.1
 
 -- the head of a text gives its problem, and how many items follow: these, which were read, and
 -- those that this reader has left
@@ -95,49 +83,3 @@ pub record IsListedSolution (number : ℕ) (text : Rest) (p : Problem) (s : Name
 abbrev pub LacksListed : ℕ → Read (Problem × ℕ) → Type 0
 LacksListed number problem =
     IfOk problem (λ x. x.0.1 ≤ number) ⊎ HasFault (solutions_read problem (number + 1))
-
--- ---- derivations by their constraints' indices
-
-abbrev pub numbered_of : Numbered → ℕ × Derivation
-numbered_of n = (n.index, derivation_of n.derivation)
-
-abbrev pub is_wanted : List ℕ → ℕ × Derivation → Bool
-is_wanted wanted d = list_any (λ index. index == d.0) wanted
-
--- how many of n derivations are read behind m constraints: up to the greatest index that is wanted
-abbrev pub count_read : List ℕ → ℕ → ℕ → ℕ
-count_read wanted m n = min (fold max 0 wanted + 1 - m) n
-
--- the derivations up to the greatest index that is wanted
-abbrev pub items_up_to : List ℕ → Rest → Read (List Derivation)
-items_up_to wanted r = head_read r >>= λ h.
-    read_each (derivation_read h.0.0) (count_read wanted (length h.0.0.constraints) h.0.1) h.1
-
--- those that are wanted among the next ones of these, the first of which has this index
-abbrev pub wanted_among : List ℕ → ℕ → List Derivation → List (ℕ × Derivation)
-wanted_among wanted first ds = filter (is_wanted wanted) (enumerate_from first ds)
-
--- these were read of the text, up to the greatest index that is wanted, and those that are wanted
--- were kept
-pub record AreFoundAs (wanted : List ℕ) (text : Rest) (p : Problem) (items : List Numbered)
-    : Type 0 where
-  pub count : ℕ
-  pub behind : Rest
-  pub head : head_read text ≡ Ok ((p, count), behind)
-  pub read : List Derivation
-  pub rest : Rest
-  pub each : read_each (derivation_read p)
-      (count_read wanted (length p.constraints) count) behind ≡ Ok (read, rest)
-  pub kept : map numbered_of items ≡ wanted_among wanted (length p.constraints) read
-
-abbrev pub AreFoundItems : List ℕ → Rest → Items → Type 0
-AreFoundItems wanted text items = AreFoundAs wanted text items.problem items.derivations.items
-
--- items and their places are those that are looked for in the text
-pub record AreSoughtItems (text : List ℕ) (s : Sought) (known : PlacedItems) : Type 0 where
-  pub items : AreFoundItems s.items.now (text_rest text) known.items
-  pub marks : AreMarksIn text s known.marks
-
--- so are those of these indices
-abbrev pub AreItemsOf : List ℕ → List ℕ → PlacedItems → Type 0
-AreItemsOf text wanted known = (s : Sought) × (s.items.now ≡ wanted) × AreSoughtItems text s known

@@ -1,4 +1,3 @@
-pub mod Listed
 pub mod Marked
 pub mod Places
 pub mod Excerpts

@@ -1,9 +1,8 @@
 -- The places of items' names, and of one more token of each, among the tokens of a text
 use Rattle.std.specs.Prelude.{◌≡◌, ℕ, ◌&&◌, ◌||◌, ◌==◌, ◌∷◌, ◌++◌, [], Bool, true, false, List}
-use Rattle.std.specs.Prelude.{Option, Some, is_none, fold, max, nat_lt, if◌then◌else◌}
+use Rattle.std.specs.Prelude.{Option, Some, None, is_none, find, fold, max, nat_lt, if◌then◌else◌}
 use Rattle.std.specs.List.{list_any}
 use Rattle.vipr_spec.specs.Tokens.{text_tokens}
-use Rattle.vipr_explain.specs.Listed.{place_found}
 use Rattle.vipr_explain.specs.Progress.{at_start, count_spelled, index_of, passed}
 use Rattle.vipr_explain.specs.Words.{walked}
 use Rattle.vipr_explain.specs.declared.marks.ItemSort.{ItemSort}
@@ -72,8 +71,12 @@ abbrev pub is_part : ItemPart → TextProgress → Bool
 is_part x p = is_part_at x p.wanted p.part
 
 -- the part that is looked for in the last item, and that in the others
+abbrev pub part_of_used : Option ℕ → ℕ → ItemPart
+part_of_used (Some k) index = if k == index then part.LastReference else part.Reason
+part_of_used None index = part.Reason
+
 abbrev pub part_of_item : Sought → ℕ → ℕ → ItemPart
-part_of_item s end index = if index == end then s.part else part.LastReference
+part_of_item s end index = if index == end then s.part else part_of_used s.used index
 
 -- whether no item of this kind up to this index is to come, and no use is looked for
 abbrev pub is_past : Sought → TextProgress → ℕ → Bool
@@ -126,6 +129,10 @@ marking_in s text = walked (stops_marking s) (marking_behind s) text (at_start, 
 pub record AreMarksIn (text : List ℕ) (s : Sought) (marks : Marks) : Type 0 where
   pub places : marks.places.items ≡ (marking_in s text).1
   pub user : marks.user ≡ (marking_in s text).2
+
+-- the place of an item, if it was found
+abbrev pub place_found : List ItemPlace → ℕ → Option ItemPlace
+place_found places index = find (λ p. p.index == index) places
 
 -- this is the place of the item of this kind and index, and of a part of it
 abbrev pub IsItemPlace : List ℕ → ItemSort → ℕ → ItemPart → Option ItemPlace → Type 0

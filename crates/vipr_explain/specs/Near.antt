@@ -1,5 +1,6 @@
 -- The constraints that come nearest to a claim: what is known of each, and their order
-use Rattle.std.specs.Prelude.{◌≡◌, ◌≢◌, ◌↔◌, ◌⊎◌, ◌+◌, ◌++◌, ℕ, ℤ, Bool, true, false, not}
+use Rattle.std.specs.Prelude.{◌≡◌, ◌≢◌, ◌↔◌, ◌⊎◌, ◌+◌, ◌-◌, ◌<◌, ◌≤◌, ◌++◌, ℕ, ℤ, Bool, true}
+use Rattle.std.specs.Prelude.{false, not, min, Ok}
 use Rattle.std.specs.Prelude.{◌&&◌, ◌||◌, IsTrue, List, [], ◌∷◌, length, take, insert, Option}
 use Rattle.std.specs.Prelude.{Some, None, All, Contains, if◌then◌else◌, ⊤, nat_lt, ◌^◌}
 use Rattle.std.specs.Prelude.{option_and_then}
@@ -15,7 +16,7 @@ use Rattle.vipr_spec.specs.Certificate.{Problem, variables, Derivation, Certific
 use Rattle.vipr_spec.specs.Certificate.{constraint_at, reason_at, is_live, Reason, sol, uns}
 use Rattle.vipr_spec.specs.Certificate.{RestsOn, RestsOnNothing, NamesEarlier, RefersTo}
 use Rattle.vipr_spec.specs.Steps.{with_more, with_next, RefersBack, Refuses, StepDetail}
-use Rattle.vipr_spec.specs.Reading.{Rest}
+use Rattle.vipr_spec.specs.Reading.{Rest, Read, ◌>>=◌, read_each, derivation_read}
 use Rattle.vipr_read.specs.Items.{Items as Reader}
 use Rattle.vipr_linear.specs.Constraint.{condition_of}
 use Rattle.vipr_table.specs.Table.{DerivedBelow}
@@ -26,7 +27,7 @@ use Rattle.vipr_rules.specs.declared.claim.Target.{Target}
 use Rattle.vipr_rules.specs.declared.claim.Target.TheVariants.{Absurdity, Bound, WholeBound}
 use Rattle.vipr_rules.specs.declared.claim.Target.TheVariants.{Nothing}
 use Rattle.vipr_page.specs.Algebra.{size}
-use Rattle.vipr_explain.specs.Found.{AreDerivationsRead, AreReadSoFar, HasFault, all_read}
+use Rattle.vipr_explain.specs.Found.{AreDerivationsRead, AreReadSoFar, HasFault, head_read}
 use Rattle.vipr_explain.specs.declared.changes.Replay.{Replay}
 use Rattle.vipr_explain.specs.declared.near.Join.{Join}
 use Rattle.vipr_explain.specs.declared.near.OpenJoin.{OpenJoin}
@@ -137,6 +138,7 @@ pub record IsOpenJoin (c : Certificate) (k : OpenJoin) : Type 0 where
 -- Constraint n.index is like what is wanted, and is strong enough if it says what is wanted; the
 -- gap is what it misses the bound by. The set has exactly the assumptions that it rests on.
 pub record IsNear (c : Certificate) (t : Target) (n : Near) : Type 0 where
+  pub says : condition_of n.constraint ≡ constraint_at c n.index
   pub like : IsLike t (constraint_at c n.index)
   pub strong : IsTrue n.is_strong ↔ IsMetBy t (constraint_at c n.index)
   pub gap : MissesBy t (constraint_at c n.index) n.gap
@@ -206,10 +208,37 @@ abbrev pub SearchesPartWay : Profile → Rest → Problem → ℕ → Reader →
 SearchesPartWay P text p done r s =
     AreReadSoFar (AreDerivationsRead text p) (λ ds. HasPassedAll P p ds s) done r
 
--- so were all of them
-abbrev pub IsNearSearch : Profile → Rest → NearSearch → Type 0
-IsNearSearch P text s =
-    (p : Problem) × (n : ℕ) × (r : Reader) × (r.left ≡ 0) × SearchesPartWay P text p n r s
+-- how many of so many derivations are before constraint k, or all, behind those of a problem
+abbrev pub passed_to : Option ℕ → ℕ → ℕ → ℕ
+passed_to (Some k) given all = min (k - given) all
+passed_to None given all = all
+
+abbrev pub SearchesTo : Profile → Rest → Problem → Option ℕ → Reader → NearSearch → Type 0
+SearchesTo P text p end r s = (n : ℕ) × SearchesPartWay P text p n r s
+    × (n ≡ passed_to end (length p.constraints) (n + r.left))
+
+-- all of them were
+abbrev pub IsNearSearch : Profile → Rest → Problem → NearSearch → Type 0
+IsNearSearch P text p s = (r : Reader) × SearchesTo P text p None r s
+
+-- a text has no derivation of constraint k
+pub record HasNoStep (text : Rest) (k : ℕ) : Type 0 where
+  pub problem : Problem
+  pub count : ℕ
+  pub rest : Rest
+  pub head : head_read text ≡ Ok ((problem, count), rest)
+  pub outside : (k < length problem.constraints) ⊎ (length problem.constraints + count ≤ k)
+
+-- this is the one behind these derivations, if the text has it
+abbrev pub IsStepOf : Rest → Problem → List Derivation → ℕ → Option Derivation → Type 0
+IsStepOf text p before k (Some d) = (r : Reader) × AreDerivationsRead text p (before ++ d ∷ []) r
+    × (count (without_solutions p before) ≡ k)
+IsStepOf text p before k None = HasNoStep text k
+
+-- the derivations before that of constraint k are kept so, and this is that one
+abbrev pub IsStepRead : Rest → ℕ → Problem → Replay → Option Derivation → Type 0
+IsStepRead text k p r d =
+    (before : List Derivation) × HasReplayed p before r × IsStepOf text p before k d
 
 -- so many derivations of a text are read, and the next one breaks a rule
 pub record BreaksRule (P : Profile) (text : Rest) : Type 0 where
@@ -220,6 +249,24 @@ pub record BreaksRule (P : Profile) (text : Rest) : Type 0 where
   pub behind : AreDerivationsRead text problem (read ++ derivation ∷ []) reader
   pub refused : IsRefusedNext P (without_solutions problem read) derivation
 
--- what is nearest can't be found: the derivations can't be read, or one breaks a rule
-abbrev pub LacksNear : Profile → Rest → Type 0
-LacksNear P text = HasFault (all_read text) ⊎ BreaksRule P text
+-- the derivations up to that of a constraint, or all
+abbrev pub up_to : Option ℕ → ℕ → ℕ → ℕ
+up_to (Some k) given all = min (k + 1 - given) all
+up_to None given all = all
+
+abbrev pub read_to : Option ℕ → Rest → Read (List Derivation)
+read_to end r = head_read r >>= λ h.
+    read_each (derivation_read h.0.0) (up_to end (length h.0.0.constraints) h.0.1) h.1
+
+-- they can't be read, or one breaks a rule
+abbrev pub LacksBefore : Profile → Rest → Option ℕ → Type 0
+LacksBefore P text end = HasFault (read_to end text) ⊎ BreaksRule P text
+
+-- so it is of the derivation of constraint k or of one before it, or the text has none of k
+abbrev pub LacksStep : Profile → Rest → ℕ → Type 0
+LacksStep P text k = ((i : ℕ) × (i ≤ k) × LacksBefore P text (Some i)) ⊎ HasNoStep text k
+
+-- so it is of the goal; without one it is the head that can't be read
+abbrev pub LacksGoal : Profile → Rest → Option ℕ → Type 0
+LacksGoal P text (Some k) = LacksBefore P text (Some k)
+LacksGoal P text None = HasFault (head_read text)

@@ -1,13 +1,17 @@
 -- What is found of a derivation or a listed solution that is refused
-use Rattle.std.specs.Prelude.{◌≡◌, ◌↔◌, ℕ, ⊤, List, [], ◌∷◌, IsTrue, Option, Some}
-use Rattle.std.specs.Prelude.{None, option_map, ◌≤◌, ◌⊎◌, ◌==◌, if◌then◌else◌}
-use Rattle.std.specs.List.{All}
+use Rattle.std.specs.Prelude.{◌≡◌, ◌↔◌, ℕ, ⊤, List, IsTrue, Option}
+use Rattle.std.specs.Prelude.{Some, None, All, find, option_map, ◌==◌}
+use Rattle.std.specs.Prelude.{if◌then◌else◌, slice_get}
+use Rattle.std.specs.Option.{option_or}
 use Rattle.vipr_spec.specs.Causes.{dropped}
-use Rattle.vipr_spec.specs.Constraint.{Ints, IsSplit, Profile, two}
-use Rattle.vipr_spec.specs.Certificate.{Problem}
-use Rattle.vipr_spec.specs.Reading.{problem_read}
-use Rattle.vipr_linear.specs.Constraint.{condition_of}
-use Rattle.vipr_cert.specs.declared.items.Derivation.{Derivation}
+use Rattle.vipr_spec.specs.Constraint.{Constraint, Ints, IsSplit, Profile, two}
+use Rattle.vipr_spec.specs.Certificate.{Derivation, Problem}
+use Rattle.vipr_spec.specs.Reading.{Rest, problem_read}
+use Rattle.vipr_linear.specs.Constraint.{condition_of, constraint_of}
+use Rattle.vipr_cert.specs.Items.{derivation_of}
+use Rattle.vipr_cert.specs.declared.items.Derivation.{Derivation as Kept}
+use Rattle.vipr_table.specs.History.{IsTableOf}
+use Rattle.vipr_table.specs.Table.{entry_at}
 use Rattle.vipr_check.specs.declared.detail.Detail.{Detail}
 use Rattle.vipr_check.specs.declared.detail.Detail.TheVariants as detail
 use Rattle.vipr_check.specs.declared.detail.StepDetail.{StepDetail}
@@ -18,23 +22,21 @@ use Rattle.vipr_check.specs.declared.verdict.Verdict.{Verdict}
 use Rattle.vipr_check.specs.declared.verdict.Verdict.TheVariants as verdict
 use Rattle.vipr_page.specs.Differences.{row_differences}
 use Rattle.vipr_page.specs.RowFaults.{row_faults}
-use Rattle.vipr_explain.specs.Changes.{AreChanges}
-use Rattle.vipr_explain.specs.Excerpts.{IsPlaceAt}
-use Rattle.vipr_explain.specs.Found.{AreFoundAs, AreSoughtItems, HasFault, LacksListed}
-use Rattle.vipr_explain.specs.Found.{items_up_to}
-use Rattle.vipr_explain.specs.Found.{all_read, text_rest}
-use Rattle.vipr_explain.specs.Listed.{kept_derivation, place_found}
-use Rattle.vipr_explain.specs.Marked.{AreMarksIn, IsItemPlace}
-use Rattle.vipr_explain.specs.Near.{LacksNear}
+use Rattle.vipr_explain.specs.Changes.{FollowEach}
+use Rattle.vipr_explain.specs.Excerpts.{IsPlaceAt, part_of}
+use Rattle.vipr_explain.specs.Found.{LacksListed, text_rest}
+use Rattle.vipr_explain.specs.Marked.{AreMarksIn, IsItemPlace, place_found}
+use Rattle.vipr_explain.specs.Near.{IsStepOf, LacksBefore, LacksGoal, LacksStep}
+use Rattle.vipr_explain.specs.Near.{without_solutions}
 use Rattle.vipr_explain.specs.declared.drops.LastUse.{LastUse}
 use Rattle.vipr_explain.specs.declared.excerpt.KnownPlace.{KnownPlace}
-use Rattle.vipr_explain.specs.declared.items.Numbered.{Numbered}
 use Rattle.vipr_explain.specs.declared.marks.ItemPlace.{ItemPlace}
 use Rattle.vipr_explain.specs.declared.marks.ItemSort.TheVariants as kind
 use Rattle.vipr_explain.specs.declared.marks.Marks.{Marks}
 use Rattle.vipr_explain.specs.declared.marks.ItemPart.TheVariants as part
 use Rattle.vipr_explain.specs.declared.marks.Sought.{Sought}
 use Rattle.vipr_explain.specs.declared.shown.PlacedItems.{PlacedItems}
+use Rattle.vipr_explain.specs.declared.step.Numbered.{Numbered}
 use Rattle.vipr_explain.specs.declared.step.RefusedStep.{RefusedStep}
 use Rattle.vipr_explain.specs.declared.step.StepFacts.{StepFacts}
 use Rattle.vipr_explain.specs.declared.step.StepFacts.TheVariants as fact
@@ -50,6 +52,11 @@ IsPlaceFor text _ _ = ⊥
 abbrev pub IsPartPlace : List ℕ → Marks → ℕ → Option KnownPlace → Type 0
 IsPartPlace text marks index place =
     IsPlaceFor text (option_map (λ m. m.part) (place_found marks.places.items index)) place
+
+-- these are the places of the constraints of these indices
+abbrev pub AreNamesOf : List ℕ → List ℕ → Marks → Type 0
+AreNamesOf text wanted marks = (s : Sought) × (s.kind ≡ kind.Constraints)
+    × (s.items.now ≡ wanted) × AreMarksIn text s marks
 
 -- the last use of this constraint, and the place of its last reference
 pub record IsLastUseIn (text : List ℕ) (index : ℕ) (l : LastUse) : Type 0 where
@@ -84,41 +91,60 @@ AreFacts text integers (what.Entry entry) fact.Nothing = ⊤
 AreFacts text integers what.Nothing fact.Nothing = ⊤
 AreFacts text integers _ _ = ⊥
 
-pub record AreNamedBy (text : List ℕ) (own : List Numbered) (k : ℕ) (detail : StepDetail)
-    (found : PlacedItems × StepFacts) : Type 0 where
-  pub step : Derivation
-  pub own_is : kept_derivation own k ≡ Some step
-  pub sought : Sought
-  pub known : AreSoughtItems text sought found.0
-  pub facts : AreFacts text found.0.items.problem.integers detail found.1
+-- a derivation of a text by its constraint's index
+pub record IsNumberedIn (text : Rest) (n : Numbered) : Type 0 where
+  pub problem : Problem
+  pub before : List Derivation
+  pub step : IsStepOf text problem before n.index (Some (derivation_of n.derivation))
 
+-- the places of the constraints that a derivation names, what is behind its fault, and those of
+-- these that were dropped
+pub record AreNamedBy (text : List ℕ) (integers : Ints) (what : StepDetail) (marks : Marks)
+    (found : StepFacts) (kept : List Numbered) : Type 0 where
+  pub sought : Sought
+  pub marked : AreMarksIn text sought marks
+  pub facts : AreFacts text integers what found
+  pub lost : All (IsNumberedIn (text_rest text)) kept
+
+-- the derivation of constraint k, behind those before it, of which the live ones are kept
 pub record IsRefusedStep (P : Profile) (text : List ℕ) (k : ℕ) (detail : StepDetail)
     (s : RefusedStep) : Type 0 where
-  pub problem : Problem
-  pub own : AreFoundAs (k ∷ []) (text_rest text) problem s.own.items
-  pub named : AreNamedBy text s.own.items k detail (s.known, s.facts)
+  pub before : List Derivation
+  pub own : IsStepOf (text_rest text) s.known.problem before k (Some (derivation_of s.own))
+  pub rows : IsTableOf (without_solutions s.known.problem before) s.rows
+  pub text_is : s.known.text.now ≡ text
+  pub named : AreNamedBy text s.known.problem.integers detail s.known.marks s.facts s.dropped.items
   pub place : IsPartPlace text s.known.marks k s.place
-  pub changes : AreChanges P text k s.changes
+  pub changes : FollowEach P (without_solutions s.known.problem before) (derivation_of s.own)
+      s.changes
+
+-- a constraint of the problem, or a derived one that is live, or one that was dropped
+abbrev pub dropped_as : RefusedStep → ℕ → Option Kept
+dropped_as s index = option_map (λ n. n.derivation) (find (λ n. n.index == index) s.dropped.items)
+
+abbrev pub known_constraint : RefusedStep → ℕ → Option Constraint
+known_constraint s index =
+    option_or (option_map (λ n. n.item) (slice_get s.known.problem.constraints index))
+    (option_or (option_map (λ e. constraint_of e.constraint) (entry_at s.rows index))
+    (option_map (λ d. constraint_of d.constraint) (dropped_as s index)))
+
+-- the name of a constraint of the problem, or of another one whose place is known
+abbrev pub known_name : PlacedItems → ℕ → Option (List ℕ)
+known_name k index = option_or (option_map (λ n. n.name) (slice_get k.problem.constraints index))
+    (option_map (λ m. part_of k.text.now m.name) (place_found k.marks.places.items index))
 
 -- ---- what a text lacks
-
--- the derivations up to constraint k can't be read, or none of them is of k
-abbrev pub LacksStep : List ℕ → ℕ → Type 0
-LacksStep text k =
-    ((wanted : List ℕ) × All (λ i. i ≤ k) wanted × HasFault (items_up_to wanted (text_rest text)))
-    ⊎ ((p : Problem) × (own : List Numbered) × AreFoundAs (k ∷ []) (text_rest text) p own
-    × (kept_derivation own k ≡ None))
 
 -- the item at this place can't be read; at the end a derivation can't be, or breaks a rule
 abbrev pub LacksPlace : Profile → List ℕ → Place → Type 0
 LacksPlace P text (at.Byte offset) = ⊥
 LacksPlace P text (at.Sol number) = LacksListed number (problem_read (text_rest text))
-LacksPlace P text (at.Der index) = LacksStep text index
-LacksPlace P text at.End = LacksNear P (text_rest text)
+LacksPlace P text (at.Der index) = LacksStep P (text_rest text) index
+LacksPlace P text at.End = LacksBefore P (text_rest text) None
 
--- what a verdict is about; of a verified text all is read
+-- what a verdict is about
 abbrev pub LacksItem : Profile → List ℕ → Verdict → Type 0
-LacksItem P text (verdict.Verified report) = HasFault (all_read (text_rest text))
+LacksItem P text (verdict.Verified report) = LacksGoal P (text_rest text) report.goal
 LacksItem P text (verdict.Refused refusal) = LacksPlace P text refusal.place
 
 -- the place of a solution's name

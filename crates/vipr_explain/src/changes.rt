@@ -1,33 +1,27 @@
 //! Changes of one entry with which a refused sum follows, each tried by the rule.
-ghost use Rattle.std.specs.Prelude.{◌≡◌, ◌+◌, ◌<◌, ◌^◌, ◌∷◌, ◌++◌, ℕ, List, [], None, IsTrue};
-ghost use Rattle.std.specs.Prelude.{IfErr, IfOk, IfSome, OnOk, length};
-ghost use Rattle.vipr_spec.specs.Constraint.{at, NamesBelow, Profile};
-ghost use Rattle.vipr_spec.specs.Certificate.{Derivation as DerivationMeant, count, variables};
+ghost use Rattle.std.specs.Prelude.{◌≡◌, List, [], IfOk, IfSome, IsTrue, length};
+ghost use Rattle.vipr_spec.specs.Constraint.{Profile};
+ghost use Rattle.vipr_spec.specs.Certificate.{Certificate, Derivation as DerivationMeant};
+ghost use Rattle.vipr_spec.specs.Certificate.{variables};
 ghost use Rattle.vipr_spec.specs.Steps.{RefersBack};
 ghost use Rattle.vipr_cert.specs.Items.{derivation_of, reason_of};
 ghost use Rattle.vipr_table.specs.History.{IsTableOf};
 ghost use Rattle.vipr_table.specs.Table.{DerivedBelow};
 ghost use Rattle.vipr_rules.specs.Profile.{profile_of};
-ghost use Rattle.vipr_scan.specs.declared.error.TextError.TheVariants.{Memory};
-ghost use Rattle.vipr_explain.specs.Changes.{AreChanges, FollowEach, FollowsWith};
-ghost use Rattle.vipr_explain.specs.Changes.{ReplaysPartWay, changed, changed_entries};
-ghost use Rattle.vipr_explain.specs.Found.{AreDerivationsRead, text_rest};
+ghost use Rattle.vipr_explain.specs.Changes.{FollowEach, FollowsWith, changed, changed_entries};
 ghost use Rattle.vipr_explain.specs.Near.{HasReplayed, without_solutions};
 
-use crate::items::{Items, open_derivations};
-use crate::near::{Join, entry_of, place};
+use crate::near::Join;
+use crate::shown::PlacedItems;
 use crate::sought::{Candidates, Sum};
-use crate::text::{Reread, Subject};
+use crate::text::Subject;
 use std::alloc::{AllocError, Global};
-use vipr_bytes::Bytes;
 use vipr_cert::{Derivation, Problem, Reason, References};
 use vipr_check::Table;
 use vipr_frac::Frac;
 use vipr_linear::Combination;
-use vipr_page::{Page, ShownName};
-use vipr_read::Derivations;
+use vipr_page::Page;
 use vipr_rules::{Rows, RuleError, apply_in};
-use vipr_scan::TextError;
 
 /// A change of a reason.
 #[derive(Clone, Copy)]
@@ -59,12 +53,12 @@ pub(crate) struct Replay {
 
 impl Change {
     // Writes that a derivation by this reason follows with it.
-    fn write(&self, page: &mut Page, items: &Items, reason: &Reason) {
+    fn write(&self, page: &mut Page, known: &PlacedItems<'_>, reason: &Reason) {
         page.put("  = help: with ");
         match *self {
             Change::Entry(position, index, multiplier) => {
                 if let References::Entries(entries) = reason.references() {
-                    write_entry(page, items, entries, position, index, multiplier);
+                    write_entry(page, known, entries, position, index, multiplier);
                 }
             }
             Change::Join(Join { i1, l1, i2, l2 }) => write!(page, "`uns {i1} {l1} {i2} {l2}`"),
@@ -74,6 +68,23 @@ impl Change {
             }),
         }
         page.put(" the derivation follows\n");
+    }
+
+    // Writes the multiplier, the index or the word that is new.
+    fn write_token(&self, page: &mut Page, is_multiplier: bool, reason: &Reason) {
+        match *self {
+            Change::Entry(_, index, multiplier) => {
+                if is_multiplier {
+                    write!(page, "{multiplier}");
+                } else {
+                    write!(page, "{index}");
+                }
+            }
+            _ => page.put(match reason {
+                Reason::Lin(_) => "rnd",
+                _ => "lin",
+            }),
+        }
     }
 
     /// The position and the constraint of an entry.
@@ -88,7 +99,7 @@ impl Change {
 impl Changes {
     /// No change.
     pub(crate) fn none() -> Changes
-        ensures { (P : Profile) (text : List ℕ) (k : ℕ) → AreChanges P text k result }
+        ensures { (P : Profile) (c : Certificate) (d : DerivationMeant) → FollowEach P c d result }
     {
         Changes {
             multiplier: None,
@@ -103,12 +114,12 @@ impl Changes {
     }
 
     /// Writes a line for each change of a reason, at most two.
-    pub(crate) fn write(&self, page: &mut Page, items: &Items, reason: &Reason) {
+    pub(crate) fn write(&self, page: &mut Page, known: &PlacedItems<'_>, reason: &Reason) {
         let has_both = self.multiplier.is_some() && self.exchange.is_some();
         let addition = if has_both { None } else { self.addition };
         for change in [self.multiplier, self.exchange, addition] {
             if let Some(change) = change {
-                change.write(page, items, reason);
+                change.write(page, known, reason);
             }
         }
     }
@@ -120,51 +131,18 @@ impl Changes {
 
     /// Writes that token as it is with the change.
     pub(crate) fn write_token(&self, page: &mut Page, reason: &Reason) {
-        match (self.multiplier, self.exchange) {
-            (Some(Change::Entry(_, _, multiplier)), _) => write!(page, "{multiplier}"),
-            (None, Some(Change::Entry(_, index, _))) => write!(page, "{index}"),
-            _ => page.put(match reason {
-                Reason::Lin(_) => "rnd",
-                _ => "lin",
-            }),
+        if let Some(change) = self.multiplier {
+            change.write_token(page, true, reason);
+        } else if let Some(change) = self.exchange {
+            change.write_token(page, false, reason);
         }
-    }
-
-    /// Finds changes of the derivation of this constraint.
-    pub(crate) fn find(subject: Subject<'_>, index: u32) -> Reread<Changes>
-        ensures found { IfOk result (AreChanges (profile_of subject.entry.profile)
-            subject.entry.text.now index) }
-        ensures missing { IfErr result (λ m. m ≡ Memory) }
-    {
-        match open_derivations(subject.alloc, subject.text) {
-            Ok((problem, mut derivations)) => {
-                let found = changes_behind(subject, &problem, &mut derivations, index);
-                drop(derivations);
-                drop(problem);
-                or_none(found)
-            }
-            Err(missing) => or_none(Err(missing)),
-        }
-    }
-}
-
-// Changes that were found, or none if the text can't be read so far.
-fn or_none(found: Reread<Changes>) -> Reread<Changes>
-    ensures found { (P : Profile) (text : List ℕ) (k : ℕ) → IfOk found (AreChanges P text k)
-        → IfOk result (AreChanges P text k) }
-    ensures missing { IfErr result (λ m. m ≡ Memory) }
-{
-    match found {
-        Ok(changes) => Ok(changes),
-        Err(TextError::Memory) => Err(TextError::Memory),
-        Err(_) => Ok(Changes::none()),
     }
 }
 
 // Writes an entry of a constraint with a multiplier, and the one in whose place it is.
 fn write_entry(
     page: &mut Page,
-    items: &Items,
+    known: &PlacedItems<'_>,
     entries: &[(u32, Frac)],
     position: usize,
     index: u32,
@@ -173,53 +151,20 @@ fn write_entry(
     match entries.get(position) {
         None => {
             write!(page, "one more entry, {multiplier} x ");
-            write_name(page, items, index);
+            known.write_name(page, index);
             page.put(",");
         }
         Some(entry) if entry.0 == index => {
             let old = entry.1;
             write!(page, "the multiplier {multiplier} in place of {old} at ");
-            write_name(page, items, index);
+            known.write_name(page, index);
         }
         Some(entry) => {
-            write_name(page, items, index);
+            known.write_name(page, index);
             page.put(" in place of ");
-            write_name(page, items, entry.0);
+            known.write_name(page, entry.0);
             write!(page, " at entry {position}");
         }
-    }
-}
-
-/// Writes a constraint's index and name.
-pub(crate) fn write_name(page: &mut Page, items: &Items, index: u32) {
-    write!(page, "[{index}]");
-    if let Some(name) = items.name(index) {
-        write!(page, " {}", ShownName(name.as_bytes()));
-    }
-}
-
-// Changes of the derivation of this constraint, behind those that are before it.
-fn changes_behind(
-    subject: Subject<'_>,
-    problem: &Problem,
-    derivations: &mut Derivations<Bytes<'_>>,
-    index: u32,
-) -> Reread<Changes>
-    requires behind { AreDerivationsRead (text_rest subject.text.now) problem.now []
-        derivations.old }
-    requires room { derivations.old.constraints + derivations.old.left < 2 ^ 32 }
-    ensures { IfOk result (AreChanges (profile_of subject.entry.profile)
-        subject.entry.text.now index) }
-{
-    let mut replay = Replay::new(subject.alloc, problem)?;
-    replay.pass_before(subject, problem, derivations, index)?;
-    let reached = replay.rows.next();
-    if reached != index {
-        return Ok(Changes::none());
-    }
-    match derivations.next(subject.alloc)? {
-        Some(step) => replay.changes_of(subject, problem, &step),
-        None => Ok(Changes::none()),
     }
 }
 
@@ -237,59 +182,18 @@ impl Replay {
         }
     }
 
-    // Passes the derivations before a constraint.
-    fn pass_before(
-        &mut self,
-        subject: Subject<'_>,
-        problem: &Problem,
-        derivations: &mut Derivations<Bytes<'_>>,
-        index: u32,
-    ) -> Reread<()>
-        requires behind { AreDerivationsRead (text_rest subject.text.now) problem.now []
-            derivations.old }
-        requires room { derivations.old.constraints + derivations.old.left < 2 ^ 32 }
-        requires none { HasReplayed problem.now [] self.old }
-        ensures { OnOk result ((n : ℕ) × ReplaysPartWay (text_rest subject.entry.text.now)
-            problem.now n derivations.new self.new) }
-    {
-        let first = problem.cons().len() as u32;
-        let count = index.saturating_sub(first).min(derivations.left());
-        for passed in 0..count {
-            match derivations.next(subject.alloc)? {
-                Some(mut step) => {
-                    let kept = self.pass(subject, problem, &mut step);
-                    drop(step);
-                    kept?;
-                }
-                None => {}
-            }
-        }
-        Ok(())
-    }
-
-    // Passes a derivation, whose constraint moves to the table.
-    fn pass(&mut self, subject: Subject<'_>, problem: &Problem, step: &mut Derivation) -> Reread<()>
-        requires room { self.old.rows.next + 1 < 2 ^ 32 }
-        requires names { NamesBelow (variables problem.now) (at step.old.constraint.row) }
-        requires replayed { (ds : List DerivationMeant) × HasReplayed problem.now ds self.old }
-        ensures { (ds : List DerivationMeant) → HasReplayed problem.now ds self.old
-            → OnOk result (HasReplayed problem.now (ds ++ derivation_of step.old ∷ []) self.new) }
-    {
-        let entry = entry_of(subject, problem, &self.rows, &mut self.scratch, step)?;
-        place(&mut self.rows, entry)
-    }
-
-    // Changes of the derivation behind those that were passed.
-    fn changes_of(
+    /// Changes of the derivation behind those that were passed.
+    pub(crate) fn changes_of(
         &mut self,
         subject: Subject<'_>,
         problem: &Problem,
         step: &Derivation,
-    ) -> Reread<Changes>
+    ) -> Result<Changes, AllocError>
         requires { (ds : List DerivationMeant) × HasReplayed problem.now ds self.old }
-        ensures { (ds : List DerivationMeant) → HasReplayed problem.now ds self.old
+        ensures follow { (ds : List DerivationMeant) → HasReplayed problem.now ds self.old
             → IfOk result (FollowEach (profile_of subject.entry.profile)
             (without_solutions problem.now ds) (derivation_of step.now)) }
+        ensures rows { self.new.rows ≡ self.old.rows }
     {
         let sum = Sum {
             subject,
@@ -305,7 +209,11 @@ impl Replay {
 }
 
 // Tries changes of each kind.
-fn try_all(sum: Sum<'_>, scratch: &mut Combination, candidates: &Candidates) -> Reread<Changes>
+fn try_all(
+    sum: Sum<'_>,
+    scratch: &mut Combination,
+    candidates: &Candidates,
+) -> Result<Changes, AllocError>
     requires below { DerivedBelow (variables sum.problem.now) sum.rows.now }
     requires scratch { length scratch.old.sums ≡ variables sum.problem.now }
     ensures { (ds : List DerivationMeant) → let c = without_solutions sum.entry.problem.now ds in
@@ -327,7 +235,7 @@ fn first_that_follows(
     sum: Sum<'_>,
     scratch: &mut Combination,
     candidates: &[Change],
-) -> Reread<Option<Change>>
+) -> Result<Option<Change>, AllocError>
     requires below { DerivedBelow (variables sum.problem.now) sum.rows.now }
     requires scratch { length scratch.old.sums ≡ variables sum.problem.now }
     ensures scratch { length scratch.new.sums ≡ length scratch.old.sums }
@@ -345,7 +253,7 @@ fn first_that_follows(
 }
 
 // Whether a sum follows with a change, by the rule.
-fn follows(sum: Sum<'_>, scratch: &mut Combination, change: &Change) -> Reread<bool>
+fn follows(sum: Sum<'_>, scratch: &mut Combination, change: &Change) -> Result<bool, AllocError>
     requires below { DerivedBelow (variables sum.problem.now) sum.rows.now }
     requires scratch { length scratch.old.sums ≡ variables sum.problem.now }
     ensures scratch { length scratch.new.sums ≡ length scratch.old.sums }
@@ -365,7 +273,7 @@ fn follows(sum: Sum<'_>, scratch: &mut Combination, change: &Change) -> Reread<b
             drop(entry);
             Ok(true)
         }
-        Err(RuleError::Memory) => Err(TextError::Memory),
+        Err(RuleError::Memory) => Err(AllocError),
         Err(error) => {
             drop(error);
             Ok(false)

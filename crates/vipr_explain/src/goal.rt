@@ -1,19 +1,21 @@
 //! What proves the claim, and which constraints come nearest to it if none does.
-ghost use Rattle.std.specs.Prelude.{IfErr, IfOk, map};
+ghost use Rattle.std.specs.Prelude.{IfErr, IfOk, None, Some, map};
 ghost use Rattle.vipr_rules.specs.Profile.{profile_of};
-ghost use Rattle.vipr_explain.specs.Found.{AreItemsOf, Because, Missed, all_read, text_rest};
-ghost use Rattle.vipr_explain.specs.Near.{LacksNear};
-ghost use Rattle.vipr_explain.specs.Claims.{IsGoalRead, IsUnproved};
+ghost use Rattle.vipr_explain.specs.Found.{Because, text_rest};
+ghost use Rattle.vipr_explain.specs.Near.{LacksBefore, LacksGoal};
+ghost use Rattle.vipr_explain.specs.Claims.{IsGoalFound, IsGoalRead, IsUnproved};
+ghost use Rattle.vipr_explain.specs.Refused.{AreNamesOf};
 ghost use Rattle.vipr_explain.specs.Values.{AreListedValues};
 
-use crate::changes::write_name;
 use crate::excerpt::KnownPlace;
 use crate::items::open_problem;
-use crate::near::{Join, Near, NearSearch, find_near, is_turned};
-use crate::shown::{PlacedItems, write_line};
+use crate::marks::Marks;
+use crate::near::{Join, Near, NearSearch, find_near, find_step, is_turned};
+use crate::shown::{PlacedItems, find_names, write_line};
 use crate::solution::{ListedValues, is_exchanged};
 use crate::text::{Reread, Subject};
-use vipr_cert::{Claim, Goal};
+use std::alloc::AllocError;
+use vipr_cert::{Claim, Derivation, Goal};
 use vipr_check::Report;
 use vipr_frac::Frac;
 use vipr_linear::{Constraint, compares};
@@ -23,25 +25,77 @@ use vipr_rules::Target;
 /// How many assumptions of a constraint are shown.
 const MOST_ASSUMPTIONS: u32 = 4;
 
+/// The constraint that proves the dual side of a claim: its index, and its derivation, if it isn't
+/// of the problem.
+#[derive(Drop)]
+pub(crate) struct ProvedGoal<'a> {
+    index: u32,
+    known: PlacedItems<'a>,
+    step: Option<Derivation>,
+}
+
 /// What proves a claim: the constraint that proves the dual side, if one has to, and the solutions.
 #[derive(Drop)]
-pub(crate) struct ProvedClaim {
-    goal: Option<PlacedItems>,
+pub(crate) struct ProvedClaim<'a> {
+    goal: Option<ProvedGoal<'a>>,
     values: ListedValues,
 }
 
-impl ProvedClaim {
+impl<'a> ProvedGoal<'a> {
+    // Reads the constraint of this index.
+    fn find(subject: Subject<'a>, index: u32) -> Reread<ProvedGoal<'a>>
+        ensures found { IfOk result (IsGoalFound subject.entry.text.now index) }
+        ensures missing { IfErr result (λ m. Because m (LacksBefore
+            (profile_of subject.entry.profile) (text_rest subject.entry.text.now) (Some index))) }
+    {
+        let marks = find_names(subject, [index].as_slice())?;
+        match find_step(subject, index) {
+            Ok((problem, replay, step)) => {
+                drop(replay);
+                let text = subject.text;
+                let known = PlacedItems {
+                    text,
+                    problem,
+                    marks,
+                };
+                Ok(ProvedGoal { index, known, step })
+            }
+            Err(missing) => {
+                drop(marks);
+                Err(missing)
+            }
+        }
+    }
+
+    // Writes it.
+    fn write(&self, page: &mut Page) {
+        let constraint = match (
+            &self.step,
+            self.known.problem.cons().get(self.index as usize),
+        ) {
+            (Some(step), _) => Some(&step.constraint),
+            (None, Some(named)) => Some(&named.item),
+            (None, None) => None,
+        };
+        page.put("  goal   ");
+        self.known.write_constraint(page, self.index, constraint);
+        page.put("\n");
+    }
+}
+
+impl<'a> ProvedClaim<'a> {
     /// Reads what proves the claim of a report.
-    pub(crate) fn find(subject: Subject<'_>, report: &Report) -> Reread<ProvedClaim>
+    pub(crate) fn find(subject: Subject<'a>, report: &Report) -> Reread<ProvedClaim<'a>>
         ensures goal { IfOk result
             (λ k. IsGoalRead subject.entry.text.now report.now.goal k.goal) }
         ensures values { IfOk result
             (λ k. AreListedValues (text_rest subject.entry.text.now) k.values) }
-        ensures missing { IfErr result
-            (λ m. Missed m (all_read (text_rest subject.entry.text.now))) }
+        ensures missing { IfErr result (λ m. Because m (LacksGoal
+            (profile_of subject.entry.profile) (text_rest subject.entry.text.now)
+            report.now.goal)) }
     {
         let goal = match report.goal {
-            Some(goal) => Some(PlacedItems::read(subject, [goal].as_slice())?),
+            Some(goal) => Some(ProvedGoal::find(subject, goal)?),
             None => None,
         };
         match ListedValues::find(subject) {
@@ -64,13 +118,9 @@ impl ProvedClaim {
                 }
             }
         }
-        match (&self.goal, report.goal) {
-            (Some(known), Some(index)) => {
-                page.put("  goal   ");
-                known.write_constraint(page, index);
-                page.put("\n");
-            }
-            _ => page.put("  nothing has to be proved of the dual side\n"),
+        match &self.goal {
+            Some(goal) => goal.write(page),
+            None => page.put("  nothing has to be proved of the dual side\n"),
         }
         if !matches!(claim, Claim::Infeas) {
             page.put("  primal ");
@@ -81,35 +131,40 @@ impl ProvedClaim {
 
 /// What is known if no constraint proves the claim: what is wanted, and the nearest constraints.
 #[derive(Drop)]
-pub(crate) struct UnprovedClaim {
+pub(crate) struct UnprovedClaim<'a> {
     search: NearSearch,
-    items: PlacedItems,
+    known: PlacedItems<'a>,
     /// Whether a solution is listed, which is feasible then.
     has_solution: bool,
 }
 
-impl UnprovedClaim {
+impl<'a> UnprovedClaim<'a> {
     /// Reads the constraints that come nearest.
-    pub(crate) fn find(subject: Subject<'_>) -> Reread<UnprovedClaim>
+    pub(crate) fn find(subject: Subject<'a>) -> Reread<UnprovedClaim<'a>>
         ensures found { IfOk result
             (IsUnproved (profile_of subject.entry.profile) subject.entry.text.now) }
-        ensures missing { IfErr result (λ m. Because m
-            (LacksNear (profile_of subject.entry.profile) (text_rest subject.entry.text.now))) }
+        ensures missing { IfErr result (λ m. Because m (LacksBefore
+            (profile_of subject.entry.profile) (text_rest subject.entry.text.now) None)) }
     {
         let (problem, solutions) = open_problem(subject.alloc, subject.text)?;
         let has_solution = solutions.left() > 0;
         drop(solutions);
         drop(problem);
-        let search = find_near(subject)?;
-        match read_near(subject, search.near.as_slice()) {
-            Ok(items) => Ok(UnprovedClaim {
+        let (problem, search) = find_near(subject)?;
+        match near_names(subject, search.near.as_slice()) {
+            Ok(marks) => Ok(UnprovedClaim {
                 search,
-                items,
+                known: PlacedItems {
+                    text: subject.text,
+                    problem,
+                    marks,
+                },
                 has_solution,
             }),
             Err(missing) => {
                 drop(search);
-                Err(missing)
+                drop(problem);
+                Err(missing.into())
             }
         }
     }
@@ -125,19 +180,14 @@ impl UnprovedClaim {
     }
 
     // Whether a constraint has the other sense than what is wanted.
-    fn is_turned(&self, index: u32) -> bool {
-        match (self.bound(), self.items.items.constraint(index)) {
-            (Some(bound), Some(constraint)) => is_turned(constraint.sense, bound.sense),
-            _ => false,
-        }
+    fn is_turned(&self, near: &Near) -> bool {
+        self.bound()
+            .is_some_and(|bound| is_turned(near.constraint.sense, bound.sense))
     }
 
     // Whether a constraint's right-hand side is rounded when it is compared.
-    fn is_rounded(&self, index: u32) -> bool {
-        match (&self.search.target, self.items.items.constraint(index)) {
-            (Target::WholeBound(_), Some(constraint)) => !constraint.rhs.is_whole(),
-            _ => false,
-        }
+    fn is_rounded(&self, near: &Near) -> bool {
+        matches!(&self.search.target, Target::WholeBound(_)) && !near.constraint.rhs.is_whole()
     }
 
     /// Writes the page of a claim that no constraint proves, whose dual bound is at this place.
@@ -149,7 +199,7 @@ impl UnprovedClaim {
         page.put("  wanted: a constraint that rests on no assumption and ");
         match self.bound() {
             Some(constraint) => {
-                let algebra = Algebra(&self.items.items.problem, constraint);
+                let algebra = Algebra(&self.known.problem, constraint);
                 write!(page, "says {algebra} or stronger\n");
             }
             None => page.put("is absurd, as 0 >= 1\n"),
@@ -168,28 +218,27 @@ impl UnprovedClaim {
     }
 }
 
-// Reads constraints that come near.
-fn read_near(subject: Subject<'_>, near: &[Near]) -> Reread<PlacedItems>
-    ensures read { IfOk result
-        (AreItemsOf subject.entry.text.now (map (λ n. n.index) near.now)) }
-    ensures missing { IfErr result (λ m. Missed m (all_read (text_rest subject.entry.text.now))) }
+// The places of constraints that come near.
+fn near_names(subject: Subject<'_>, near: &[Near]) -> Result<Marks, AllocError>
+    ensures { IfOk result
+        (AreNamesOf subject.entry.text.now (map (λ n. n.index) near.now)) }
 {
     let mut wanted = Vec::new(subject.alloc);
     for item in near {
         wanted.push(item.index)?;
     }
-    PlacedItems::read(subject, wanted.as_slice())
+    find_names(subject, wanted.as_slice())
 }
 
 // Writes what to do, by what was found.
-fn write_advice(page: &mut Page, known: &UnprovedClaim) {
-    let problem = &known.items.items.problem;
+fn write_advice(page: &mut Page, known: &UnprovedClaim<'_>) {
+    let problem = &known.known.problem;
     let near = &known.search.near;
     let strong = near.iter().find(|near| near.is_strong);
     let weak = near.iter().find(|near| near.is_free && near.gap.is_some());
     let turned = near
         .iter()
-        .find(|near| near.is_free && known.is_turned(near.index));
+        .find(|near| near.is_free && known.is_turned(near));
     page.put(match (known.bound(), strong, weak, turned) {
         _ if is_exchanged(problem.claim()) => {
             "the lower bound of the claim is above the upper one: are they exchanged?"
@@ -200,8 +249,7 @@ fn write_advice(page: &mut Page, known: &UnprovedClaim) {
         }
         (Some(bound), _, Some(weak), _) => {
             let index = weak.index;
-            let constraint = known.items.items.constraint(index);
-            if constraint.is_some_and(|weak| weak.rhs == bound.rhs.neg()) {
+            if weak.constraint.rhs == bound.rhs.neg() {
                 write!(page, "[{index}] has this bound with the other sign: ");
                 page.put("is the sign in the claim wrong?");
             } else {
@@ -285,17 +333,16 @@ fn write_left(page: &mut Page, search: &NearSearch, strong: &Near) {
 }
 
 // Writes a constraint that comes near, and why it isn't enough.
-fn write_near(page: &mut Page, known: &UnprovedClaim, near: &Near) {
+fn write_near(page: &mut Page, known: &UnprovedClaim<'_>, near: &Near) {
     page.put("    ");
-    let items = &known.items.items;
-    match (known.bound(), items.constraint(near.index)) {
-        (Some(_), Some(constraint)) => {
-            let (sign, side) = (sign_of(constraint.sense), constraint.rhs);
-            write_name(page, items, near.index);
-            write!(page, "  objective {sign} {side}");
-            write_line(page, known.items.marks.place(near.index));
-        }
-        _ => known.items.write_constraint(page, near.index),
+    let (items, constraint) = (&known.known, &near.constraint);
+    if known.bound().is_some() {
+        let (sign, side) = (sign_of(constraint.sense), constraint.rhs);
+        items.write_name(page, near.index);
+        write!(page, "  objective {sign} {side}");
+        write_line(page, items.marks.place(near.index));
+    } else {
+        items.write_constraint(page, near.index, Some(constraint));
     }
     if known.bound().is_some() {
         if near.is_strong {
@@ -303,10 +350,10 @@ fn write_near(page: &mut Page, known: &UnprovedClaim, near: &Near) {
         } else if let Some(gap) = near.gap {
             let size = Measured(size_of(gap));
             write!(page, ", too weak by {size}");
-            if known.is_rounded(near.index) {
+            if known.is_rounded(near) {
                 page.put(" when it is rounded");
             }
-        } else if known.is_turned(near.index) {
+        } else if known.is_turned(near) {
             page.put(", the other way round");
         }
     }

@@ -1,10 +1,9 @@
 //! The places of items' names in a text, and of one more token of each.
-ghost use Rattle.std.specs.Prelude.{◌≡◌, option_copied, IfOk, OnOk};
-ghost use Rattle.vipr_explain.specs.Listed.{place_found};
+ghost use Rattle.std.specs.Prelude.{◌≡◌, fold, max, option_copied, IfOk, OnOk};
 ghost use Rattle.vipr_explain.specs.Marked.{AreMarksIn, IsItemPlace, is_behind, is_of, is_part};
-ghost use Rattle.vipr_explain.specs.Marked.{is_past, is_past_head, later_user, marked, with_part};
+ghost use Rattle.vipr_explain.specs.Marked.{is_past, is_past_head, later_user, marked};
+ghost use Rattle.vipr_explain.specs.Marked.{part_of_item, place_found, with_part};
 
-use crate::items::greatest;
 use crate::text::{Span, Subject};
 use crate::wanted::{Section, TextProgress, Wanted, count_of};
 use crate::words::Words;
@@ -82,14 +81,27 @@ impl ItemPart {
 }
 
 /// What is looked for in a text: the names of items of a kind by their indices, and a part of the
-/// last one of them. In the others that part is the last reference.
+/// last one of them. In the others that part is the reason.
 #[derive(Clone, Copy)]
 pub(crate) struct Sought<'a> {
     pub(crate) kind: ItemSort,
     pub(crate) items: &'a [u32],
     pub(crate) part: ItemPart,
-    /// A constraint, whose last use is looked for, too.
+    /// A constraint, whose last use is looked for, too, and its last reference.
     pub(crate) used: Option<u32>,
+}
+
+impl Sought<'_> {
+    // The part of an item that is looked for, if this is the last item.
+    fn part_of(self, end: u32, index: u32) -> ItemPart
+        ensures { result ≡ part_of_item self.entry end index }
+    {
+        match self.used {
+            _ if index == end => self.part,
+            Some(used) if used == index => ItemPart::LastReference,
+            _ => ItemPart::Reason,
+        }
+    }
 }
 
 /// The place of an item's name, and of the part of it that is looked for; without one, that of the
@@ -180,11 +192,7 @@ fn mark(
 {
     let index = progress.index();
     if sought.kind.is_of(progress.section) && sought.items.contains(&index) {
-        let part = if index == end {
-            sought.part
-        } else {
-            ItemPart::LastReference
-        };
+        let part = sought.part_of(end, index);
         if let Wanted::Name | Wanted::Claim = progress.wanted {
             places.push(ItemPlace {
                 index,
@@ -238,4 +246,15 @@ fn is_past_head(wanted: Wanted) -> bool
         Wanted::Keyword | Wanted::Count | Wanted::BoundCount => false,
         _ => true,
     }
+}
+
+// The greatest of indices, 0 if there is none.
+fn greatest(indices: &[u32]) -> u32
+    ensures { result ≡ fold max 0 indices.now }
+{
+    let mut most = 0;
+    for index in indices {
+        most = most.max(*index);
+    }
+    most
 }

@@ -1,7 +1,7 @@
 //! Finds the constraints that come nearest to a claim, and the assumptions that they rest on.
 ghost use Rattle.std.specs.Prelude.{◌≡◌, ◌↔◌, ◌+◌, ◌<◌, ◌≤◌, ◌^◌, ◌∷◌, ◌++◌, ℕ, List, []};
 ghost use Rattle.std.specs.Prelude.{IsTrue, IfErr, IfOk, OnOk, length, take, unsigned_abs};
-ghost use Rattle.std.specs.Prelude.{All, option_and_then};
+ghost use Rattle.std.specs.Prelude.{All, None, Some, option_and_then, option_map};
 ghost use Rattle.std.specs.FinSet.{contains};
 ghost use Rattle.std.specs.List.{position_or_len};
 ghost use Rattle.vipr_spec.specs.Fraction.{most, whole};
@@ -20,10 +20,10 @@ ghost use Rattle.vipr_scan.specs.declared.error.TextError.TheVariants.{Memory};
 ghost use Rattle.vipr_explain.specs.Found.{AreDerivationsRead, Because, text_rest};
 ghost use Rattle.vipr_explain.specs.Near.{AreInOrder, AreNearest, HasPassedAll, HasPlace};
 ghost use Rattle.vipr_explain.specs.Near.{HasSearched, IsGapBetween, IsGapTo, IsOpenJoin, IsLike};
-ghost use Rattle.vipr_explain.specs.Near.{IsLikeBound, IsNearSearch, IsNextEntry};
-ghost use Rattle.vipr_explain.specs.Near.{IsRefusedNext, IsRoundedSide, LacksNear, MissesBy};
+ghost use Rattle.vipr_explain.specs.Near.{IsLikeBound, IsNearSearch, IsNextEntry, IsStepRead};
+ghost use Rattle.vipr_explain.specs.Near.{IsRefusedNext, IsRoundedSide, LacksBefore, MissesBy};
 ghost use Rattle.vipr_explain.specs.Near.{comes_before, is_turned, join_of, misses_less, rank_of};
-ghost use Rattle.vipr_explain.specs.Near.{with_near, without_solutions};
+ghost use Rattle.vipr_explain.specs.Near.{SearchesTo, passed_to, with_near, without_solutions};
 ghost use Rattle.vipr_explain.specs.declared.near.Near.{Near as NearMeant};
 
 use crate::changes::Replay;
@@ -48,6 +48,7 @@ const MOST_SHOWN: usize = 3;
 #[derive(Drop)]
 pub(crate) struct Near {
     pub(crate) index: u32,
+    pub(crate) constraint: Constraint,
     /// Whether it says what is wanted by the rules of the profile.
     pub(crate) is_strong: bool,
     /// How far its right-hand side is off, if that fits.
@@ -88,18 +89,83 @@ pub(crate) struct NearSearch {
     replay: Replay,
 }
 
-/// The constraints of a text that come nearest to its claim.
-pub(crate) fn find_near(subject: Subject<'_>) -> Reread<NearSearch>
-    ensures near { IfOk result (IsNearSearch (profile_of subject.entry.profile)
-        (text_rest subject.entry.text.now)) }
-    ensures missing { IfErr result (λ m. Because m
-        (LacksNear (profile_of subject.entry.profile) (text_rest subject.entry.text.now))) }
+/// The problem of a text, and the constraints that come nearest to its claim.
+pub(crate) fn find_near(subject: Subject<'_>) -> Reread<(Problem, NearSearch)>
+    ensures near { IfOk result (λ x. IsNearSearch (profile_of subject.entry.profile)
+        (text_rest subject.entry.text.now) x.0 x.1) }
+    ensures missing { IfErr result (λ m. Because m (LacksBefore
+        (profile_of subject.entry.profile) (text_rest subject.entry.text.now) None)) }
 {
     let (problem, mut derivations) = open_derivations(subject.alloc, subject.text)?;
-    let search = search_all(subject, &problem, &mut derivations);
+    let search = search_to(subject, &problem, &mut derivations, None);
     drop(derivations);
-    drop(problem);
-    search
+    match search {
+        Ok(search) => Ok((problem, search)),
+        Err(missing) => {
+            drop(problem);
+            Err(missing)
+        }
+    }
+}
+
+/// The problem of a text, what is kept of the derivations before that of a constraint, and that
+/// one, if the text has one.
+pub(crate) fn find_step(
+    subject: Subject<'_>,
+    index: u32,
+) -> Reread<(Problem, Replay, Option<Derivation>)>
+    ensures step { IfOk result (λ x. IsStepRead (text_rest subject.entry.text.now) index x.0 x.1
+        (option_map derivation_of x.2)) }
+    ensures missing { IfErr result (λ m. Because m (LacksBefore
+        (profile_of subject.entry.profile) (text_rest subject.entry.text.now) (Some index))) }
+{
+    let (problem, mut derivations) = open_derivations(subject.alloc, subject.text)?;
+    let found = step_behind(subject, &problem, &mut derivations, index);
+    drop(derivations);
+    match found {
+        Ok((replay, step)) => Ok((problem, replay, step)),
+        Err(missing) => {
+            drop(problem);
+            Err(missing)
+        }
+    }
+}
+
+// What is kept of the derivations before that of a constraint, and that one.
+fn step_behind(
+    subject: Subject<'_>,
+    problem: &Problem,
+    derivations: &mut Derivations<Bytes<'_>>,
+    index: u32,
+) -> Reread<(Replay, Option<Derivation>)>
+    requires behind { AreDerivationsRead (text_rest subject.text.now) problem.now []
+        derivations.old }
+    requires room { derivations.old.constraints + derivations.old.left < 2 ^ 32 }
+    ensures step { IfOk result (λ x. IsStepRead (text_rest subject.entry.text.now) index
+        problem.now x.0 (option_map derivation_of x.1)) }
+    ensures missing { IfErr result (λ m. Because m (LacksBefore
+        (profile_of subject.entry.profile) (text_rest subject.entry.text.now) (Some index))) }
+{
+    let search = search_to(subject, problem, derivations, Some(index))?;
+    let NearSearch {
+        target,
+        near,
+        joins,
+        replay,
+    } = search;
+    drop(joins);
+    drop(near);
+    drop(target);
+    if replay.rows.next() != index || derivations.left() == 0 {
+        return Ok((replay, None));
+    }
+    match derivations.next(subject.alloc) {
+        Ok(step) => Ok((replay, step)),
+        Err(missing) => {
+            drop(replay);
+            Err(missing)
+        }
+    }
 }
 
 /// The nearest constraints are in order, and one that isn't among them comes before none of them.
@@ -111,27 +177,40 @@ pub(crate) fn nearest_come_first()
         → HasPlace c t ns i }
 {}
 
-// A search among the constraints of a problem, and all derivations behind it.
-fn search_all(
+// A search among the constraints of a problem, and the derivations before that of one, or all.
+fn search_to(
     subject: Subject<'_>,
     problem: &Problem,
     derivations: &mut Derivations<Bytes<'_>>,
+    end: Option<u32>,
 ) -> Reread<NearSearch>
     requires behind { AreDerivationsRead (text_rest subject.text.now) problem.now []
         derivations.old }
     requires room { derivations.old.constraints + derivations.old.left < 2 ^ 32 }
-    ensures near { IfOk result (IsNearSearch (profile_of subject.entry.profile)
-        (text_rest subject.entry.text.now)) }
-    ensures missing { IfErr result (λ m. Because m
-        (LacksNear (profile_of subject.entry.profile) (text_rest subject.entry.text.now))) }
+    ensures near { IfOk result (SearchesTo (profile_of subject.entry.profile)
+        (text_rest subject.entry.text.now) problem.now end derivations.new) }
+    ensures missing { IfErr result (λ m. Because m (LacksBefore
+        (profile_of subject.entry.profile) (text_rest subject.entry.text.now) end)) }
 {
     let mut search = NearSearch::new(subject, problem)?;
-    match search.pass_all(subject, problem, derivations) {
+    match search.pass_to(subject, problem, derivations, end) {
         Ok(()) => Ok(search),
         Err(missing) => {
             drop(search);
             Err(missing)
         }
+    }
+}
+
+/// How many derivations are before that of a constraint, or all of them, if a problem has so many
+/// constraints.
+pub(crate) fn passed_to(end: Option<u32>, given: u32, derivations: u32) -> u32
+    ensures count { result ≡ passed_to end given derivations }
+    ensures within { result ≤ derivations }
+{
+    match end {
+        Some(index) => index.saturating_sub(given).min(derivations),
+        None => derivations,
     }
 }
 
@@ -156,24 +235,26 @@ impl NearSearch {
         }
     }
 
-    // Passes the constraints of the problem, and all derivations.
-    fn pass_all(
+    // Passes the constraints of the problem, and the derivations before that of one, or all.
+    fn pass_to(
         &mut self,
         subject: Subject<'_>,
         problem: &Problem,
         derivations: &mut Derivations<Bytes<'_>>,
+        end: Option<u32>,
     ) -> Reread<()>
         requires behind { AreDerivationsRead (text_rest subject.text.now) problem.now []
             derivations.old }
         requires room { derivations.old.constraints + derivations.old.left < 2 ^ 32 }
         requires none { HasSearched (profile_of subject.profile) problem.now [] 0 self.old }
-        ensures near { OnOk result (IsNearSearch (profile_of subject.entry.profile)
-            (text_rest subject.entry.text.now) self.new) }
-        ensures missing { IfErr result (λ m. Because m
-            (LacksNear (profile_of subject.entry.profile) (text_rest subject.entry.text.now))) }
+        ensures near { OnOk result (SearchesTo (profile_of subject.entry.profile)
+            (text_rest subject.entry.text.now) problem.now end derivations.new self.new) }
+        ensures missing { IfErr result (λ m. Because m (LacksBefore
+            (profile_of subject.entry.profile) (text_rest subject.entry.text.now) end)) }
     {
         self.pass_problem(subject, problem)?;
-        for passed in 0..derivations.left() {
+        let count = passed_to(end, problem.cons().len() as u32, derivations.left());
+        for passed in 0..count {
             match derivations.next(subject.alloc)? {
                 Some(mut step) => {
                     let kept = self.pass(subject, problem, &mut step);
@@ -364,14 +445,24 @@ fn add(
     if !is_like(target, constraint) {
         return Ok(());
     }
-    let near = Near {
-        index,
-        is_strong: target.is_met_by(constraint),
-        gap: gap_of(target, constraint),
-        assumptions: assumptions.clone()?,
-        is_free: assumptions.is_empty(),
-    };
-    insert(all, near)
+    let shown = constraint.clone()?;
+    match assumptions.clone() {
+        Ok(assumptions) => {
+            let near = Near {
+                index,
+                is_strong: target.is_met_by(&shown),
+                gap: gap_of(target, &shown),
+                constraint: shown,
+                is_free: assumptions.is_empty(),
+                assumptions,
+            };
+            insert(all, near)
+        }
+        Err(error) => {
+            drop(shown);
+            Err(error)
+        }
+    }
 }
 
 // Keeps a constraint at its place among the nearest, behind those that are as near.

@@ -3,16 +3,15 @@ ghost use Rattle.std.specs.Prelude.{◌≤◌, IfOk, OnOk};
 ghost use Rattle.std.specs.List.{All};
 
 use crate::changes::{Change, Changes};
-use crate::items::Items;
+use crate::excerpt::part_of;
 use crate::marks::ItemPart;
-use crate::shown::PlacedItems;
-use crate::step::StepFault;
+use crate::step::{RefusedStep, StepFault};
 use std::alloc::{AllocError, Global};
 use vipr_cert::{Reason, References};
 use vipr_check::{StepDetail, cause};
 use vipr_frac::Frac;
 use vipr_linear::Sense;
-use vipr_page::{Page, VariableName};
+use vipr_page::{Page, ShownName, VariableName};
 
 /// How many entries of a sum are shown.
 const MOST_ENTRIES: usize = 10;
@@ -145,7 +144,7 @@ pub(crate) fn label_of(fault: StepFault<'_>, part: ItemPart, changes: &Changes) 
 /// Writes the reason of a derivation: the first entries of a sum, and the one at fault.
 pub(crate) fn write_reason(
     page: &mut Page,
-    known: &PlacedItems,
+    refused: &RefusedStep<'_>,
     fault: StepFault<'_>,
     reason: &Reason,
 ) {
@@ -171,7 +170,7 @@ pub(crate) fn write_reason(
                 }
                 if position < MOST_ENTRIES || is_at_fault {
                     write!(page, "      {multiplier} x ");
-                    write_constraint(page, known, own, index);
+                    write_constraint(page, refused, own, index);
                     if let (true, StepDetail::Entry(_)) = (is_at_fault, fault.what) {
                         write!(page, " <-- entry {position}");
                     }
@@ -188,10 +187,9 @@ pub(crate) fn write_reason(
             ];
             for (label, index) in labels {
                 page.put(label);
-                write_constraint(page, known, own, index);
+                write_constraint(page, refused, own, index);
                 if index < own {
-                    let word = known.items.reason_word(index);
-                    write!(page, " {word}");
+                    write_word(page, refused, index);
                 }
                 page.put("\n");
             }
@@ -199,10 +197,24 @@ pub(crate) fn write_reason(
     }
 }
 
+// Writes the word of a constraint's reason, `given` if it is of the problem.
+fn write_word(page: &mut Page, refused: &RefusedStep<'_>, index: u32) {
+    let known = &refused.known;
+    match (refused.dropped(index), known.marks.place(index)) {
+        _ if (index as usize) < known.problem.cons().len() => page.put(" given"),
+        (Some(dropped), _) => write!(page, " {}", dropped.reason.word()),
+        (None, Some(place)) => {
+            write!(page, " {}", ShownName(part_of(known.text, place.part)));
+        }
+        (None, None) => {}
+    }
+}
+
 // Writes a constraint that a derivation refers to.
-fn write_constraint(page: &mut Page, known: &PlacedItems, own: u32, index: u32) {
+fn write_constraint(page: &mut Page, refused: &RefusedStep<'_>, own: u32, index: u32) {
     if index < own {
-        known.write_constraint(page, index);
+        let constraint = refused.constraint(index);
+        refused.known.write_constraint(page, index, constraint);
     } else if index == own {
         write!(page, "[{index}], this derivation itself");
     } else {
@@ -213,18 +225,18 @@ fn write_constraint(page: &mut Page, known: &PlacedItems, own: u32, index: u32) 
 /// Writes which entries of a sum bring the coefficient of a variable.
 pub(crate) fn write_sources(
     page: &mut Page,
-    items: &Items,
+    refused: &RefusedStep<'_>,
     entries: &[(u32, Frac)],
     variable: u32,
 ) {
-    let name = VariableName(&items.problem, variable);
+    let name = VariableName(&refused.known.problem, variable);
     write!(page, "      {name} comes from");
     let mut front = " ";
     let mut count: usize = 0;
     let mut is_whole = true;
     for entry in entries {
         let (index, multiplier) = *entry;
-        let Some(constraint) = items.constraint(index) else {
+        let Some(constraint) = refused.constraint(index) else {
             is_whole = false;
             continue;
         };

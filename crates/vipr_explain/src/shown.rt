@@ -1,67 +1,69 @@
 //! The constraints that an explanation names, and how each is shown.
-ghost use Rattle.std.specs.Prelude.{IfErr, IfOk};
-ghost use Rattle.vipr_explain.specs.Found.{AreItemsOf, AreSoughtItems, Missed, items_up_to};
-ghost use Rattle.vipr_explain.specs.Found.{text_rest};
-ghost use Rattle.vipr_explain.specs.Refused.{IsPartPlace};
+ghost use Rattle.std.specs.Prelude.{◌≡◌, IfOk, option_map};
+ghost use Rattle.vipr_explain.specs.Refused.{AreNamesOf, IsPartPlace, known_name};
 
-use crate::excerpt::KnownPlace;
-use crate::items::{Items, read_items};
+use crate::excerpt::{KnownPlace, part_of};
 use crate::marks::{ItemPart, ItemPlace, ItemSort, Marks, Sought};
-use crate::text::{Reread, Subject};
+use crate::text::Subject;
+use std::alloc::AllocError;
+use vipr_cert::Problem;
+use vipr_linear::Constraint;
 use vipr_page::{Algebra, Page, ShownName};
 
-/// The problem, some derivations, and the places of some constraints.
+/// A text, its problem, and the places of some constraints.
 #[derive(Drop)]
-pub(crate) struct PlacedItems {
-    pub(crate) items: Items,
+pub(crate) struct PlacedItems<'a> {
+    pub(crate) text: &'a [u8],
+    pub(crate) problem: Problem,
     pub(crate) marks: Marks,
 }
 
-impl PlacedItems {
-    /// Reads the constraints of these indices.
-    pub(crate) fn read(subject: Subject<'_>, wanted: &[u32]) -> Reread<PlacedItems>
-        ensures read { IfOk result (AreItemsOf subject.entry.text.now wanted.now) }
-        ensures missing { IfErr result
-            (λ m. Missed m (items_up_to wanted.now (text_rest subject.entry.text.now))) }
+impl<'a> PlacedItems<'a> {
+    /// The name of a constraint, if it is of the problem or its place is known.
+    pub(crate) fn name(&self, index: u32) -> Option<&[u8]>
+        ensures { option_map (λ name. name.now) result ≡ known_name self.now index }
     {
-        let sought = Sought {
-            kind: ItemSort::Constraints,
-            items: wanted,
-            part: ItemPart::LastReference,
-            used: None,
-        };
-        PlacedItems::read_sought(subject, sought)
+        match self.problem.cons().get(index as usize) {
+            Some(named) => Some(named.name.as_bytes()),
+            None => Some(part_of(self.text, self.marks.place(index)?.name)),
+        }
     }
 
-    /// Reads the constraints that are looked for.
-    pub(crate) fn read_sought(subject: Subject<'_>, sought: Sought<'_>) -> Reread<PlacedItems>
-        ensures read { IfOk result (AreSoughtItems subject.entry.text.now sought.entry) }
-        ensures missing { IfErr result (λ m. Missed m
-            (items_up_to sought.entry.items.now (text_rest subject.entry.text.now))) }
-    {
-        let marks = Marks::find(subject.alloc, subject.text, sought)?;
-        match read_items(subject.alloc, subject.text, sought.items) {
-            Ok(items) => Ok(PlacedItems { items, marks }),
-            Err(missing) => {
-                drop(marks);
-                Err(missing)
-            }
+    /// Writes a constraint's index and name.
+    pub(crate) fn write_name(&self, page: &mut Page, index: u32) {
+        write!(page, "[{index}]");
+        if let Some(name) = self.name(index) {
+            write!(page, " {}", ShownName(name));
         }
     }
 
     /// Writes a constraint as it is listed: its index, its name, its algebra and its line.
-    pub(crate) fn write_constraint(&self, page: &mut Page, index: u32) {
-        let items = &self.items;
-        write!(page, "[{index}] ");
-        if let Some(name) = items.name(index) {
-            write!(page, "{}", ShownName(name.as_bytes()));
-        }
-        page.put("  ");
-        if let Some(constraint) = items.constraint(index) {
-            write!(page, "{}", Algebra(&items.problem, constraint));
+    pub(crate) fn write_constraint(
+        &self,
+        page: &mut Page,
+        index: u32,
+        constraint: Option<&Constraint>,
+    ) {
+        self.write_name(page, index);
+        match constraint {
+            Some(constraint) => write!(page, "  {}", Algebra(&self.problem, constraint)),
+            None => page.put(", which was dropped"),
         }
         write_line(page, self.marks.place(index));
     }
+}
+
+/// The places of the constraints of these indices.
+pub(crate) fn find_names(subject: Subject<'_>, wanted: &[u32]) -> Result<Marks, AllocError>
+    ensures { IfOk result (AreNamesOf subject.entry.text.now wanted.now) }
+{
+    let sought = Sought {
+        kind: ItemSort::Constraints,
+        items: wanted,
+        part: ItemPart::Name,
+        used: None,
+    };
+    Marks::find(subject.alloc, subject.text, sought)
 }
 
 /// The place of the part of an item that was looked for.

@@ -5,14 +5,13 @@ ghost use Rattle.vipr_spec.specs.Certificate.{variables};
 use crate::changes::Change;
 use crate::drops::has_entry;
 use crate::near::{Join, is_turned};
-use crate::text::{Reread, Subject};
+use crate::text::Subject;
 use std::alloc::{AllocError, Global};
 use vipr_cert::{Derivation, Problem, Reason, References};
 use vipr_check::Table;
 use vipr_frac::Frac;
 use vipr_linear::{CombError, Combination, Constraint, Row, Sense, compares};
 use vipr_rules::Rows;
-use vipr_scan::TextError;
 
 /// How many pairs of an entry and a constraint are compared for another constraint, if a quarter of
 /// the text's bytes isn't more.
@@ -57,7 +56,7 @@ struct Replacement {
 
 impl Candidates {
     /// Finds changes with which the rows are the same, and the sides look so.
-    pub(crate) fn find(sum: Sum<'_>, scratch: &mut Combination) -> Reread<Candidates>
+    pub(crate) fn find(sum: Sum<'_>, scratch: &mut Combination) -> Result<Candidates, AllocError>
         requires { length scratch.old.sums ≡ variables sum.problem.now }
         ensures { length scratch.new.sums ≡ length scratch.old.sums }
     {
@@ -136,7 +135,7 @@ fn other_joins(sum: Sum<'_>, join: Join) -> Result<Vec<Change>, AllocError> {
             add_join(&mut ranking, sum, rank, Join { l2: index, ..join })?;
         }
     }
-    Ok(ranking.changes(sum.subject.alloc)?)
+    ranking.changes(sum.subject.alloc)
 }
 
 // Adds a join, if each case rests on its own assumption, and not on that of the other one.
@@ -181,7 +180,7 @@ fn missing_of(
     sum: Sum<'_>,
     entries: &[(u32, Frac)],
     scratch: &mut Combination,
-) -> Reread<Option<Constraint>>
+) -> Result<Option<Constraint>, AllocError>
     requires { length scratch.old.sums ≡ variables sum.problem.now }
     ensures { length scratch.new.sums ≡ length scratch.old.sums }
 {
@@ -218,12 +217,12 @@ fn add_both_sides(
 }
 
 // The sum that was added up, none past the limit.
-fn finished(alloc: Global, scratch: &mut Combination) -> Reread<Option<Constraint>>
+fn finished(alloc: Global, scratch: &mut Combination) -> Result<Option<Constraint>, AllocError>
     ensures { length scratch.new.sums ≡ length scratch.old.sums }
 {
     match scratch.finish(alloc) {
         Ok(sum) => Ok(Some(sum)),
-        Err(CombError::Memory) => Err(TextError::Memory),
+        Err(CombError::Memory) => Err(AllocError),
         Err(_) => Ok(None),
     }
 }
@@ -242,7 +241,7 @@ fn other_multipliers(
     sum: Sum<'_>,
     entries: &[(u32, Frac)],
     missing: &Constraint,
-) -> Reread<Vec<Change>> {
+) -> Result<Vec<Change>, AllocError> {
     let mut ranking = Ranking(Vec::new(sum.subject.alloc));
     for (position, entry) in entries.iter().enumerate() {
         let (index, present) = *entry;
@@ -259,7 +258,7 @@ fn other_multipliers(
             }
         }
     }
-    Ok(ranking.changes(sum.subject.alloc)?)
+    ranking.changes(sum.subject.alloc)
 }
 
 // For each entry the constraint that would be right in its place.
@@ -268,7 +267,7 @@ fn replacements(
     entries: &[(u32, Frac)],
     missing: &Constraint,
     scratch: &mut Combination,
-) -> Reread<Vec<Replacement>>
+) -> Result<Vec<Replacement>, AllocError>
     requires { length scratch.old.sums ≡ variables sum.problem.now }
     ensures { length scratch.new.sums ≡ length scratch.old.sums }
 {
@@ -304,7 +303,7 @@ fn wanted_at(
     scratch: &mut Combination,
     index: u32,
     multiplier: Frac,
-) -> Reread<Option<Constraint>>
+) -> Result<Option<Constraint>, AllocError>
     requires { length scratch.old.sums ≡ variables sum.problem.now }
     ensures { length scratch.new.sums ≡ length scratch.old.sums }
 {
@@ -325,7 +324,7 @@ fn among_all(
     entries: &[(u32, Frac)],
     missing: &Constraint,
     replacements: &[Replacement],
-) -> Reread<(Vec<Change>, Vec<Change>)> {
+) -> Result<(Vec<Change>, Vec<Change>), AllocError> {
     let mut exchanges = Ranking(Vec::new(sum.subject.alloc));
     let mut additions = Ranking(Vec::new(sum.subject.alloc));
     for index in 0..sum.rows.next() {

@@ -1,37 +1,41 @@
 //! A derivation that is refused.
-ghost use Rattle.std.specs.Prelude.{◌≡◌, ◌↔◌, ◌∷◌, [], IfErr, IfOk, IsTrue};
+ghost use Rattle.std.specs.Prelude.{◌≡◌, ◌↔◌, List, [], IfErr, IfOk, OnOk, IsTrue, Some};
+ghost use Rattle.std.specs.Prelude.{option_map};
 ghost use Rattle.std.specs.List.{All};
 ghost use Rattle.vipr_spec.specs.Fraction.{neg_ℚ};
-ghost use Rattle.vipr_spec.specs.Certificate.{Problem as ProblemMeant};
+ghost use Rattle.vipr_spec.specs.Certificate.{Derivation as DerivationMeant};
+ghost use Rattle.vipr_spec.specs.Reading.{Rest};
+ghost use Rattle.vipr_linear.specs.Constraint.{constraint_of};
+ghost use Rattle.vipr_cert.specs.Items.{derivation_of};
 ghost use Rattle.vipr_rules.specs.Profile.{profile_of};
-ghost use Rattle.vipr_scan.specs.declared.error.TextError.TheVariants.{Memory};
-ghost use Rattle.vipr_explain.specs.Changes.{AreChanges};
-ghost use Rattle.vipr_explain.specs.Found.{AreFoundAs, Because, text_rest};
+ghost use Rattle.vipr_explain.specs.Changes.{FollowEach};
+ghost use Rattle.vipr_explain.specs.Found.{Because, Missed, text_rest};
 ghost use Rattle.vipr_explain.specs.Marked.{AreMarksIn};
-ghost use Rattle.vipr_explain.specs.Refused.{AreFacts, AreNamedBy, IsRefusedStep};
-ghost use Rattle.vipr_explain.specs.Refused.{LacksStep, used_by};
+ghost use Rattle.vipr_explain.specs.Near.{HasReplayed, LacksStep, read_to, without_solutions};
+ghost use Rattle.vipr_explain.specs.Refused.{AreFacts, AreNamedBy, IsNumberedIn, IsRefusedStep};
+ghost use Rattle.vipr_explain.specs.Refused.{dropped_as, known_constraint, used_by};
 ghost use Rattle.vipr_explain.specs.declared.marks.Sought.{Sought as SoughtMeant};
 
-use crate::changes::Changes;
+use crate::changes::{Changes, Replay};
 use crate::drops::LastUse;
 use crate::excerpt::KnownPlace;
-use crate::items::{Items, Numbered, derivation_among, read_items};
-use crate::marks::{ItemSort, Sought};
-use crate::near::is_turned;
+use crate::items::open_derivations;
+use crate::marks::{ItemSort, Marks, Sought};
+use crate::near::{find_step, is_turned, passed_to};
 use crate::reason::{label_of, part_at_fault, step_indices, write_reason, write_sources};
 use crate::shown::{PlacedItems, part_place};
 use crate::solution::PAST_LIMIT;
 use crate::text::{Reread, Subject};
 use std::alloc::AllocError;
-use vipr_cert::{Problem, Reason, References};
-use vipr_check::{StepDetail, cause};
+use vipr_cert::{Derivation, Problem, Reason, References};
+use vipr_check::{StepDetail, Table, cause};
 use vipr_frac::Frac;
 use vipr_linear::{Constraint, Sense, covers};
 use vipr_page::{
     Algebra, Difference, Page, RowFault, ShownName, row_differences, row_faults, sign_of,
     write_differences, write_faults, write_if_past,
 };
-use vipr_rules::Profile;
+use vipr_rules::{Profile, Rows};
 use vipr_scan::TextError;
 
 /// How many variables are shown with the entries that bring their coefficients.
@@ -45,17 +49,26 @@ pub(crate) struct StepFault<'a> {
     pub(crate) what: &'a StepDetail,
 }
 
-/// A derivation that is refused, its place, the constraints that it names, and what is behind the
-/// fault.
+/// A derivation with its constraint's index.
+#[derive(Drop)]
+pub(crate) struct Numbered {
+    index: u32,
+    derivation: Derivation,
+}
+
+/// A derivation that is refused, its place, the constraints that are live there, and what is behind
+/// the fault.
 #[derive(Drop)]
 pub(crate) struct RefusedStep<'a> {
-    /// The derivation alone, by its index.
-    own: Vec<Numbered>,
-    known: PlacedItems,
+    own: Derivation,
+    rows: Table,
+    pub(crate) known: PlacedItems<'a>,
     place: Option<KnownPlace<'a>>,
     facts: StepFacts<'a>,
     /// Changes with which it follows.
     changes: Changes,
+    /// The constraints that it names and that were dropped.
+    dropped: Vec<Numbered>,
     profile: Profile,
 }
 
@@ -78,37 +91,69 @@ impl<'a> RefusedStep<'a> {
         ensures found { IfOk result
             (IsRefusedStep (profile_of subject.entry.profile) subject.entry.text.now
             fault.entry.index fault.entry.what.now) }
-        ensures missing { IfErr result
-            (λ m. Because m (LacksStep subject.entry.text.now fault.entry.index)) }
+        ensures missing { IfErr result (λ m. Because m
+            (LacksStep (profile_of subject.entry.profile) (text_rest subject.entry.text.now)
+            fault.entry.index)) }
     {
-        let indices = [fault.index];
-        let items = read_items(subject.alloc, subject.text, indices.as_slice())?;
-        let Items {
-            problem,
-            derivations: own,
-        } = items;
-        drop(problem);
-        match find_behind(subject, fault, own.as_slice()) {
-            Ok((known, facts, changes)) => Ok(RefusedStep {
-                own,
-                place: part_place(subject.text, &known.marks, fault.index),
-                known,
-                facts,
-                changes,
-                profile: subject.profile,
-            }),
+        let (problem, mut replay, step) = find_step(subject, fault.index)?;
+        let Some(own) = step else {
+            drop(replay);
+            drop(problem);
+            return Err(TextError::Read);
+        };
+        match find_behind(subject, fault, &problem, &mut replay, &own) {
+            Ok((marks, facts, changes, dropped)) => {
+                let Replay { rows, scratch } = replay;
+                drop(scratch);
+                Ok(RefusedStep {
+                    own,
+                    rows,
+                    place: part_place(subject.text, &marks, fault.index),
+                    known: PlacedItems {
+                        text: subject.text,
+                        problem,
+                        marks,
+                    },
+                    facts,
+                    changes,
+                    dropped,
+                    profile: subject.profile,
+                })
+            }
             Err(missing) => {
                 drop(own);
+                drop(replay);
+                drop(problem);
                 Err(missing)
             }
         }
     }
 
+    /// A constraint of the problem, or a derived one that is live, or one that was dropped.
+    pub(crate) fn constraint(&self, index: u32) -> Option<&Constraint>
+        ensures { option_map (λ c. constraint_of c.now) result ≡ known_constraint self.now index }
+    {
+        match (
+            self.known.problem.cons().get(index as usize),
+            self.rows.get(index),
+        ) {
+            (Some(named), _) => Some(&named.item),
+            (None, Some(entry)) => Some(&entry.constraint),
+            (None, None) => Some(&self.dropped(index)?.constraint),
+        }
+    }
+
+    /// The derivation of a constraint, if it is one that was dropped.
+    pub(crate) fn dropped(&self, index: u32) -> Option<&Derivation>
+        ensures { option_map (λ d. d.now) result ≡ dropped_as self.now index }
+    {
+        let dropped = self.dropped.iter().find(|dropped| dropped.index == index)?;
+        Some(&dropped.derivation)
+    }
+
     /// Writes its page.
     pub(crate) fn write(&self, page: &mut Page, fault: StepFault<'_>, file: &[u8]) {
-        let Some(own) = derivation_among(self.own.as_slice(), fault.index) else {
-            return;
-        };
+        let own = &self.own;
         let index = fault.index;
         let name = ShownName(own.name.as_bytes());
         let (before, behind) = words_of(fault.cause);
@@ -126,9 +171,9 @@ impl<'a> RefusedStep<'a> {
                 place.write_rest(page);
             }
         }
-        let problem = &self.known.items.problem;
+        let problem = &self.known.problem;
         write_facts(page, self, &own.reason, fault);
-        self.changes.write(page, &self.known.items, &own.reason);
+        self.changes.write(page, &self.known, &own.reason);
         if self.changes.is_empty() {
             write_help(page, fault.cause, problem.cons().len());
         }
@@ -138,15 +183,23 @@ impl<'a> RefusedStep<'a> {
         if !matches!(fault.what, StepDetail::Rows { .. }) {
             write_labelled(page, problem, "  it states    ", &own.constraint);
         }
-        write_reason(page, &self.known, fault, &own.reason);
+        write_reason(page, self, fault, &own.reason);
     }
 }
 
 // Changes with which a derivation follows, if it is one that might.
-fn changes_for(subject: Subject<'_>, fault: StepFault<'_>) -> Reread<Changes>
-    ensures found { IfOk result (AreChanges (profile_of subject.entry.profile)
-        subject.entry.text.now fault.entry.index) }
-    ensures missing { IfErr result (λ m. m ≡ Memory) }
+fn changes_for(
+    subject: Subject<'_>,
+    fault: StepFault<'_>,
+    problem: &Problem,
+    replay: &mut Replay,
+    step: &Derivation,
+) -> Result<Changes, AllocError>
+    requires { (ds : List DerivationMeant) × HasReplayed problem.now ds replay.old }
+    ensures found { (ds : List DerivationMeant) → HasReplayed problem.now ds replay.old
+        → IfOk result (FollowEach (profile_of subject.entry.profile)
+        (without_solutions problem.now ds) (derivation_of step.now)) }
+    ensures rows { replay.new.rows ≡ replay.old.rows }
 {
     match fault.cause {
         cause::NOT_EARLIER
@@ -155,44 +208,153 @@ fn changes_for(subject: Subject<'_>, fault: StepFault<'_>) -> Reread<Changes>
         | cause::MIXED_SIGNS
         | cause::NOT_ROUNDABLE
         | cause::NOT_SPLIT
-        | cause::NOT_DOMINATED => Changes::find(subject, fault.index),
+        | cause::NOT_DOMINATED => replay.changes_of(subject, problem, step),
         _ => Ok(Changes::none()),
     }
 }
 
-// Finds the constraints that a derivation names, what is behind its fault, and changes of it.
+// Finds the places of the constraints that a derivation names, what is behind its fault, changes of
+// it, and those of these constraints that were dropped.
 fn find_behind<'a>(
     subject: Subject<'a>,
     fault: StepFault<'_>,
-    own: &[Numbered],
-) -> Reread<(PlacedItems, StepFacts<'a>, Changes)>
-    ensures named { IfOk result (λ x. AreNamedBy subject.entry.text.now own.now
-        fault.entry.index fault.entry.what.now (x.0, x.1)) }
-    ensures changes { IfOk result (λ x. AreChanges (profile_of subject.entry.profile)
-        subject.entry.text.now fault.entry.index x.2) }
-    ensures missing { (p : ProblemMeant)
-        → AreFoundAs (fault.entry.index ∷ []) (text_rest subject.entry.text.now) p own.now
-        → IfErr result (λ m. Because m (LacksStep subject.entry.text.now fault.entry.index)) }
+    problem: &Problem,
+    replay: &mut Replay,
+    step: &Derivation,
+) -> Reread<(Marks, StepFacts<'a>, Changes, Vec<Numbered>)>
+    requires { (ds : List DerivationMeant) × HasReplayed problem.now ds replay.old }
+    ensures named { IfOk result (λ x. AreNamedBy subject.entry.text.now problem.now.integers
+        fault.entry.what.now x.0 x.1 x.3.items) }
+    ensures changes { (ds : List DerivationMeant) → HasReplayed problem.now ds replay.old
+        → IfOk result (λ x. FollowEach (profile_of subject.entry.profile)
+        (without_solutions problem.now ds) (derivation_of step.now) x.2) }
+    ensures rows { replay.new.rows ≡ replay.old.rows }
+    ensures missing { IfErr result (λ m. Because m
+        (LacksStep (profile_of subject.entry.profile) (text_rest subject.entry.text.now)
+        fault.entry.index)) }
 {
-    let Some(step) = derivation_among(own, fault.index) else {
-        return Err(TextError::Read);
-    };
-    let changes = changes_for(subject, fault)?;
+    let changes = changes_for(subject, fault, problem, replay, step)?;
     let wanted = step_indices(subject.alloc, fault, &step.reason, &changes)?;
+    let lost = lost_among(
+        subject,
+        problem,
+        &replay.rows,
+        wanted.as_slice(),
+        fault.index,
+    )?;
+    let dropped = find_dropped(subject, lost.as_slice(), fault.index)?;
     let sought = Sought {
         kind: ItemSort::Constraints,
         items: wanted.as_slice(),
         part: part_at_fault(fault, &step.reason, &changes),
         used: used_by(fault),
     };
-    let known = PlacedItems::read_sought(subject, sought)?;
-    match StepFacts::find(subject, fault, &known) {
-        Ok(facts) => Ok((known, facts, changes)),
-        Err(missing) => {
-            drop(known);
-            Err(missing.into())
+    match find_facts(subject, fault, problem, sought) {
+        Ok((marks, facts)) => Ok((marks, facts, changes, dropped)),
+        Err(error) => {
+            drop(dropped);
+            Err(error.into())
         }
     }
+}
+
+// Finds the places of constraints, and what is behind the fault of a derivation that names them.
+fn find_facts<'a>(
+    subject: Subject<'a>,
+    fault: StepFault<'_>,
+    problem: &Problem,
+    sought: Sought<'_>,
+) -> Result<(Marks, StepFacts<'a>), AllocError>
+    requires { sought.used ≡ used_by fault.cause fault.what.now }
+    ensures marked { IfOk result (λ x. AreMarksIn subject.entry.text.now sought.entry x.0) }
+    ensures facts { IfOk result (λ x. AreFacts subject.entry.text.now problem.now.integers
+        fault.entry.what.now x.1) }
+{
+    let marks = Marks::find(subject.alloc, subject.text, sought)?;
+    match StepFacts::find(subject, fault, problem, &marks) {
+        Ok(facts) => Ok((marks, facts)),
+        Err(error) => {
+            drop(marks);
+            Err(error)
+        }
+    }
+}
+
+// Those of these constraints in front of a derivation that are neither of the problem nor live.
+fn lost_among(
+    subject: Subject<'_>,
+    problem: &Problem,
+    rows: &Table,
+    wanted: &[u32],
+    own: u32,
+) -> Result<Vec<u32>, AllocError> {
+    let mut lost = Vec::new(subject.alloc);
+    for index in wanted {
+        let is_given = (*index as usize) < problem.cons().len();
+        if *index < own && !is_given && rows.get(*index).is_none() {
+            lost.push(*index)?;
+        }
+    }
+    Ok(lost)
+}
+
+// Reads the derivations of these constraints, which are before this one.
+fn find_dropped(subject: Subject<'_>, lost: &[u32], own: u32) -> Reread<Vec<Numbered>>
+    ensures found { IfOk result
+        (λ kept. All (IsNumberedIn (text_rest subject.entry.text.now)) kept.items) }
+    ensures missing { IfErr result
+        (λ m. Missed m (read_to (Some own) (text_rest subject.entry.text.now))) }
+{
+    let mut kept = Vec::new(subject.alloc);
+    if lost.is_empty() {
+        return Ok(kept);
+    }
+    match keep_all(subject, lost, own, &mut kept) {
+        Ok(()) => Ok(kept),
+        Err(missing) => {
+            drop(kept);
+            Err(missing)
+        }
+    }
+}
+
+// Keeps the derivations of these constraints.
+fn keep_all(subject: Subject<'_>, lost: &[u32], own: u32, kept: &mut Vec<Numbered>) -> Reread<()>
+    requires { kept.old.items ≡ [] }
+    ensures found { OnOk result
+        (All (IsNumberedIn (text_rest subject.entry.text.now)) kept.new.items) }
+    ensures missing { IfErr result
+        (λ m. Missed m (read_to (Some own) (text_rest subject.entry.text.now))) }
+{
+    let (problem, mut derivations) = open_derivations(subject.alloc, subject.text)?;
+    let given = problem.cons().len() as u32;
+    drop(problem);
+    for passed in 0..passed_to(Some(own), given, derivations.left()) {
+        match derivations.next(subject.alloc)? {
+            Some(derivation) => keep(kept, lost, given.saturating_add(passed), derivation)?,
+            None => {}
+        }
+    }
+    Ok(())
+}
+
+// Keeps a derivation, if it is that of one of these constraints.
+fn keep(
+    kept: &mut Vec<Numbered>,
+    lost: &[u32],
+    index: u32,
+    derivation: Derivation,
+) -> Result<(), AllocError>
+    ensures { (text : Rest) → IsNumberedIn text (record { index = index; derivation = derivation })
+        → All (IsNumberedIn text) kept.old.items
+        → OnOk result (All (IsNumberedIn text) kept.new.items) }
+{
+    if lost.contains(&index) {
+        kept.push(Numbered { index, derivation })?;
+    } else {
+        drop(derivation);
+    }
+    Ok(())
 }
 
 // The constraint whose last use is looked for, if the cause is that it was dropped.
@@ -206,19 +368,20 @@ fn used_by(fault: StepFault<'_>) -> Option<u32>
 }
 
 impl<'a> StepFacts<'a> {
-    // Finds what is behind the fault of a derivation with this reason, which names these items.
+    // Finds what is behind the fault of a derivation, which names constraints at these places.
     fn find(
         subject: Subject<'a>,
         fault: StepFault<'_>,
-        known: &PlacedItems,
+        problem: &Problem,
+        marks: &Marks,
     ) -> Result<StepFacts<'a>, AllocError>
-        ensures { (s : SoughtMeant) → AreMarksIn subject.entry.text.now s known.now.marks
+        ensures { (s : SoughtMeant) → AreMarksIn subject.entry.text.now s marks.now
             → s.used ≡ used_by fault.entry.cause fault.entry.what.now
-            → IfOk result (AreFacts subject.entry.text.now
-            known.now.items.problem.integers fault.entry.what.now) }
+            → IfOk result (AreFacts subject.entry.text.now problem.now.integers
+            fault.entry.what.now) }
     {
         let alloc = subject.alloc;
-        let ints = known.items.problem.ints();
+        let ints = problem.ints();
         match fault.what {
             StepDetail::Rows { computed, stated } => {
                 let differences = row_differences(alloc, &computed.row, &stated.row)?;
@@ -233,8 +396,7 @@ impl<'a> StepFacts<'a> {
                 Ok(StepFacts::Pair(faults, covers(first, second, ints)))
             }
             StepDetail::Index(index) if fault.cause == cause::DROPPED => {
-                let dropped = LastUse::of(subject.text, &known.marks, *index);
-                Ok(StepFacts::Dropped(dropped))
+                Ok(StepFacts::Dropped(LastUse::of(subject.text, marks, *index)))
             }
             _ => Ok(StepFacts::Nothing),
         }
@@ -273,8 +435,7 @@ fn words_of(cause: u8) -> (&'static str, &'static str) {
 
 // Writes what is behind the fault.
 fn write_facts(page: &mut Page, refused: &RefusedStep<'_>, reason: &Reason, fault: StepFault<'_>) {
-    let items = &refused.known.items;
-    let problem = &items.problem;
+    let problem = &refused.known.problem;
     match (fault.what, &refused.facts) {
         (StepDetail::Rows { computed, stated }, StepFacts::Rows(differences)) => {
             write_labelled(page, problem, "    computed   ", computed);
@@ -282,7 +443,7 @@ fn write_facts(page: &mut Page, refused: &RefusedStep<'_>, reason: &Reason, faul
             write_differences(page, problem, computed, stated, differences);
             if let References::Entries(entries) = reason.references() {
                 for difference in differences.iter().take(MOST_SOURCES) {
-                    write_sources(page, items, entries, difference.variable);
+                    write_sources(page, refused, entries, difference.variable);
                 }
             }
             page.put(match reason.references() {
@@ -329,7 +490,7 @@ fn write_facts(page: &mut Page, refused: &RefusedStep<'_>, reason: &Reason, faul
         (StepDetail::Entry(position), _) if fault.cause == cause::OVERFLOW => {
             if let References::Entries(entries) = reason.references() {
                 if let Some(entry) = entries.get(*position as usize) {
-                    write_overflow(page, items, entry.0, entry.1);
+                    write_overflow(page, refused, entry.0, entry.1);
                 }
             }
         }
@@ -338,10 +499,10 @@ fn write_facts(page: &mut Page, refused: &RefusedStep<'_>, reason: &Reason, faul
 }
 
 // Writes what is past the limit if a multiple of a constraint is added.
-fn write_overflow(page: &mut Page, items: &Items, index: u32, multiplier: Frac) {
-    if let Some(constraint) = items.constraint(index) {
+fn write_overflow(page: &mut Page, refused: &RefusedStep<'_>, index: u32, multiplier: Frac) {
+    if let Some(constraint) = refused.constraint(index) {
         for term in constraint.row.entries() {
-            if write_if_past(page, &items.problem, multiplier, *term) {
+            if write_if_past(page, &refused.known.problem, multiplier, *term) {
                 return;
             }
         }

@@ -23,13 +23,13 @@ use vipr_scan::TextError;
 /// What is found in a text that explains a verdict.
 #[derive(Drop)]
 enum Findings<'a> {
-    Proved(ProvedClaim, &'a Report),
+    Proved(ProvedClaim<'a>, &'a Report),
     /// And its cause.
     Text(TextFault<'a>, u8),
     Solution(RefusedSolution<'a>, &'a Detail),
     Step(RefusedStep<'a>, StepFault<'a>),
     /// And the place of the dual bound.
-    NoProof(UnprovedClaim, Option<KnownPlace<'a>>),
+    NoProof(UnprovedClaim<'a>, Option<KnownPlace<'a>>),
     /// And the primal bound, and its place.
     NoPrimal(ListedValues, Frac, Option<KnownPlace<'a>>),
     /// The detail is of another verdict.

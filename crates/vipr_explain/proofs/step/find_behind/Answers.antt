@@ -1,22 +1,19 @@
-use Rattle.std.proofs.Common.{◌≤◌, inl, inr, subst, sym}
-use Rattle.std.specs.List.{All}
+use Rattle.std.proofs.Common.{inl, arith}
 use Rattle.vipr_explain.proofs.Lacks.{because, err_is}
 use Rattle.vipr_explain.proofs.step.find_behind.Goals as goal
 
 pub returns-in-Ok-clause-named : goal.returns-in-Ok-clause-named
 returns-in-Ok-clause-named c = record {
-  step = c.in-Some.step.now;
-  own_is = sym c.in-Some.ensures;
   sought = _;
-  known = c.in_ok-known.ensures.read;
-  facts = c.in-Ok.ensures _ c.in_ok-known.ensures.read.marks c.used_by.ensures;
+  marked = c.in-Ok.ensures.marked;
+  facts = c.in-Ok.ensures.facts;
+  lost = c.in_ok-dropped.ensures.found;
 }
 
-pub returns-in_default-clause-missing : goal.returns-in_default-clause-missing
-returns-in_default-clause-missing c p own = inr (p, c.args.own.now, own, sym c.in_default.ensures)
+pub returns-in-Ok-clause-changes : goal.returns-in-Ok-clause-changes
+returns-in-Ok-clause-changes c = c.in_ok-changes.ensures.found
 
-pub returns-in_err-known-clause-missing : goal.returns-in_err-known-clause-missing
-returns-in_err-known-clause-missing c p own =
-    let m = c.in_err-known.field-0.0 in
-    let all = subst (All (λ i. i ≤ c.args.fault.index)) (sym c.as_slice.ensures.value) c.in_ok-wanted.ensures in
-    err_is c.from_residual-in_err-known.result _ c.from_residual-in_err-known.ensures.1 (because m _ _ (λ h. inl (c.as_slice.result.now, all, h)) c.in_err-known.ensures.missing)
+pub returns-in_err-dropped-clause-missing : goal.returns-in_err-dropped-clause-missing
+returns-in_err-dropped-clause-missing c =
+    let m = c.in_err-dropped.field-0.0 in
+    err_is c.from_residual-in_err-dropped.result _ c.from_residual-in_err-dropped.ensures.1 (because m _ _ (λ fault. inl (c.args.fault.index, omega arith, inl fault)) c.in_err-dropped.ensures.missing)

@@ -1,12 +1,16 @@
+use Rattle.std.proofs.Common.{sym, subst}
+use Rattle.vipr_rules.specs.Profile.{profile_of}
 use Rattle.vipr_explain.specs.Found.{text_rest}
-use Rattle.vipr_explain.proofs.Again.{some_missed}
-use Rattle.vipr_explain.proofs.Lacks.{because, err_is, fault_first}
+use Rattle.vipr_explain.specs.Near.{LacksGoal}
+use Rattle.vipr_explain.proofs.Lacks.{because, err_is}
+use Rattle.vipr_explain.proofs.Nearing.{goal_missed}
 use Rattle.vipr_explain.proofs.goal.ProvedClaim.find.Goals as goal
 
-pub returns-in_err-read-in-Some-clause-missing : goal.returns-in_err-read-in-Some-clause-missing
-returns-in_err-read-in-Some-clause-missing c =
-    let m = c.in_err-read-in-Some.field-0.0 in
-    err_is c.from_residual.result _ c.from_residual.ensures.1 (some_missed c.as_slice.result.now (text_rest c.args.subject.text.now) m c.in_err-read-in-Some.ensures.missing)
+pub returns-in_err-find-in-Some-clause-missing : goal.returns-in_err-find-in-Some-clause-missing
+returns-in_err-find-in-Some-clause-missing c =
+    let m = c.in_err-find-in-Some.field-0.0 in
+    let P = profile_of c.args.subject.profile in
+    err_is c.from_residual.result _ c.from_residual.ensures.1 (because m _ _ (subst (LacksGoal P (text_rest c.args.subject.text.now)) (sym c.in-Some.is)) c.in_err-find-in-Some.ensures.missing)
 
 pub returns-in-Err-clause-missing : goal.returns-in-Err-clause-missing
-returns-in-Err-clause-missing c = because c.in-Err.missing _ _ (fault_first _ _) c.in-Err.ensures.missing
+returns-in-Err-clause-missing c = because c.in-Err.missing _ _ (goal_missed _ _ c.args.report.now.goal) c.in-Err.ensures.missing

@@ -1,14 +1,15 @@
-use Rattle.std.proofs.Common.{◌<◌, List, arith, inl, map, subst}
+use Rattle.std.proofs.Common.{◌<◌, List, arith, inl, map, refl, subst}
 use Rattle.std.proofs.lemmas.Bool.Decides.{nat_tests}
-use Rattle.vipr_explain.specs.Found.{AreItemsOf}
+use Rattle.vipr_explain.specs.Refused.{AreNamesOf}
 use Rattle.vipr_explain.specs.declared.near.Near.{Near}
 use Rattle.vipr_explain.proofs.Lacks.{because, err_is, fault_first}
 use Rattle.vipr_explain.proofs.goal.UnprovedClaim.find.Goals as goal
 
 pub returns-in-Ok-clause-found : goal.returns-in-Ok-clause-found
 returns-in-Ok-clause-found c = record {
-  search = c.in_ok-search.ensures.near;
-  items = subst (λ (ns : List Near). AreItemsOf c.args.subject.text.now (map (λ n. n.index) ns) c.in-Ok.items) c.as_slice.ensures.value c.in-Ok.ensures.read;
+  search = c.in_ok-problem-2.ensures.near;
+  text_is = refl;
+  names = subst (λ (ns : List Near). AreNamesOf c.args.subject.text.now (map (λ n. n.index) ns) c.in-Ok.marks) c.as_slice.ensures.value c.in-Ok.ensures;
   solution = rw c.in_ok-problem.ensures.read.counted (
     λ t. (let some : 0 < c.in_ok-problem.solutions.left = grind (arith, nat_tests) in omega arith),
     λ l. (let some : 0 < c.left-has_solution.result = omega arith in grind (arith, nat_tests)),
@@ -19,6 +20,3 @@ pub returns-in_err-problem-clause-missing : goal.returns-in_err-problem-clause-m
 returns-in_err-problem-clause-missing c =
     let m = c.in_err-problem.field-0.0 in
     err_is c.from_residual.result _ c.from_residual.ensures.1 (because m _ _ (λ fault. inl (fault_first _ _ (fault_first _ _ fault))) c.in_err-problem.ensures.error)
-
-pub returns-in-Err-clause-missing : goal.returns-in-Err-clause-missing
-returns-in-Err-clause-missing c = because c.in-Err.missing _ _ (λ fault. inl fault) c.in-Err.ensures.missing

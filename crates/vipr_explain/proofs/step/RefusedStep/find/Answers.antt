@@ -1,33 +1,32 @@
-use Rattle.std.proofs.Common.{◌≤◌, [], ◌∷◌, inl, rules, subst, sym}
-use Rattle.std.specs.List.{All}
-use Rattle.vipr_explain.specs.Found.{AreFoundAs, text_rest}
-use Rattle.vipr_explain.specs.Refused.{AreNamedBy}
+use Rattle.std.proofs.Common.{arith, inl, inr, refl, subst, sym}
+use Rattle.vipr_cert.specs.Items.{derivation_of}
+use Rattle.std.specs.Prelude.{option_map}
+use Rattle.vipr_explain.specs.Found.{text_rest}
+use Rattle.vipr_explain.specs.Near.{IsStepOf, without_solutions}
+use Rattle.vipr_table.specs.History.{IsTableOf}
 use Rattle.vipr_explain.proofs.Lacks.{because, err_is}
 use Rattle.vipr_explain.proofs.step.RefusedStep.find.Goals as goal
 
 pub returns-in-Ok-clause-found : goal.returns-in-Ok-clause-found
 returns-in-Ok-clause-found c =
-    let items = c.in_ok-items.items in
-    let text = c.args.subject.text.now in
+    let read = c.in_ok-problem.ensures.step in
+    let p = c.in_ok-problem.problem in
     record {
-      problem = items.problem;
-      own = subst (λ w. AreFoundAs w (text_rest text) items.problem items.derivations.items) c.as_slice.ensures c.in_ok-items.ensures.found;
-      named = subst (λ own. AreNamedBy text own c.args.fault.index c.args.fault.what.now (c.in-Ok.known, c.in-Ok.facts)) c.as_slice-2.ensures.value c.in-Ok.ensures.named;
+      before = read.0;
+      own = subst (λ s. IsStepOf (text_rest c.args.subject.text.now) p read.0 c.args.fault.index (option_map derivation_of s)) c.in-Some.is read.2;
+      rows = subst (IsTableOf (without_solutions p read.0)) (sym c.find_behind.ensures.rows) read.1.rows;
+      text_is = refl;
+      named = c.in-Ok.ensures.named;
       place = c.part_place.ensures;
-      changes = c.in-Ok.ensures.changes;
+      changes = c.in-Ok.ensures.changes read.0 read.1;
     }
 
-pub returns-in_err-items-clause-missing : goal.returns-in_err-items-clause-missing
-returns-in_err-items-clause-missing c =
-    let k = c.args.fault.index in
-    let m = c.in_err-items.field-0.0 in
-    let one : All (λ i. i ≤ k) (k ∷ []) = search rules in
-    let all = subst (All (λ i. i ≤ k)) (sym c.as_slice.ensures) one in
-    err_is c.from_residual.result _ c.from_residual.ensures.1 (because m _ _ (λ h. inl (c.as_slice.result.now, all, h)) c.in_err-items.ensures.error)
+pub returns-in_err-problem-clause-missing : goal.returns-in_err-problem-clause-missing
+returns-in_err-problem-clause-missing c =
+    let m = c.in_err-problem.field-0.0 in
+    err_is c.from_residual.result _ c.from_residual.ensures.1 (because m _ _ (λ h. inl (c.args.fault.index, omega arith, h)) c.in_err-problem.ensures.missing)
 
-pub returns-in-Err-clause-missing : goal.returns-in-Err-clause-missing
-returns-in-Err-clause-missing c =
-    let items = c.in_ok-items.items in
-    let text = text_rest c.args.subject.text.now in
-    let own = subst (λ w. AreFoundAs w text items.problem items.derivations.items) c.as_slice.ensures c.in_ok-items.ensures.found in
-    c.in-Err.ensures.missing items.problem (subst (λ l. AreFoundAs (c.args.fault.index ∷ []) text items.problem l) (sym c.as_slice-2.ensures.value) own)
+pub returns-in_default-clause-missing : goal.returns-in_default-clause-missing
+returns-in_default-clause-missing c =
+    let read = c.in_ok-problem.ensures.step in
+    inr (subst (λ s. IsStepOf (text_rest c.args.subject.text.now) c.in_ok-problem.problem read.0 c.args.fault.index (option_map derivation_of s)) c.in_default.is read.2)

@@ -2,7 +2,7 @@ use Rattle.std.proofs.Common.{◌≡◌, ◌+◌}
 use Rattle.vipr_rules.specs.Profile.{profile_of}
 use Rattle.vipr_explain.specs.Found.{text_rest}
 use Rattle.vipr_explain.specs.Near.{SearchesPartWay}
-use Rattle.vipr_explain.proofs.near.NearSearch.pass_all.Given as goal
+use Rattle.vipr_explain.proofs.near.NearSearch.pass_to.Given as goal
 
 abbrev pub invariant-loop-passed : goal.invariant-loop-passed
 invariant-loop-passed l = record {
