@@ -35,18 +35,19 @@ CLOSED = 'Closed under the global context'
 PROFILES = [], ['--profile', '2']
 # how many files the second program is given at once
 AT_ONCE = 100
-# wrong versions of the checker's tests: what it is, and what to replace in Check.v by what
+# wrong versions of the checker's tests: what it is, and what to replace in Check.v or Read.v by what
 WRONG = {
-    'sign of L in a sum': ('match sense (what s) with L => - snd e |', 'match sense (what s) with L => snd e |'),
+    'sign of L in a sum': ('match sense_ (what s) with L => - snd e |', 'match sense_ (what s) with L => snd e |'),
     'floor for ceiling': ('(Qceiling (side_ a))) d', '(Qfloor (side_ a))) d'),
     'an assumption kept out of the wrong branch': ('without l1 c1', 'without l2 c1'),
-    'cutoff by the worst solution': ('if better p v w then v else w', 'if better p v w then w else v'),
+    'cutoff by the worst solution': ('(if better v (f i) then v else f i)', '(if better v (f i) then f i else v)'),
     'a split with a gap': ('Qeq_bool high (low + 1)', 'Qle_bool (low + 1) high'),
     'an equation rounded': (
         '| E => negb (is_whole (side_ a)) || dominates a d', '| E => dominates (with_side a (Qfloor (side_ a))) d'),
-    'a goal with assumptions': ('found t || PositiveSet.is_empty (rests s) && goals e a', 'found t || goals e a'),
+    'a goal with assumptions': ('found t || are_empty (rests s) && goals e a', 'found t || goals e a'),
     'a fractional coefficient rounded': ('(is_zero q || i && is_whole q)', '(is_zero q || i)'),
-    'an integer variable left out': ('(integers p) PositiveSet.empty in', '(tl (integers p)) PositiveSet.empty in'),
+    'an integer variable left out': (
+        'Some (PositiveSet.add (N.succ_pos j) t)', 'Some (if N.eqb j 0 then t else PositiveSet.add (N.succ_pos j) t)'),
     'a dropped reference used': (
         'if live (next t) s then Some s else None | None => None end.', 'Some s | None => None end.'),
 }
@@ -90,11 +91,12 @@ def refused(wrong):
     with tempfile.TemporaryDirectory(prefix='vipr-second-') as folder:
         copy = Path(folder, 'rocq')
         shutil.copytree(TOP / 'rocq', copy, ignore=shutil.ignore_patterns('*.vo*', '*.glob', '.*.aux', 'Makefile.coq*'))
-        file = copy / 'Check.v'
-        text = file.read_text()
-        file.write_text(text.replace(old, new))
+        files = [copy / 'Check.v', copy / 'Read.v']
+        found = sum(file.read_text().count(old) for file in files)
+        for file in files:
+            file.write_text(file.read_text().replace(old, new))
         done = run(['make', '--no-print-directory', '-C', copy, 'proofs'], timeout=600)
-        CHECKS.check(text.count(old) == 1, f'{wrong}: its text is not in Check.v once')
+        CHECKS.check(found == 1, f'{wrong}: its text is not there once')
         said = re.search(r'File "./(\w+\.v)", line (\d+).*?Error', done.stderr.decode(), re.S)
         CHECKS.check(done.returncode != 0 and said and said[1] not in ('Check.v', 'Read.v'), f'{wrong}: {done.stderr}')
         if said:
