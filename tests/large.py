@@ -107,6 +107,16 @@ def of_wide_rows():
         expect('wide rows', (b'', f'{line}\n'.encode(), 1), ['tighten'], text)
 
 
+def of_a_long_sum():
+    """A sum of 200,000 entries is checked, and kept as it is."""
+    count = 200_000
+    terms = f'0 1/{count} ' * count
+    text = (f'VER 1.0\nVAR 1\nx\nINT 0\nOBJ min\n0\nCON 2 0\nlow G 1 1 0 1\nup L 0 1 0 1\nRTP infeas\nSOL 0\nDER 1\n'
+            f'sum G 1 0 {{ lin {count + 1} {terms}1 -1 }} -1\n').encode()
+    expect('a long sum', verdict('verified infeas\nsolutions 0 derived 1 peak 1'), ['check'], text)
+    expect('a long sum', (text, b'kept 1 removed 0 peak 1 1\n', 0), ['tighten'], text)
+
+
 def of_many_bytes(room):
     """A comment of five gigabytes in front of a proof, as FILE and, with a token behind the end, from a pipe."""
     proof = (TOP / 'examples/infeasible.vipr').read_bytes()
@@ -190,6 +200,7 @@ def beside_beginnings(room, proof, other):
 
 def main():
     of_wide_rows()
+    of_a_long_sum()
     of_many_items()
     with tempfile.TemporaryDirectory(prefix='vipr-large-') as room:
         of_one_name(Path(room))

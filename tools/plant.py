@@ -101,18 +101,21 @@ def scripts_for(change):
 
 def refuses(words, folder):
     """Whether a script ends with another status than 0, prints a fault, or takes too long."""
-    with tempfile.TemporaryDirectory(prefix='vipr-plant-') as room, \
-            subprocess.Popen([sys.executable, *map(str, words)], cwd=folder, stdin=subprocess.DEVNULL, stdout=subprocess.PIPE, text=True,
-                             stderr=subprocess.STDOUT, errors='replace', start_new_session=True,
-                             env={**os.environ, 'TMPDIR': room, 'PYTHONDONTWRITEBYTECODE': '1'}) as child:
-        os.chmod(room, 0o755)
+    room = tempfile.mkdtemp(prefix='vipr-plant-')
+    os.chmod(room, 0o755)
+    with subprocess.Popen([sys.executable, *map(str, words)], cwd=folder, stdin=subprocess.DEVNULL, stdout=subprocess.PIPE, text=True,
+                          stderr=subprocess.STDOUT, errors='replace', start_new_session=True,
+                          env={**os.environ, 'TMPDIR': room, 'PYTHONDONTWRITEBYTECODE': '1'}) as child:
         clock = threading.Timer(SECONDS, os.killpg, (child.pid, signal.SIGKILL))
         clock.start()
         fault = next((line for line in child.stdout if not line.startswith(f'{Path(words[0]).stem}: ')), None)
         clock.cancel()
         if fault and child.poll() is None:
             os.killpg(child.pid, signal.SIGKILL)
-        return child.wait() != 0
+        is_refused = child.wait() != 0
+    # (what a script started may still write there for a moment)
+    shutil.rmtree(room, ignore_errors=True)
+    return is_refused
 
 
 def pages_of(program, kept):
