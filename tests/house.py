@@ -160,7 +160,7 @@ UNNAMED = {'Write', 'Rows', 'Read', 'Seek', 'Hash', 'Hasher', 'ByteSlice', 'Meta
 def imported(use):
     """The names that a `use` brings into its file."""
     items = use[3][1:-1].split(',') if use[3] else [re.split(r'::|\.', use[2])[-1]]
-    return [name for name in (item.split(' as ')[-1].strip() for item in items) if name]
+    return [name for name in (re.split(r'::|\.', item.split(' as ')[-1].strip())[-1] for item in items) if name]
 
 
 def unused_imports():

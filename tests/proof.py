@@ -30,7 +30,7 @@ def imports(text):
     for found in re.finditer(r'ghost use Rattle\.vipr\w*\.specs\.(?:(?:[\w.]+?\.)?\{([^}]*)\}|[\w.]+?\.(\w+) as (\w+))', text):
         for item in (found[1] or '').split(','):
             if item.strip():
-                words.add(item.split(' as ')[-1].strip())
+                words.add(item.split(' as ')[-1].strip().rpartition('.')[2])
         if found[3]:
             words.add(found[3])
     return words

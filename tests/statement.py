@@ -287,9 +287,10 @@ class File:
                 self.aliases[m[4] or module[1]] = module
             else:
                 for item in m[3].split(','):
-                    parts = re.split(r'\s+as\s+', item.strip())
-                    if parts[0]:
-                        self.imports[parts[-1]] = module + (parts[0],)
+                    path, _, name = item.strip().partition(' as ')
+                    inner, _, word = path.rpartition('.')
+                    if word:
+                        self.imports[name or word] = (m[1], inner.split('.')[-1] or module[1], word)
 
 
 def operators(name):

@@ -58,7 +58,7 @@ def imports(lines, text):
     for line in lines:
         names, whole = NAMES.match(line), WHOLE.match(line)
         if names:
-            named = [it for it in names[2].split(', ') if is_named(it.split(' as ')[-1], text)]
+            named = [it for it in names[2].split(', ') if is_named(it.split(' as ')[-1].rpartition('.')[2], text)]
             if named:
                 yield f'use {names[1]}.{{{", ".join(named)}}}'
         elif not whole or is_named(whole[2] or whole[1], text):
