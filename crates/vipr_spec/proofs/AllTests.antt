@@ -2,10 +2,9 @@
 use Rattle.std.proofs.Common.{◌≡◌, ℕ, zero, suc, ◌+◌, ◌-◌, ◌<◌, List, [], ◌∷◌, ◌++◌, map, length}
 use Rattle.std.proofs.Common.{slice_index_or, unwrap_or, Some, None, All, arith, sym, ◌∙◌, ap}
 use Rattle.std.proofs.Common.{subst, subst₂}
-use Rattle.std.proofs.lemmas.List.{get_or-append-add, get_or-map}
 use Rattle.std.proofs.lemmas.List.Elements.{All-nil, All-cons, All-head, All-tail, All-append}
 use Rattle.std.proofs.lemmas.List.Elements.{All-map}
-use Rattle.std.proofs.Math.ListN.{length-map}
+use Rattle.std.proofs.{Math.ListN.length-map, lemmas.List.get_or-append-add, lemmas.List.get_or-map}
 use Rattle.std.specs.FinMap.{empty}
 use Rattle.vipr_spec.specs.{zero_ℚ, Profile, IsInteger, at, equal, Named, asm, Derivation, Known}
 use Rattle.vipr_spec.specs.{given_constraint, derived_constraint, variables, constraint_at}
@@ -13,12 +12,10 @@ use Rattle.vipr_spec.specs.{reason_at, IsFeasible, SolutionFits, HasGoodSteps, I
 use Rattle.vipr_spec.specs.{PassesStep, step_tests, FirstFailing, Test, of_solution, meets_primal}
 use Rattle.vipr_spec.specs.{of_step, meets_dual, Passes, solution_tests, numbered_tests}
 use Rattle.vipr_spec.specs.{tests_of_solution, tests_of_derivation, proof_tests}
-use Rattle.vipr_spec.specs.Constraint.{Constraint}
-use Rattle.vipr_spec.specs.Certificate.{Certificate}
+use Rattle.vipr_spec.specs.{Certificate.Certificate, Constraint.Constraint}
 use Rattle.vipr_spec.proofs.FirstFailing.{none_all, all_none, all_parts}
 use Rattle.vipr_spec.proofs.SolutionTests.{feasible_of_tests, tests_of_feasible}
-use Rattle.vipr_spec.proofs.Prefix.{is_derived}
-use Rattle.vipr_spec.proofs.Steps.{good_before}
+use Rattle.vipr_spec.proofs.{Prefix.is_derived, Steps.good_before}
 
 -- ---- the tests of numbered items
 numbered_of : {A : Type 0} (P : Test → Type 0) (tests : ℕ → A → List Test) (n : ℕ) (xs : List A)

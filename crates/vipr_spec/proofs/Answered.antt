@@ -2,19 +2,16 @@
 use Rattle.std.proofs.Common.{◌≡◌, ℕ, zero, suc, ◌≤◌, ◌<◌, ◌⊎◌, Option, Some, None, MatchOption}
 use Rattle.std.proofs.Common.{arith, refl, sym, subst, inl, inr, ⊎_elim, length, All, Result, Ok}
 use Rattle.std.proofs.Common.{Err}
+use Rattle.std.proofs.{lemmas.Bool.cases_lt, lemmas.List.Elements.All-contains}
 use Rattle.std.specs.Prelude.{IsSome}
-use Rattle.std.proofs.lemmas.Bool.{cases_lt}
 use Rattle.vipr_spec.specs.{ℚ, Profile, IsInteger, Problem, variables, Claim, infeasible, range}
 use Rattle.vipr_spec.specs.{dual_bound, NeedsGoal, ProvesDual, IsGoal, peak, Rest, Fault}
 use Rattle.vipr_spec.specs.{certificate_read, FirstFailing, Test, spelled, meets_dual, Passes}
 use Rattle.vipr_spec.specs.{Found, found_in, Report, Reports, Answer, verified, answer_of_test}
-use Rattle.vipr_spec.specs.{IsAnswer}
-use Rattle.std.proofs.lemmas.List.Elements.{All-contains}
-use Rattle.vipr_spec.specs.Certificate.{Certificate}
+use Rattle.vipr_spec.specs.{IsAnswer, Certificate.Certificate}
 use Rattle.vipr_spec.proofs.FirstFailing.{failing_some, none_all}
-use Rattle.vipr_spec.proofs.AllTests.{proof_of_tests}
-use Rattle.vipr_spec.proofs.GrammarWhole.{integers_read_below}
 use Rattle.vipr_spec.proofs.WholeText.{Whole, whole_read}
+use Rattle.vipr_spec.proofs.{AllTests.proof_of_tests, GrammarWhole.integers_read_below}
 
 -- where some index has a property, it can't be that none is the least with it
 least : (Q : ℕ → Type 0) (bound k : ℕ) → k < bound → Q k

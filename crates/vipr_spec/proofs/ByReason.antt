@@ -7,8 +7,7 @@ use Rattle.std.proofs.lemmas.List.Elements.{All-contains, All-contains_itself}
 use Rattle.vipr_spec.specs.{ℚ, zero_ℚ, Profile, Sense, Row, Condition, HasSense, SumOfFits, sum_of}
 use Rattle.vipr_spec.specs.{Dominates, DominatesRounded, IsWholeRow, IsSplit, Named, asm, lin, rnd}
 use Rattle.vipr_spec.specs.{uns, sol, entries, constraint_at, reason_at, is_live, IsBest, cutoff}
-use Rattle.vipr_spec.specs.{IsGoodStep, AreUsable}
-use Rattle.vipr_spec.specs.Certificate.{Certificate}
+use Rattle.vipr_spec.specs.{IsGoodStep, AreUsable, Certificate.Certificate}
 
 module _ (P : Profile) (c : Certificate) (k : ℕ) where
   abbrev IsUsable : ℕ × ℚ → Type 0

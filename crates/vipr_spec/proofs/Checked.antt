@@ -2,24 +2,19 @@
 use Rattle.std.proofs.Common.{◌≡◌, ℕ, zero, suc, ◌<◌, ◌≤◌, max, List, [], ◌∷◌, ◌++◌, map, length}
 use Rattle.std.proofs.Common.{slice_index_or, Option, Some, None, Ok, arith, refl, sym, ◌∙◌, ap}
 use Rattle.std.proofs.Common.{subst, inl, inr, ⊎_elim}
-use Rattle.std.specs.Prelude.{◌↔◌, IsSome}
-use Rattle.std.specs.List.{HoldsAt}
+use Rattle.std.specs.{List.HoldsAt, Prelude.◌↔◌, Prelude.IsSome}
 use Rattle.std.proofs.lemmas.Bool.{cases_lt}
 use Rattle.vipr_spec.specs.{Profile, Row, condition, Named, Problem, Derivation, Known}
 use Rattle.vipr_spec.specs.{given_constraint, constraint_at, MeetsDual, NeedsGoal, ProvesDual}
 use Rattle.vipr_spec.specs.{GoalIs, count_held, count, with_next, IsGoodNext, RefersBack, Rest}
 use Rattle.vipr_spec.specs.{end_read, meets_dual, verified, answer_of_test, Answers}
 use Rattle.vipr_spec.specs.{derivations_from, start, IsChecked, Meets, IsFirstMet, ProvesNext}
-use Rattle.vipr_spec.specs.{NextGoal, report_from}
-use Rattle.vipr_spec.specs.Constraint.{Constraint}
-use Rattle.vipr_spec.specs.Certificate.{Certificate}
-use Rattle.vipr_spec.proofs.Prefix.{count_next, known_next}
-use Rattle.vipr_spec.proofs.Held.{peak_next}
+use Rattle.vipr_spec.specs.{NextGoal, report_from, Certificate.Certificate, Constraint.Constraint}
 use Rattle.vipr_spec.proofs.Steps.{good_without, good_steps_next, refers_back}
 use Rattle.vipr_spec.proofs.Reported.{goal_met, goal_missed}
 use Rattle.vipr_spec.proofs.Goals.{dual_given, goal_stays, goal_found, goal_missing}
+use Rattle.vipr_spec.proofs.{Held.peak_next, Prefix.count_next, Prefix.known_next, Told.answers}
 use Rattle.vipr_spec.proofs.Told as known
-use Rattle.vipr_spec.proofs.Told.{answers}
 
 -- ---- the constraints of the problem
 

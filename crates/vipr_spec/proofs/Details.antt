@@ -5,12 +5,9 @@ use Rattle.vipr_spec.specs.{ℚ, whole, Sense, at_most, equal, at_least, Row, at
 use Rattle.vipr_spec.specs.{sum_of, Named, entries, IsAsGoodAt, reaches, objective_constraint}
 use Rattle.vipr_spec.specs.{IsBest, cutoff, StepTest, earlier, live, assumed, suitable, fitting}
 use Rattle.vipr_spec.specs.{roundable, split, listed, by_sum, by_rounding, by_constraint, by_cutoff}
-use Rattle.vipr_spec.specs.{StepDetail, sum, compared, IsSum, Shows}
-use Rattle.vipr_spec.specs.Certificate.{Certificate}
-use Rattle.vipr_spec.proofs.Integers.{≤ℤ_antisymm}
+use Rattle.vipr_spec.specs.{StepDetail, sum, compared, IsSum, Shows, Certificate.Certificate}
 use Rattle.vipr_spec.proofs.Fractions.{le_of_eq_ℚ, le_of_whole}
-use Rattle.vipr_spec.proofs.MoreEntries.{one_sense}
-use Rattle.vipr_spec.proofs.Best.{as_good_antisymm}
+use Rattle.vipr_spec.proofs.{Best.as_good_antisymm, Integers.≤ℤ_antisymm, MoreEntries.one_sense}
 
 rounds_once : (s : Sense) (b : ℚ) (j k : ℤ) → RoundsTo s b j → RoundsTo s b k → j ≡ k
 rounds_once at_least b j k h l = ≤ℤ_antisymm j k (h.1 k l.0) (l.1 j h.0)

@@ -2,11 +2,9 @@
 use Rattle.std.proofs.Common.{◌≡◌, ℕ, zero, suc, ◌<◌, ◌⊎◌, [], ◌∷◌, Some, None, ℤ, pos, negsuc, All}
 use Rattle.std.proofs.Common.{Contains, Bool, true, false, cond, arith, refl, sym, ◌∙◌, ap, subst}
 use Rattle.std.proofs.Common.{inl, inr, ⊎_elim, slice_index_or, IsTrue, lit<, lit≤, unwrap_or}
+use Rattle.std.proofs.{lemmas.Int.ints, lemmas.List.Elements.All-nil, lemmas.List.Elements.All-cons}
 use Rattle.std.specs.FinMap.{empty, get-empty, get-insert}
-use Rattle.std.specs.Ordering.{nat_cmp}
-use Rattle.std.specs.Cmp.{nat_cmp_total}
-use Rattle.std.proofs.lemmas.List.Elements.{All-nil, All-cons}
-use Rattle.std.proofs.lemmas.Int.{ints}
+use Rattle.std.specs.{Cmp.nat_cmp_total, Ordering.nat_cmp}
 use Rattle.vipr_spec.specs.{gcd, ℚ, over, whole, zero_ℚ, ◌+ℚ◌, ◌*ℚ◌, neg_ℚ, ◌≤ℚ◌, ProductFits}
 use Rattle.vipr_spec.specs.{Profile, at_most, at_least, at, Entry, pull, Combines, TermsFit}
 use Rattle.vipr_spec.specs.{SumOfFits, constraint_at, reason_at, entries, lin, IsProof, IsGoodStep}

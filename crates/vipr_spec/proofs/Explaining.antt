@@ -11,10 +11,8 @@ use Rattle.vipr_spec.specs.{spelled, meets_primal, of_step, meets_dual, Passes, 
 use Rattle.vipr_spec.specs.{no_proof, no_primal, name_at, names_of, solution_detail, goal_needed_by}
 use Rattle.vipr_spec.specs.{finite_primal, Explains, items_read, Found, Report, Reports, Answer}
 use Rattle.vipr_spec.specs.{verified, answer_of_test, IsExplainedBy, Explained, IsExplained}
-use Rattle.vipr_spec.specs.{derivations_from, solutions_from}
-use Rattle.vipr_spec.specs.Certificate.{Certificate}
-use Rattle.vipr_spec.proofs.Prefix.{before_more, known_next}
-use Rattle.vipr_spec.proofs.Steps.{same_type}
+use Rattle.vipr_spec.specs.{derivations_from, solutions_from, Certificate.Certificate}
+use Rattle.vipr_spec.proofs.{Prefix.before_more, Prefix.known_next, Steps.same_type}
 use Rattle.vipr_spec.proofs.Told as known
 
 then : {A B C : Type 0} → A ↔ B → B ↔ C → A ↔ C

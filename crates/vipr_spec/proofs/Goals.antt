@@ -7,12 +7,9 @@ use Rattle.vipr_spec.specs.{ℚ, Profile, one, two, Condition, Problem, Claim, i
 use Rattle.vipr_spec.specs.{Reason, asm, lin, rnd, uns, sol, dual_bound, Derivation, Known}
 use Rattle.vipr_spec.specs.{constraint_at, count, FollowsBy, IsGoodStep, MeetsBound, MeetsDual}
 use Rattle.vipr_spec.specs.{NeedsGoal, ProvesDual, IsProof, IsGoal, GoalIs, with_more, with_next}
-use Rattle.vipr_spec.specs.{RefersBack}
-use Rattle.vipr_spec.specs.Certificate.{Certificate}
-use Rattle.vipr_spec.proofs.Linear.{split_two}
+use Rattle.vipr_spec.specs.{RefersBack, Certificate.Certificate}
 use Rattle.vipr_spec.proofs.Prefix.{known_before, reason_given, count_more, count_next}
-use Rattle.vipr_spec.proofs.Rests.{rests_given}
-use Rattle.vipr_spec.proofs.Steps.{rests_more}
+use Rattle.vipr_spec.proofs.{Linear.split_two, Rests.rests_given, Steps.rests_more}
 
 -- ---- one derivation after the other
 module _ (P : Profile) (c : Certificate) where

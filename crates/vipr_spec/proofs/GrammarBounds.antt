@@ -4,8 +4,7 @@ use Rattle.std.proofs.Common.{Result, Ok, Err, codes, refl, sym, ap, subst}
 use Rattle.std.specs.Str.{bytes_eq}
 use Rattle.vipr_spec.specs.{ℚ, natural_after, natural_of, SpellsNumber, NumberFault, not_a_number}
 use Rattle.vipr_spec.specs.{number_read, some_of, or_cause, number_of, bound_of, ReadsKind}
-use Rattle.vipr_spec.specs.{KindsOfNumber}
-use Rattle.vipr_spec.specs.Grammar.{SpellsBound}
+use Rattle.vipr_spec.specs.{KindsOfNumber, Grammar.SpellsBound}
 use Rattle.vipr_spec.proofs.NumberReads.{number_sound, number_complete}
 use Rattle.vipr_spec.proofs.GrammarSteps.{same_ok}
 use Rattle.vipr_spec.proofs.GrammarTokens.{same_bytes, bytes_same, picks, some_sound}

@@ -5,8 +5,7 @@ use Rattle.std.proofs.Common.{sym, ◌∙◌, ap, subst, append_assoc}
 use Rattle.vipr_spec.specs.Causes as cause
 use Rattle.vipr_spec.specs.{Token, Rest, Fault, refused, unread, ◌>>=◌, Read, most_bytes}
 use Rattle.vipr_spec.specs.{first_token, checked_token, token_of, read_each, ReadsFront, Reads}
-use Rattle.vipr_spec.specs.{IsRefusedAt, EndsEarly, FaultsRemain}
-use Rattle.vipr_spec.specs.Grammar.{each}
+use Rattle.vipr_spec.specs.{IsRefusedAt, EndsEarly, FaultsRemain, Grammar.each}
 use Rattle.vipr_spec.proofs.GrammarSteps.{ok_then, read_as}
 use Rattle.vipr_spec.proofs.GrammarParts.{repeated_sound, repeated_complete}
 

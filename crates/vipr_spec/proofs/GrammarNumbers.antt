@@ -2,8 +2,7 @@
 use Rattle.std.proofs.Common.{◌≡◌, ℕ, ◌+◌, ◌-◌, ◌*◌, ◌<◌, Bool, true, false, if◌then◌else◌, List}
 use Rattle.std.proofs.Common.{[], ◌∷◌, Some, None, arith, refl, sym, ◌∙◌, ap}
 use Rattle.std.proofs.lemmas.Bool.Decides.{nat_tests}
-use Rattle.std.specs.Char.{digit_value}
-use Rattle.std.specs.Str.Parse.{AllDigits, digits_value_after}
+use Rattle.std.specs.{Char.digit_value, Str.Parse.AllDigits, Str.Parse.digits_value_after}
 use Rattle.vipr_spec.specs.{is_digit, natural_after, natural_of, ReadsNaturals}
 use Rattle.vipr_spec.specs.Grammar.{SpellsNatural}
 

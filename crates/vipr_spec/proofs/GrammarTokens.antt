@@ -2,10 +2,8 @@
 use Rattle.std.proofs.Common.{◌≡◌, ℕ, ◌-◌, ◌<◌, ◌≤◌, ◌⊎◌, inl, inr, ⊎_elim, Bool, true, false}
 use Rattle.std.proofs.Common.{nat_lt, nat_le, nat_eq, if◌then◌else◌, List, Option, Some, None}
 use Rattle.std.proofs.Common.{Result, Ok, Err, codes, arith, refl, sym, ◌∙◌, ap, subst}
-use Rattle.std.specs.List.{list_any}
-use Rattle.std.specs.Str.{bytes_eq}
-use Rattle.std.proofs.lemmas.Bool.Decides.{nat_tests}
-use Rattle.std.proofs.lemmas.Slice.Eq.{bytes_eq-Decides}
+use Rattle.std.proofs.{lemmas.Bool.Decides.nat_tests, lemmas.Slice.Eq.bytes_eq-Decides}
+use Rattle.std.specs.{List.list_any, Str.bytes_eq}
 use Rattle.vipr_spec.specs.{natural_of, Sense, at_most, equal, at_least, minimum, maximum}
 use Rattle.vipr_spec.specs.{most_count, at_most_or, word_of, count_of, derivation_count_of, below}
 use Rattle.vipr_spec.specs.{variable_of, unless_among, new_variable_of, reference_of, some_of}

@@ -3,14 +3,13 @@ use Rattle.std.proofs.Common.{◌≡◌, ◌↔◌, ℕ, ◌<◌, ◌≤◌, Boo
 use Rattle.std.proofs.Common.{◌∷◌, ◌++◌, length, Result, Ok, Err, All, codes, refl, sym, ◌∙◌, ap}
 use Rattle.std.proofs.Common.{subst, append-nil}
 use Rattle.std.proofs.lemmas.List.Elements.{All-nil, All-cons}
+use Rattle.vipr_spec.specs.Grammar.{SpellsCount, SpellsVariable, word, one, ◌then◌, each, problem}
+use Rattle.vipr_spec.specs.Grammar.{solution, solutions, derivation, derivations, SpelledBy}
 use Rattle.vipr_spec.specs.{IsInteger, Row, Token, Named, Problem, variables, Derivation, Rest}
 use Rattle.vipr_spec.specs.{Fault, unread, ◌>>=◌, most_count, read_each, end_of, end_read}
 use Rattle.vipr_spec.specs.{problem_read, solution_read, derivations_read, derivation_read}
 use Rattle.vipr_spec.specs.{certificate_read, ReadsFront, derivation_count, whole_text, EndsHere}
-use Rattle.vipr_spec.specs.{ReadsCertificates, ReadsTexts, OneCertificate}
-use Rattle.vipr_spec.specs.Certificate.{Certificate}
-use Rattle.vipr_spec.specs.Grammar.{SpellsCount, SpellsVariable, word, one, ◌then◌, each, problem}
-use Rattle.vipr_spec.specs.Grammar.{solution, solutions, derivation, derivations, SpelledBy}
+use Rattle.vipr_spec.specs.{ReadsCertificates, ReadsTexts, OneCertificate, Certificate.Certificate}
 use Rattle.vipr_spec.proofs.PairRows.{set_below}
 use Rattle.vipr_spec.proofs.GrammarSteps.{bind_ok, ok_then, same_ok, success, bytes_of, IsShort}
 use Rattle.vipr_spec.proofs.GrammarSteps.{read_as, read_then, parted}

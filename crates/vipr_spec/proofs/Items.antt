@@ -3,9 +3,8 @@ use Rattle.std.proofs.Common.{◌≡◌, nat_lt, ℕ, zero, suc, ◌+◌, ◌-�
 use Rattle.std.proofs.Common.{Bool, true, false, ◌||◌, nat_eq, if◌then◌else◌, List, [], ◌∷◌, ◌++◌}
 use Rattle.std.proofs.Common.{length, map, Result, Ok, Err, codes, arith, refl, sym, ◌∙◌, ap, subst}
 use Rattle.std.proofs.Common.{append-nil}
-use Rattle.std.specs.FinSet.{from_list}
 use Rattle.std.specs.List.{IsDistinct, AllByRecursion, list_any}
-use Rattle.std.specs.Str.{bytes_eq}
+use Rattle.std.specs.{FinSet.from_list, Str.bytes_eq}
 use Rattle.std.proofs.lemmas.Bool.Decides.{nat_tests}
 use Rattle.vipr_spec.specs.Causes as cause
 use Rattle.vipr_spec.specs.{ℚ, Token, Row, Problem, variables, Reason, asm, lin, rnd, uns, sol}

@@ -2,8 +2,7 @@
 use Rattle.std.proofs.Common.{◌≡◌, ◌↔◌, ℕ, ◌<◌, ◌≤◌, Option, Some, None, length, arith, refl, sym}
 use Rattle.std.proofs.Common.{◌∙◌, ap, ⊎_elim}
 use Rattle.vipr_spec.specs.{reason_at, last_at, RefersTo, count, IsNeeded, RefersBack, is_kept}
-use Rattle.vipr_spec.specs.{tightened_certificate, new_goal, IsNeededFor}
-use Rattle.vipr_spec.specs.Certificate.{Certificate}
+use Rattle.vipr_spec.specs.{tightened_certificate, new_goal, IsNeededFor, Certificate.Certificate}
 use Rattle.vipr_spec.proofs.Marked.{back_at, needed_cases, needed_below, kept_given}
 use Rattle.vipr_spec.proofs.Places.{last_then_new, last_is_new}
 use Rattle.vipr_spec.proofs.Tight.{tight_back, tight_needed}

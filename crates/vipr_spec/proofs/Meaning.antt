@@ -2,28 +2,24 @@
 use Rattle.std.proofs.Common.{◌≡◌, ℕ, zero, suc, ◌<◌, Bool, true, false, ◌==◌, nat_eq, if◌then◌else◌, List, []}
 use Rattle.std.proofs.Common.{◌∷◌, length, slice_index_or, Option, Some, None, IfSome, All, Any}
 use Rattle.std.proofs.Common.{Contains, codes, arith, refl, sym, ◌∙◌, ap, subst}
-use Rattle.std.specs.List.{AllZip}
-use Rattle.std.specs.FinSet.{contains-from_list_nat}
+use Rattle.std.specs.{FinSet.contains-from_list_nat, List.AllZip}
 use Rattle.std.proofs.lemmas.Bool.{eq-eqb, false≢true}
 use Rattle.std.proofs.lemmas.Bool.Decides.{nat_tests}
 use Rattle.std.proofs.lemmas.List.Elements.{All-nil, All-cons, All-head, All-tail}
 use Rattle.std.proofs.lemmas.List.Elements.{All-weaker, All-contains_itself}
 use Rattle.std.proofs.lemmas.List.Folds.{Any-from_list_any, list_any-from_Any}
-use Rattle.vipr_spec.specs.Fraction.{ℚ, IsWhole, ◌≤ℚ◌}
-use Rattle.vipr_spec.specs.Constraint.{Profile, Sense, at_most, equal, at_least, Row, Constraint, at}
-use Rattle.vipr_spec.specs.Constraint.{condition, Point, Compares, IsTrueAt, IsInteger}
+use Rattle.vipr_spec.specs.Constraint.{Profile, Sense, at_most, equal, at_least, Row, Constraint}
+use Rattle.vipr_spec.specs.Constraint.{at, condition, Point, Compares, IsTrueAt, IsInteger}
 use Rattle.vipr_spec.specs.Certificate.{Certificate, IsProof, Named, Direction, minimum, maximum}
 use Rattle.vipr_spec.specs.Certificate.{Claim, infeasible, range, Problem, variables, IsFeasible}
 use Rattle.vipr_spec.specs.Certificate.{IsTrueClaim, IsAttained, IsAsGood, objective_at, dual_bound}
 use Rattle.vipr_spec.specs.Certificate.{primal_bound}
-use Rattle.vipr_spec.specs.Grammar.{Spells}
+use Rattle.vipr_spec.specs.{Fraction.ℚ, Fraction.IsWhole, Fraction.◌≤ℚ◌, Grammar.Spells}
 use Rattle.vipr_spec.specs.Short as short
-use Rattle.vipr_spec.proofs.SmallerSums.{Any-of}
-use Rattle.vipr_spec.proofs.Soundness.{claim_true}
-use Rattle.vipr_spec.proofs.Stated.{spelled_states}
 use Rattle.vipr_spec.proofs.ShortRows.{value_at_point}
 use Rattle.vipr_spec.proofs.ShortTexts.{sense_word, is_min, bounds_of, AreOneConstraint}
 use Rattle.vipr_spec.proofs.ShortTexts.{AreOneSolution, AreStated, states}
+use Rattle.vipr_spec.proofs.{SmallerSums.Any-of, Soundness.claim_true, Stated.spelled_states}
 
 -- ---- lists whose items belong together
 

@@ -4,14 +4,12 @@ use Rattle.std.proofs.Common.{◌||◌, if◌then◌else◌, List, [], ◌∷◌
 use Rattle.std.proofs.Common.{Some, None, Ok, Err, ℤ, pos, negsuc, subst, append-nil, lit<, lit≤}
 use Rattle.std.proofs.Common.{arith, refl, sym, ◌∙◌, ap, append_assoc}
 use Rattle.std.proofs.lemmas.Bool.Decides.{nat_tests}
-use Rattle.std.proofs.lemmas.Bool.{eqb-true}
-use Rattle.std.proofs.lemmas.List.{length-append}
-use Rattle.std.specs.Char.{digit_value}
-use Rattle.std.specs.Fmt.{decimal, signed_decimal}
 use Rattle.std.proofs.lemmas.Fmt.{decimal_is_IsNumeral_wide, length-decimal-le_wide}
+use Rattle.std.proofs.{lemmas.Bool.eqb-true, lemmas.List.length-append}
 use Rattle.std.specs.Str.Parse.{AllDigits, IsNumeral, digits_value, without_leading_sign}
 use Rattle.std.specs.Str.Parse.{starts_with_minus}
 use Rattle.std.specs.Prelude.{IfSome, unsigned_abs}
+use Rattle.std.specs.{Char.digit_value, Fmt.decimal, Fmt.signed_decimal}
 use Rattle.vipr_spec.specs.{ℚ, over, most, IsBounded, natural_after, natural_of, SpellsNumber}
 use Rattle.vipr_spec.specs.{IsSign, signed_integer, under, denominator, too_large, zero_denominator}
 use Rattle.vipr_spec.specs.{is_slash, slash_place, top_of, bottom_of, written_fraction, of_parts}

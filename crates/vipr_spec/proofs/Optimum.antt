@@ -3,14 +3,11 @@
 use Rattle.std.proofs.Common.{◌≡◌, ℕ, zero, suc, ◌<◌, ◌==◌, ◌||◌, [], ◌∷◌, Some, None, pos, All}
 use Rattle.std.proofs.Common.{Contains, false, cond, arith, refl, sym, ◌∙◌, ap, ap₂, subst, inl}
 use Rattle.std.proofs.Common.{inr, slice_index_or, IsTrue, lit<, lit≤, unwrap_or, zero-lt-suc}
-use Rattle.std.specs.FinMap.{empty, insert, get-empty, get-insert}
-use Rattle.std.specs.FinSet as set
-use Rattle.std.specs.FinSet.{contains-insert}
-use Rattle.std.specs.Ordering.{nat_cmp}
-use Rattle.std.specs.Cmp.{nat_cmp_total, unsigned_tied}
-use Rattle.std.proofs.lemmas.Bool.Decides.{nat_tests}
 use Rattle.std.proofs.lemmas.List.Elements.{All-nil, All-cons}
-use Rattle.std.proofs.lemmas.Int.{ints}
+use Rattle.std.proofs.{lemmas.Bool.Decides.nat_tests, lemmas.Int.ints}
+use Rattle.std.specs.{Cmp.nat_cmp_total, Cmp.unsigned_tied, FinMap.empty, FinMap.insert}
+use Rattle.std.specs.{FinMap.get-empty, FinMap.get-insert, FinSet.contains-insert, Ordering.nat_cmp}
+use Rattle.std.specs.FinSet as set
 use Rattle.vipr_spec.specs.{gcd, ℚ, over, whole, zero_ℚ, ◌+ℚ◌, ◌*ℚ◌, neg_ℚ, ◌≤ℚ◌, IsWhole}
 use Rattle.vipr_spec.specs.{ProductFits, SumFits, Profile, one, two, at_most, at_least, at, Row}
 use Rattle.vipr_spec.specs.{Condition, condition, IsTrueAt, Entry, pull, IsInteger, IsWholeRow}
@@ -23,9 +20,8 @@ use Rattle.vipr_spec.specs.Examples.{row, twice, first_variable, optimum}
 use Rattle.vipr_spec.proofs.Fractions.{whole-mul, whole-le, over-mul, over-le, over_same, is_neg}
 use Rattle.vipr_spec.proofs.Fractions.{is_over, is_zero, le_in, le_out, le_refl_ℚ, le_of_eq_ℚ}
 use Rattle.vipr_spec.proofs.Fractions.{zero-add_ℚ, add-zero_ℚ, mul-zero_ℚ, IsWhole-zero}
-use Rattle.vipr_spec.proofs.Soundness.{as_good_refl}
 use Rattle.vipr_spec.proofs.Rests.{rests_out, rests_given}
-use Rattle.vipr_spec.proofs.Goals.{proof_two}
+use Rattle.vipr_spec.proofs.{Goals.proof_two, Soundness.as_good_refl}
 
 -- ---- the rows
 

@@ -4,10 +4,9 @@ use Rattle.std.proofs.Common.{filter, None, unwrap_or, All, pos, arith, refl, sy
 use Rattle.std.proofs.lemmas.Bool.Decides.{nat_tests, Decides-int_eq}
 use Rattle.std.proofs.lemmas.List.Elements.{All-head, All-tail}
 use Rattle.std.proofs.lemmas.List.Folds.{Any-from_list_any}
-use Rattle.std.specs.Cmp.{nat_cmp_total}
-use Rattle.std.specs.FinMap.{find, get-from_entries}
 use Rattle.std.specs.FinSet.{from_list, contains-from_list_nat}
 use Rattle.std.specs.Ordering.{nat_cmp, int_eq, eq_by_cmp}
+use Rattle.std.specs.{Cmp.nat_cmp_total, FinMap.find, FinMap.get-from_entries}
 use Rattle.vipr_spec.specs.{ℚ, zero_ℚ, IsInteger, at, NamesBelow, is_nonzero, row_of}
 use Rattle.vipr_spec.proofs.Fractions.{zero_numer}
 

@@ -3,8 +3,7 @@ use Rattle.std.proofs.Common.{◌≡◌, ℕ, zero, suc, ◌+◌, List, [], ◌�
 use Rattle.std.proofs.Common.{slice_index_or, Some, None, refl, sym, ◌∙◌, ap}
 use Rattle.std.proofs.lemmas.List.{get_or-append-add, length-map}
 use Rattle.vipr_spec.specs.{Derivation, Known, given_constraint, derived_constraint, no_constraint}
-use Rattle.vipr_spec.specs.{reason_at}
-use Rattle.vipr_spec.specs.Certificate.{Certificate}
+use Rattle.vipr_spec.specs.{reason_at, Certificate.Certificate}
 
 pub at_place : {A X : Type 0} (f : A → X) (cs : List A) (ys : List X) (j : ℕ) (d : X)
     → slice_index_or (map f cs ++ ys) (length cs + j) d ≡ slice_index_or ys j d

@@ -9,16 +9,14 @@ use Rattle.vipr_spec.specs.{ℚ, zero_ℚ, condition, Reason, asm, lin, rnd, uns
 use Rattle.vipr_spec.specs.{constraint_at, reason_at, last_at, no_constraint, is_assumption}
 use Rattle.vipr_spec.specs.{lasts_to, is_live, RefersTo, count, kept_of, new_index}
 use Rattle.vipr_spec.specs.{renumbered_entries, renumbered_reason, renumbered_at, with_new_indices}
-use Rattle.vipr_spec.specs.{with_last_references, with_kept, is_nonzero}
-use Rattle.vipr_spec.specs.Certificate.{Certificate}
+use Rattle.vipr_spec.specs.{with_last_references, with_kept, is_nonzero, Certificate.Certificate}
 use Rattle.vipr_spec.proofs.Kept.{map_with, length_with, index_mono, index_same, old_index}
 use Rattle.vipr_spec.proofs.Kept.{kept_map, length_kept, kept_at}
 use Rattle.vipr_spec.proofs.Prefix.{constraints_listed, reasons_listed, lasts_listed}
-use Rattle.vipr_spec.proofs.PairRows.{not_zero}
 use Rattle.vipr_spec.proofs.SmallerSums.{Contains-filter, Contains-filter_back, Contains-map}
 use Rattle.vipr_spec.proofs.SmallerSums.{Contains-map_back, not_zero_is}
 use Rattle.vipr_spec.proofs.References.{reason_in, last_in, last_then, last_names}
-use Rattle.vipr_spec.proofs.Placed.{at_place, reason_placed}
+use Rattle.vipr_spec.proofs.{PairRows.not_zero, Placed.at_place, Placed.reason_placed}
 
 -- ---- reasons under new indices
 

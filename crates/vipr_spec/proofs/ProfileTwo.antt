@@ -1,19 +1,15 @@
 -- Two certificates that are proofs under profile two, and none under profile one
 use Rattle.std.proofs.Common.{◌≡◌, ◌≢◌, ℕ, zero, suc, Some, ℤ, pos, ◌+ℤ◌, ◌≤ℤ◌, ◌⊎◌, IsTrue, arith}
 use Rattle.std.proofs.Common.{refl, sym, ◌∙◌, ap, subst, inl, inr, lit<, unwrap_or, List, []}
-use Rattle.std.specs.Ordering.{nat_cmp}
-use Rattle.std.specs.FinMap.{get-empty}
-use Rattle.std.proofs.lemmas.List.Elements.{All-nil}
-use Rattle.std.proofs.lemmas.Int.{ints}
+use Rattle.std.proofs.{lemmas.Int.ints, lemmas.List.Elements.All-nil}
+use Rattle.std.specs.{FinMap.get-empty, Ordering.nat_cmp}
+use Rattle.vipr_spec.specs.Examples.{first_variable, rounded_bound, split_at_half}
 use Rattle.vipr_spec.specs.{over, whole, zero_ℚ, ◌≤ℚ◌, one, two, at_most, at_least, Condition}
 use Rattle.vipr_spec.specs.{RoundsTo, IsAbsurd, IsSplit, Profile, Reason, asm, uns, constraint_at}
 use Rattle.vipr_spec.specs.{IsProof, IsGoodStep, HasGoodSteps, is_live, RestsOnNothing, MeetsBound}
-use Rattle.vipr_spec.specs.{Problem, Derivation, MeetsPrimal, ProvesDual}
-use Rattle.vipr_spec.specs.Certificate.{Certificate}
-use Rattle.vipr_spec.specs.Examples.{first_variable, rounded_bound, split_at_half}
+use Rattle.vipr_spec.specs.{Problem, Derivation, MeetsPrimal, ProvesDual, Certificate.Certificate}
 use Rattle.vipr_spec.proofs.Fractions.{over-le, le_of_eq_ℚ, le_refl_ℚ, one_not_zero, not_one}
-use Rattle.vipr_spec.proofs.Optimum.{whole_row, row_first}
-use Rattle.vipr_spec.proofs.Rests.{rests_given}
+use Rattle.vipr_spec.proofs.{Optimum.whole_row, Optimum.row_first, Rests.rests_given}
 
 -- ---- one half
 

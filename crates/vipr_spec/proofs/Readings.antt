@@ -2,8 +2,7 @@
 -- steps of its reading
 use Rattle.std.proofs.Common.{◌≡◌, ℕ, List, length, [], ◌++◌, Result, Ok, refl, sym, ◌∙◌, ap, append_assoc}
 use Rattle.vipr_spec.specs.{Rest, ◌>>=◌, Read, token_of, read_each, ReadsKind, ReadsFront, Reads}
-use Rattle.vipr_spec.specs.{FaultsRemain}
-use Rattle.vipr_spec.specs.Grammar.{one, ◌then◌, each}
+use Rattle.vipr_spec.specs.{FaultsRemain, Grammar.one, Grammar.◌then◌, Grammar.each}
 use Rattle.vipr_spec.proofs.GrammarSteps.{bind_ok, ok_then, answer, is_answer, read_as, read_is}
 use Rattle.vipr_spec.proofs.GrammarSteps.{read_nothing, nothing_read, read_then, parted}
 use Rattle.vipr_spec.proofs.GrammarParts.{reads_one, reads_like}

@@ -9,9 +9,8 @@ use Rattle.std.proofs.lemmas.List.Folds.{Any-from_list_any, list_any-from_Any}
 use Rattle.vipr_spec.specs.{ℚ, zero_ℚ, Reason, asm, lin, rnd, uns, sol, Derivation, NamesEarlier}
 use Rattle.vipr_spec.specs.{RefersTo, refers_to, or_else, last_reference, with_last_references}
 use Rattle.vipr_spec.specs.{is_nonzero}
-use Rattle.vipr_spec.proofs.PairRows.{not_zero}
 use Rattle.vipr_spec.proofs.SmallerSums.{not_zero_is, Any-contains, Any-of}
-use Rattle.vipr_spec.proofs.Kept.{map_with}
+use Rattle.vipr_spec.proofs.{Kept.map_with, PairRows.not_zero}
 use Rattle.std.proofs.lemmas.List.Elements.{All-contains}
 
 -- ---- the test

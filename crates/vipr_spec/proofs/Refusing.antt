@@ -1,9 +1,8 @@
 -- A reference that comes too late, and a sum that is too large
 use Rattle.std.proofs.Common.{◌≤◌, ◌^◌, ◌-◌, [], pos, IsTrue, refl, lit<, lit≤, le→leb}
 use Rattle.std.proofs.lemmas.List.Elements.{All-head}
-use Rattle.vipr_spec.specs.{gcd, ℚ, over, whole, ◌*ℚ◌, IsBounded, ProductFits, Profile}
-use Rattle.vipr_spec.specs.{is_live, IsProof}
-use Rattle.vipr_spec.specs.Examples.{dropped_example, too_large}
+use Rattle.vipr_spec.specs.{gcd, ℚ, over, whole, ◌*ℚ◌, IsBounded, ProductFits, Profile, is_live}
+use Rattle.vipr_spec.specs.{IsProof, Examples.dropped_example, Examples.too_large}
 use Rattle.vipr_spec.proofs.Fractions.{one_not_zero}
 
 pub not_live : (P : Profile) → ¬ IsProof P dropped_example

@@ -8,12 +8,9 @@ use Rattle.vipr_spec.specs.{step_tests, FirstFailing, IsGoodNext, Test, spelled,
 use Rattle.vipr_spec.specs.{meets_primal, of_step, meets_dual, Passes, Detail, step, no_primal}
 use Rattle.vipr_spec.specs.{Explains, Found, found_in, Report, Reports, Answer, verified}
 use Rattle.vipr_spec.specs.{answer_of_test, IsAnswerOfTest, Answers, IsAnswer, IsExplainedBy}
-use Rattle.vipr_spec.specs.{Explained, IsExplained}
-use Rattle.vipr_spec.specs.Certificate.{Certificate}
-use Rattle.vipr_spec.proofs.Details.{shows_once}
-use Rattle.vipr_spec.proofs.Goals.{goal_needed}
+use Rattle.vipr_spec.specs.{Explained, IsExplained, Certificate.Certificate}
 use Rattle.vipr_spec.proofs.FirstFailing.{failing_unique}
-use Rattle.vipr_spec.proofs.StepTests.{no_test_fails}
+use Rattle.vipr_spec.proofs.{Details.shows_once, Goals.goal_needed, StepTests.no_test_fails}
 
 -- ---- the goal
 

@@ -1,8 +1,7 @@
 -- The assumption sets, by the reason
 use Rattle.std.proofs.Common.{◌≡◌, ℕ, Option, Some, None, refl, sym, subst, inl, inr}
 use Rattle.vipr_spec.specs.{Reason, asm, lin, rnd, uns, sol, reason_at, Brings, RestsOn, itself}
-use Rattle.vipr_spec.specs.{brought, RestsBy}
-use Rattle.vipr_spec.specs.Certificate.{Certificate}
+use Rattle.vipr_spec.specs.{brought, RestsBy, Certificate.Certificate}
 
 brings_out : (c : Certificate) (i j a : ℕ) (o : Option Reason) → Brings o j a → RestsOn c j a
     → RestsBy c i o a

@@ -2,10 +2,8 @@
 use Rattle.std.proofs.Common.{◌≡◌, ℕ, zero, suc, ◌<◌, Bool, true, false, not, ◌==◌, nat_eq}
 use Rattle.std.proofs.Common.{if◌then◌else◌, List, [], ◌∷◌, map, filter, unwrap_or}
 use Rattle.std.proofs.Common.{All, pos, arith, refl, sym, ◌∙◌, ap, ap₂, subst, cond, ◌⊎◌, ⊎_elim, eq-or-lt_of_le}
-use Rattle.std.specs.List.{IsDistinct, AllByRecursion}
-use Rattle.std.specs.Cmp.{nat_cmp_total}
-use Rattle.std.specs.FinMap.{find, get-from_entries}
-use Rattle.std.specs.Ordering.{nat_cmp, int_eq, eq_by_cmp}
+use Rattle.std.specs.{Cmp.nat_cmp_total, FinMap.find, FinMap.get-from_entries, List.IsDistinct}
+use Rattle.std.specs.{List.AllByRecursion, Ordering.nat_cmp, Ordering.int_eq, Ordering.eq_by_cmp}
 use Rattle.std.proofs.lemmas.Bool.Decides.{nat_tests, Decides-int_eq}
 use Rattle.std.proofs.lemmas.List.Elements.{All-head, All-tail}
 use Rattle.vipr_spec.specs.Fraction.{ℚ, zero_ℚ, ◌+ℚ◌, ◌*ℚ◌}

@@ -2,25 +2,20 @@
 use Rattle.std.proofs.Common.{◌≡◌, ℕ, suc, ◌<◌, ◌≤◌, ◌⊎◌, Bool, if◌then◌else◌, true, false, List, [], ◌∷◌, ◌++◌, length}
 use Rattle.std.proofs.Common.{Option, Some, None, IfSome, All, codes, refl, sym, ◌∙◌}
 use Rattle.std.proofs.Common.{ap, subst, inl, inr, append-nil, append_assoc, lit<}
-use Rattle.std.specs.List.{AllZip}
-use Rattle.std.specs.Str.Parse.{IsNumeral, digits_value}
-use Rattle.std.specs.FinSet.{from_list}
+use Rattle.std.specs.{FinSet.from_list, List.AllZip, Str.Parse.IsNumeral, Str.Parse.digits_value}
 use Rattle.std.proofs.lemmas.List.{map-append}
 use Rattle.std.proofs.lemmas.List.Elements.{All-nil, All-cons}
-use Rattle.vipr_spec.specs.Fraction.{ℚ, over}
 use Rattle.vipr_spec.specs.Constraint.{Sense, at_most, equal, at_least, Ints, Row, Constraint}
 use Rattle.vipr_spec.specs.Certificate.{Name, Named, Direction, minimum, maximum, Claim, infeasible}
 use Rattle.vipr_spec.specs.Certificate.{range, Problem, variables}
 use Rattle.vipr_spec.specs.Number.{SpellsNumber, IsSign, signed_integer, under, denominator}
-use Rattle.vipr_spec.specs.Grammar as long
 use Rattle.vipr_spec.specs.Grammar.{SpellsCount, SpellsVariable, SpellsSense, SpellsDirection}
 use Rattle.vipr_spec.specs.Grammar.{SpellsBound}
-use Rattle.vipr_spec.specs.Stated.{States}
+use Rattle.vipr_spec.specs.{Fraction.ℚ, Fraction.over, Short.◌then◌, Stated.States}
+use Rattle.vipr_spec.specs.Grammar as long
 use Rattle.vipr_spec.specs.Short as short
-use Rattle.vipr_spec.specs.Short.{◌then◌}
-use Rattle.vipr_spec.proofs.GrammarSteps.{bytes_of}
-use Rattle.vipr_spec.proofs.ShortTokens.{same_tokens}
 use Rattle.vipr_spec.proofs.ShortRows.{AreOne, are_one}
+use Rattle.vipr_spec.proofs.{GrammarSteps.bytes_of, ShortTokens.same_tokens}
 
 -- ---- numbers
 

@@ -11,15 +11,13 @@ use Rattle.vipr_spec.specs.{IsGoodStep, HasGoodSteps, RefersTo, MeetsDual, Needs
 use Rattle.vipr_spec.specs.{ProvesDual, IsProof, RefersBack, new_index, renumbered_entries}
 use Rattle.vipr_spec.specs.{renumbered_reason, renumbered_at, with_kept, is_nonzero}
 use Rattle.vipr_spec.specs.Certificate.{Certificate}
-use Rattle.vipr_spec.proofs.Prefix.{reason_past, is_derived}
-use Rattle.vipr_spec.proofs.Kept.{index_lt, index_injective}
-use Rattle.vipr_spec.proofs.PairRows.{not_zero}
 use Rattle.vipr_spec.proofs.SmallerSums.{is_there, not_zero_is, filter_yes, filter_no}
 use Rattle.vipr_spec.proofs.SmallerSums.{Contains-head, Contains-tail, smaller_combines}
 use Rattle.vipr_spec.proofs.SmallerSums.{smaller_rounds, smaller_fits}
-use Rattle.vipr_spec.proofs.References.{refers_earlier}
 use Rattle.vipr_spec.proofs.Places.{entry_new, entry_old, refers_new, refers_old, constraint_new}
 use Rattle.vipr_spec.proofs.Places.{reason_new, count_new, old_of, live_new}
+use Rattle.vipr_spec.proofs.{Kept.index_lt, Kept.index_injective, PairRows.not_zero}
+use Rattle.vipr_spec.proofs.{Prefix.reason_past, Prefix.is_derived, References.refers_earlier}
 
 All-of : {A : Type 0} (P : A → Type 0) (xs : List A) → ((x : A) → Contains xs x → P x) → All P xs
 All-of P xs f k d h = f _ (Contains-get_or xs k d h)

@@ -1,20 +1,16 @@
 -- All tests of a listed solution pass exactly where it is feasible and fits
 use Rattle.std.proofs.Common.{◌≡◌, ℕ, ◌<◌, Bool, true, false, cond, List, [], ◌∷◌, map, filter}
 use Rattle.std.proofs.Common.{length, slice_index_or, All, None, ◌++◌, arith, refl, sym, ◌∙◌, subst}
-use Rattle.std.specs.Prelude.{◌↔◌, flat_map}
-use Rattle.std.specs.List.{range_with_len}
-use Rattle.std.specs.FinSet.{contains}
-use Rattle.std.specs.FinMap.{empty}
-use Rattle.std.proofs.lemmas.List.{get_or-map}
 use Rattle.std.proofs.lemmas.List.FromFn.{length-range_with_len, get_or-range_with_len}
 use Rattle.std.proofs.lemmas.List.Elements.{All-nil, All-cons, All-head, All-tail, All-append}
 use Rattle.std.proofs.lemmas.List.Elements.{All-map, All-get_or, All-weaker, filter_passes}
-use Rattle.std.proofs.Math.ListN.{length-map}
+use Rattle.std.proofs.{Math.ListN.length-map, lemmas.List.get_or-map}
+use Rattle.std.specs.Prelude.{◌↔◌, flat_map}
+use Rattle.std.specs.{FinMap.empty, FinSet.contains, List.range_with_len}
 use Rattle.vipr_spec.specs.{zero_ℚ, IsWhole, IsInteger, Row, at, equal, condition, IsTrueAt}
 use Rattle.vipr_spec.specs.{ValueFits, Named, Problem, variables, integer_variables, IsFeasible}
 use Rattle.vipr_spec.specs.{SolutionFits, whole_at, value_fits, holds, objective_fits, given_at}
-use Rattle.vipr_spec.specs.{PassesSolution, solution_tests, FirstFailing}
-use Rattle.vipr_spec.specs.Constraint.{Constraint}
+use Rattle.vipr_spec.specs.{PassesSolution, solution_tests, FirstFailing, Constraint.Constraint}
 use Rattle.vipr_spec.proofs.FirstFailing.{none_all, all_none, all_parts}
 use Rattle.vipr_spec.proofs.EachTests.{flat_all_of, flat_all}
 

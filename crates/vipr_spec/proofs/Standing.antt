@@ -16,15 +16,12 @@ use Rattle.vipr_spec.specs.{before_items, Found, last_tests, derivations_found, 
 use Rattle.vipr_spec.specs.{found_in, Place, at_byte, at_solution, at_derivation, at_end, Refusal}
 use Rattle.vipr_spec.specs.{Answer, refuses, cut_short, answer_of_test, IsAnswerOfTest, Answers}
 use Rattle.vipr_spec.specs.{IsAnswer, EndsAtByte, EndsInDerivations, EndsInSolutions, EndsAt}
-use Rattle.vipr_spec.specs.{IsRefusedBy, derivations_from, solutions_from}
-use Rattle.vipr_spec.specs.Certificate.{Certificate}
+use Rattle.vipr_spec.specs.{IsRefusedBy, derivations_from, solutions_from, Certificate.Certificate}
 use Rattle.vipr_spec.proofs.FirstFailing.{failing_parts, failing_unmap}
-use Rattle.vipr_spec.proofs.Steps.{tests_next}
 use Rattle.vipr_spec.proofs.Items.{problem_is, solution_is, reads_derivations, derivation_is}
 use Rattle.vipr_spec.proofs.Items.{item_faults}
-use Rattle.vipr_spec.proofs.GrammarWhole.{few_constraints_read}
+use Rattle.vipr_spec.proofs.{GrammarWhole.few_constraints_read, Steps.tests_next, Told.answers}
 use Rattle.vipr_spec.proofs.Told as known
-use Rattle.vipr_spec.proofs.Told.{answers}
 
 -- ---- an item is read from its own tokens
 

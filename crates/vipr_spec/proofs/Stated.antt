@@ -1,14 +1,12 @@
 -- A text states one problem, with one list of solutions
 use Rattle.std.proofs.Common.{◌≡◌, ℕ, List, [], length, Ok, refl, sym, ◌∙◌, ap, append-nil}
+use Rattle.vipr_spec.specs.Grammar.{◌then◌, problem, solution, solutions, Spells}
 use Rattle.vipr_spec.specs.{Row, text_tokens, Named, Problem, variables, Rest, Read, ◌>>=◌}
 use Rattle.vipr_spec.specs.{read_each, problem_read, solution_read, ReadsFront, whole_text, States}
-use Rattle.vipr_spec.specs.{StatesOnly}
-use Rattle.vipr_spec.specs.Certificate.{Certificate}
-use Rattle.vipr_spec.specs.Grammar.{◌then◌, problem, solution, solutions, Spells}
+use Rattle.vipr_spec.specs.{StatesOnly, Certificate.Certificate}
 use Rattle.vipr_spec.proofs.GrammarSteps.{ok_then, same_ok, read_then, parted}
-use Rattle.vipr_spec.proofs.GrammarParts.{repeated_complete}
 use Rattle.vipr_spec.proofs.Items.{problem_is, solution_is}
-use Rattle.vipr_spec.proofs.GrammarWhole.{sections}
+use Rattle.vipr_spec.proofs.{GrammarParts.repeated_complete, GrammarWhole.sections}
 
 abbrev listed : (Problem × ℕ) × Rest → Read (Problem × List (Named Row))
 listed p = read_each (solution_read p.0.0) p.0.1 p.1 >>= λ ss. Ok ((p.0.0, ss.0), ss.1)

@@ -2,15 +2,12 @@
 use Rattle.std.proofs.Common.{◌≡◌, ◌≢◌, ℕ, ◌<◌, ◌⊎◌, Bool, true, false, List, [], ◌∷◌, ◌++◌}
 use Rattle.std.proofs.Common.{slice_index_or, None, pos, All, Contains, arith, refl, sym, ◌∙◌, ap}
 use Rattle.std.proofs.Common.{subst, append_assoc, inl, inr, zero-lt-suc, append-nil, lit<}
-use Rattle.std.specs.Prelude.{◌↔◌, flat_map, IsTrue, not, if◌then◌else◌}
-use Rattle.std.specs.List.{AllByRecursion as ByRecursion}
-use Rattle.std.specs.Ordering.{int_eq}
-use Rattle.std.proofs.lemmas.Bool.Decides.{Decides-int_eq}
-use Rattle.std.proofs.lemmas.Int.{ints}
-use Rattle.std.proofs.lemmas.List.{map-append}
 use Rattle.std.proofs.lemmas.List.Elements.{All-from_recursion, recursion_from_All, All-nil}
 use Rattle.std.proofs.lemmas.List.Elements.{All-cons, All-head, All-tail, All-append, All-weaker}
 use Rattle.std.proofs.lemmas.List.Elements.{All-contains, Contains-get_or}
+use Rattle.std.proofs.{lemmas.Bool.Decides.Decides-int_eq, lemmas.Int.ints, lemmas.List.map-append}
+use Rattle.std.specs.Prelude.{◌↔◌, flat_map, IsTrue, not, if◌then◌else◌}
+use Rattle.std.specs.{List.AllByRecursion as ByRecursion, Ordering.int_eq}
 use Rattle.vipr_spec.specs.{ℚ, zero_ℚ, Profile, Sense, Condition, Entry, HasSense, SumOfFits}
 use Rattle.vipr_spec.specs.{Reason, asm, lin, rnd, uns, sol, constraint_at, entries, is_live, count}
 use Rattle.vipr_spec.specs.{IsGoodStep, is_nonzero, StepTest, earlier, live, suitable, fitting}

@@ -1,9 +1,8 @@
 -- A certificate step by step
 use Rattle.std.proofs.Common.{◌≡◌, ℕ, ◌<◌, ◌≤◌, List, [], ◌∷◌, ◌++◌, length, unwrap_or, Option}
 use Rattle.std.proofs.Common.{Some, None, All, arith, refl, sym, ◌∙◌, ap, subst, ⊎_elim, inl, inr}
+use Rattle.std.proofs.{lemmas.Bool.cases_lt, lemmas.List.Elements.All-contains}
 use Rattle.std.specs.Prelude.{◌↔◌}
-use Rattle.std.proofs.lemmas.Bool.{cases_lt}
-use Rattle.std.proofs.lemmas.List.Elements.{All-contains}
 use Rattle.vipr_spec.specs.{ℚ, Profile, Condition, condition, IsTrueAt, variables, Reason, asm, lin}
 use Rattle.vipr_spec.specs.{rnd, uns, sol, Derivation, Known, constraint_at, reason_at, RestsOn}
 use Rattle.vipr_spec.specs.{itself, brought, count, NamesEarlier, RefersTo, IsGoodStep}
@@ -15,9 +14,8 @@ use Rattle.vipr_spec.proofs.Prefix.{known_before, known_next, reason_next, reaso
 use Rattle.vipr_spec.proofs.Prefix.{count_next, before_count, before_stays, before_more, known_in}
 use Rattle.vipr_spec.proofs.Prefix.{Alike, holding, brings_earlier, good_alike, follows_alike}
 use Rattle.vipr_spec.proofs.Prefix.{rests_alike}
-use Rattle.vipr_spec.proofs.Rests.{rests_by, rests_in}
-use Rattle.vipr_spec.proofs.StepTests.{no_test_fails}
 use Rattle.vipr_spec.proofs.Soundness.{step_sound, sound_none, refers_earlier}
+use Rattle.vipr_spec.proofs.{Rests.rests_by, Rests.rests_in, StepTests.no_test_fails}
 
 -- ---- tests of a certificate with more derivations
 abbrev pub Fails : Profile → Certificate → ℕ → Reason → Option StepTest → Type 0

@@ -13,16 +13,14 @@ use Rattle.vipr_spec.specs.{ProvesDual, IsProof, GoalIs, IsNeeded, the_goal, ref
 use Rattle.vipr_spec.specs.{RefersBack, is_kept, kept_of, new_index, renumbered_entries}
 use Rattle.vipr_spec.specs.{renumbered_reason, renumbered_at, with_new_indices}
 use Rattle.vipr_spec.specs.{with_last_references, tightened_certificate, new_goal, IsNeededFor}
-use Rattle.vipr_spec.specs.{is_nonzero}
-use Rattle.vipr_spec.specs.Certificate.{Certificate}
+use Rattle.vipr_spec.specs.{is_nonzero, Certificate.Certificate}
 use Rattle.vipr_spec.proofs.Kept.{index_mono, index_same, kept_all}
 use Rattle.vipr_spec.proofs.SmallerSums.{filter_yes, filter_no}
-use Rattle.vipr_spec.proofs.References.{reason_in, with_again}
-use Rattle.vipr_spec.proofs.Placed.{reason_placed}
 use Rattle.vipr_spec.proofs.Marked.{none_marked, needed_derived, kept_given, kept_derived}
 use Rattle.vipr_spec.proofs.Marked.{kept_closed, kept_needed, needed_kept, goal_kept}
 use Rattle.vipr_spec.proofs.Places.{new_given, new_derived, old_derived, reason_new, old_of}
 use Rattle.vipr_spec.proofs.Smaller.{back_new, refers_at_new, proves_new, proves_old, smaller_proof}
+use Rattle.vipr_spec.proofs.{Placed.reason_placed, References.reason_in, References.with_again}
 
 pub back_of_proof : (P : Profile) (c : Certificate) → IsProof P c → RefersBack c
 back_of_proof P c p k = by (reason_at c k) refl

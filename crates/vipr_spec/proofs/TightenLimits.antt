@@ -1,21 +1,19 @@
 -- What is so of each derivation whatever its last reference is, and under smaller indices, is so of
 -- each in the tightened certificate
 use Rattle.std.proofs.Common.{◌≡◌, ℕ, suc, ◌+◌, ◌<◌, ◌≤◌, Bool, List, [], ◌∷◌, map, length, Option}
-use Rattle.std.proofs.Common.{Some, None, IfSome, All, filter, le_trans, le_of_lt, le_of_eq}
-use Rattle.std.proofs.Common.{cond, true, false, arith, refl}
-use Rattle.std.proofs.lemmas.Bool.{cond_both}
-use Rattle.std.proofs.lemmas.List.{length-map}
+use Rattle.std.proofs.Common.{Some, None, IfSome, All, filter, le_trans, le_of_lt, le_of_eq, cond}
+use Rattle.std.proofs.Common.{true, false, arith, refl}
 use Rattle.std.proofs.lemmas.List.Elements.{All-head, All-tail, All-cons, All-nil, All-map}
 use Rattle.std.proofs.lemmas.List.Elements.{All-weaker, All-filter}
 use Rattle.std.proofs.lemmas.List.Sums.{length-filter, count_by-le-length}
+use Rattle.std.proofs.{lemmas.Bool.cond_both, lemmas.List.length-map}
 use Rattle.std.specs.List.{count_by}
 use Rattle.vipr_spec.specs.{ℚ, is_nonzero, most_count, ReasonShape, DerivationShape, EntryFits}
 use Rattle.vipr_spec.specs.{ReasonFits, DerivationFits, CanWrite, variables, Reason, asm, lin, rnd}
 use Rattle.vipr_spec.specs.{uns, sol, Derivation, count, is_kept, kept_of, new_index}
 use Rattle.vipr_spec.specs.{renumbered_entries, refers_to, or_else, renumbered_reason}
 use Rattle.vipr_spec.specs.{with_new_indices, last_reference, with_last_references}
-use Rattle.vipr_spec.specs.{tightened_certificate}
-use Rattle.vipr_spec.specs.Certificate.{Certificate}
+use Rattle.vipr_spec.specs.{tightened_certificate, Certificate.Certificate}
 use Rattle.vipr_spec.proofs.Marked.{kept_given}
 use Rattle.vipr_spec.proofs.Kept.{index_le, index_same, length_kept, length_kept_derivations}
 

@@ -2,12 +2,11 @@
 use Rattle.std.proofs.Common.{◌≡◌, ◌≢◌, ℕ, ◌+◌, ◌-◌, ◌<◌, ◌≤◌, ◌⊎◌, Bool, true, false, not, nat_eq}
 use Rattle.std.proofs.Common.{List, [], ◌∷◌, ◌++◌, length, take, drop, get_or, suc, refl, sym, ap}
 use Rattle.std.proofs.Common.{subst, ◌∙◌, inl, inr, arith, append_assoc, add-zero, zero-add}
-use Rattle.std.specs.List.{All, concat}
-use Rattle.std.proofs.lemmas.List.{append-nil, length-append}
 use Rattle.std.proofs.lemmas.List.Elements.{All-nil, All-cons}
 use Rattle.std.proofs.Math.Seq.{take-append_seam, drop-append_seam, get_or-append_right}
-use Rattle.std.proofs.Math.ListN.{get_or-append}
 use Rattle.std.proofs.lemmas.Bool.{false≢true, cases_eq, ne_eqb, eqb-false, eqb-true}
+use Rattle.std.proofs.{Math.ListN.get_or-append, lemmas.List.append-nil, lemmas.List.length-append}
+use Rattle.std.specs.List.{All, concat}
 use Rattle.vipr_spec.specs.{Token, is_white, run, is_cut, token_here, tokens_from}
 use Rattle.vipr_spec.specs.{tokens_after_front, text_tokens, Begins, IsWhite, IsComment, IsBlank}
 use Rattle.vipr_spec.specs.{IsFrontEnd, IsFront, AreSpread, AreTokens}

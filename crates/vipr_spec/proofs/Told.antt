@@ -12,12 +12,10 @@ use Rattle.vipr_spec.specs.{of_solution, Test, spelled, meets_primal, of_step, m
 use Rattle.vipr_spec.specs.{numbered_tests, tests_of_solution, tests_of_derivation, before_items}
 use Rattle.vipr_spec.specs.{items_read, Found, last_tests, derivations_found, ending_found}
 use Rattle.vipr_spec.specs.{problem_found, found_in, Answer, IsAnswerOfTest, derivations_from}
-use Rattle.vipr_spec.specs.{solutions_from}
-use Rattle.vipr_spec.specs.Certificate.{Certificate}
+use Rattle.vipr_spec.specs.{solutions_from, Certificate.Certificate}
 use Rattle.vipr_spec.proofs.FirstFailing.{failing_unique, failing_first, failing_second}
 use Rattle.vipr_spec.proofs.FirstFailing.{failing_after, failing_map}
-use Rattle.vipr_spec.proofs.Prefix.{count_next, more_next}
-use Rattle.vipr_spec.proofs.Steps.{tests_next}
+use Rattle.vipr_spec.proofs.{Prefix.count_next, Prefix.more_next, Steps.tests_next}
 
 -- the first test that fails, if any, tells this of the certificate
 abbrev pub Told : Profile → (Certificate → Option Test → Type 0) → Found → Type 0

@@ -12,8 +12,7 @@ use Rattle.vipr_spec.specs.{Passes, numbered_tests, tests_of_solution, tests_of_
 use Rattle.vipr_spec.specs.{before_items, items_read, Found, last_tests, derivations_found}
 use Rattle.vipr_spec.specs.{ending_found, problem_found, found_in, Report, Reports, Answer}
 use Rattle.vipr_spec.specs.{verified, IsAnswerOfTest, IsAnswer}
-use Rattle.vipr_spec.specs.Certificate.{Certificate}
-use Rattle.vipr_spec.specs.Grammar.{Spells}
+use Rattle.vipr_spec.specs.{Certificate.Certificate, Grammar.Spells}
 use Rattle.vipr_spec.proofs.FirstFailing.{none_all, all_none, failing_unique}
 use Rattle.vipr_spec.proofs.AllTests.{proof_of_tests, tests_of_proof}
 use Rattle.vipr_spec.proofs.GrammarWhole.{reads_texts, integers_read_below}

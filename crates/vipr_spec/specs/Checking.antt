@@ -4,8 +4,7 @@ use Rattle.std.specs.List.{AllWithin, HoldsAt}
 use Rattle.vipr_spec.specs.Constraint.{Profile, Row, Constraint, condition}
 use Rattle.vipr_spec.specs.Certificate.{Named, Problem, Derivation, Certificate, RestsOnNothing}
 use Rattle.vipr_spec.specs.Certificate.{MeetsDual, GoalIs, HasGoodSteps, count, peak}
-use Rattle.vipr_spec.specs.Steps.{with_next}
-use Rattle.vipr_spec.specs.Verdict.{Report}
+use Rattle.vipr_spec.specs.{Steps.with_next, Verdict.Report}
 
 -- before the first derivation
 abbrev pub start : Problem → List (Named Row) → Certificate

@@ -1,8 +1,7 @@
 -- Certificates that are proofs, and some that are none
 use Rattle.std.specs.Prelude.{ℕ, ◌^◌, List, [], ◌∷◌, Some, None, pos, negsuc}
-use Rattle.std.specs.FinMap.{empty, insert}
+use Rattle.std.specs.{FinMap.empty, FinMap.insert, Ordering.nat_cmp}
 use Rattle.std.specs.FinSet as set
-use Rattle.std.specs.Ordering.{nat_cmp}
 use Rattle.vipr_spec.specs.Fraction.{ℚ, over, whole, zero_ℚ}
 use Rattle.vipr_spec.specs.Constraint.{at_most, at_least, Row}
 use Rattle.vipr_spec.specs.Certificate.{minimum, maximum, infeasible, range, asm, lin, rnd, uns}

@@ -1,10 +1,9 @@
 -- What a fault of a text depends on
 use Rattle.std.specs.Prelude.{◌≡◌, ℕ, ◌⊎◌, true, false, List, ◌∷◌, ◌++◌, Result, Err}
 use Rattle.vipr_spec.specs.Causes as cause
-use Rattle.vipr_spec.specs.Tokens.{Token}
-use Rattle.vipr_spec.specs.Certificate.{Problem}
 use Rattle.vipr_spec.specs.Reading.{Rest, Fault, refused, unread, problem_read, solution_read}
 use Rattle.vipr_spec.specs.Reading.{derivations_read, derivation_read, end_read, certificate_read}
+use Rattle.vipr_spec.specs.{Certificate.Problem, Tokens.Token}
 
 -- A token at the offset is refused for the cause, whatever follows it, and none before it is: if
 -- a failure follows those, nothing is refused.

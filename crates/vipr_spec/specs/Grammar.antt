@@ -1,17 +1,14 @@
 -- The VIPR format 1.0: which tokens spell which certificate
 use Rattle.std.specs.Prelude.{◌≡◌, ℕ, ◌+◌, ◌<◌, ◌≤◌, ◌⊎◌, List, [], ◌∷◌, ◌++◌, length, map, Option}
 use Rattle.std.specs.Prelude.{Some, None, All, codes, nat_eq}
-use Rattle.std.specs.List.{IsDistinct}
 use Rattle.std.specs.Str.Parse.{IsNumeral, digits_value}
-use Rattle.std.specs.FinSet.{from_list}
-use Rattle.vipr_spec.specs.Fraction.{ℚ}
-use Rattle.vipr_spec.specs.Number.{SpellsNumber}
+use Rattle.std.specs.{FinSet.from_list, List.IsDistinct}
 use Rattle.vipr_spec.specs.Constraint.{Sense, at_most, equal, at_least, Row, Ints, Constraint}
 use Rattle.vipr_spec.specs.Certificate.{Name, Named, Direction, minimum, maximum, Claim, infeasible}
 use Rattle.vipr_spec.specs.Certificate.{range, Problem, variables, Reason, asm, lin, rnd, uns, sol}
 use Rattle.vipr_spec.specs.Certificate.{Derivation, Certificate}
-use Rattle.vipr_spec.specs.Tokens.{Token, text_tokens}
 use Rattle.vipr_spec.specs.Reading.{row_of, most_bytes, most_count}
+use Rattle.vipr_spec.specs.{Fraction.ℚ, Number.SpellsNumber, Tokens.Token, Tokens.text_tokens}
 
 -- ---- one token
 

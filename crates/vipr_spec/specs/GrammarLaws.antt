@@ -3,8 +3,6 @@ use Rattle.std.specs.Prelude.{◌≡◌, ◌↔◌, ℕ, ◌+◌, ◌-◌, ◌�
 use Rattle.std.specs.Prelude.{[], ◌++◌, length, map, All, Some, Result, Ok, codes}
 use Rattle.std.specs.List.{list_any}
 use Rattle.vipr_spec.specs.Certificate.{Problem, variables, Certificate}
-use Rattle.vipr_spec.specs.Digits.{natural_of}
-use Rattle.vipr_spec.specs.Number.{SpellsNumber}
 use Rattle.vipr_spec.specs.Tokens.{Token, text_tokens}
 use Rattle.vipr_spec.specs.Reading.{Rest, Read, most_bytes, most_count, name_of, word_of, count_of}
 use Rattle.vipr_spec.specs.Reading.{derivation_count_of, variable_of, new_variable_of, reference_of}
@@ -15,6 +13,7 @@ use Rattle.vipr_spec.specs.Reading.{derivation_read, end_read, certificate_read}
 use Rattle.vipr_spec.specs.Grammar.{SpellsNatural, SpellsCount, SpellsVariable, SpellsSense}
 use Rattle.vipr_spec.specs.Grammar.{SpellsDirection, SpellsBound, SpellsLast, word, one, ◌then◌}
 use Rattle.vipr_spec.specs.Grammar.{problem, solution, derivation, SpelledBy, Spells}
+use Rattle.vipr_spec.specs.{Digits.natural_of, Number.SpellsNumber}
 
 -- ---- tokens
 

@@ -1,11 +1,10 @@
 -- A text item by item: what remains once so much was read
 use Rattle.std.specs.Prelude.{ℕ, List, ◌++◌, length}
-use Rattle.vipr_spec.specs.Constraint.{Row}
 use Rattle.vipr_spec.specs.Certificate.{Named, Problem, Certificate, count}
 use Rattle.vipr_spec.specs.Reading.{Rest, ◌>>=◌, solution_read, derivation_read, end_read}
-use Rattle.vipr_spec.specs.Steps.{with_more}
 use Rattle.vipr_spec.specs.Tests.{numbered_tests, tests_of_solution, tests_of_derivation}
 use Rattle.vipr_spec.specs.Verdict.{items_read, Found, last_tests, ending_found}
+use Rattle.vipr_spec.specs.{Constraint.Row, Steps.with_more}
 
 -- The certificate c was read so far, so many derivations are to come, and this is left of the text.
 abbrev pub derivations_from : Certificate → ℕ → Rest → Found

@@ -1,12 +1,11 @@
 -- What a refusal of a text depends on
 use Rattle.std.specs.Prelude.{◌≡◌, ℕ, suc, ◌+◌, ◌<◌, List, [], ◌∷◌, ◌++◌, length, Ok}
-use Rattle.vipr_spec.specs.Constraint.{Profile, Row}
 use Rattle.vipr_spec.specs.Certificate.{Named, Problem, Certificate, count}
-use Rattle.vipr_spec.specs.Tokens.{Token}
 use Rattle.vipr_spec.specs.Reading.{Rest, Read, problem_read, solution_read, derivations_read}
 use Rattle.vipr_spec.specs.Reading.{derivation_read}
 use Rattle.vipr_spec.specs.Verdict.{items_read, Found, Place, at_byte, at_solution, at_derivation}
 use Rattle.vipr_spec.specs.Verdict.{at_end, Refusal, refuses, Answers}
+use Rattle.vipr_spec.specs.{Constraint.Profile, Constraint.Row, Tokens.Token}
 
 -- the last of these tokens is the one at this byte
 abbrev pub EndsAtByte : List Token → ℕ → Type 0

@@ -1,10 +1,8 @@
 -- What the front of a text states: a problem and the listed solutions
 use Rattle.std.specs.Prelude.{◌≡◌, ℕ, ◌≤◌, List, ◌++◌, length, map, All}
-use Rattle.vipr_spec.specs.Constraint.{Row}
 use Rattle.vipr_spec.specs.Certificate.{Named, Problem, variables}
-use Rattle.vipr_spec.specs.Tokens.{Token, text_tokens}
-use Rattle.vipr_spec.specs.Reading.{most_bytes}
 use Rattle.vipr_spec.specs.Grammar.{◌then◌, problem, solutions}
+use Rattle.vipr_spec.specs.{Constraint.Row, Reading.most_bytes, Tokens.Token, Tokens.text_tokens}
 
 -- The text begins with the sections of this problem and of these listed solutions.
 abbrev pub States : List ℕ → Problem → List (Named Row) → Type 0

@@ -1,7 +1,6 @@
 -- The tests of a step in the certificate before it, and what the first of them that fails answers
 use Rattle.std.specs.Prelude.{◌≡◌, ◌≢◌, ℕ, ◌-◌, ◌<◌, ◌⊎◌, ℤ, if◌then◌else◌, IsTrue, List, [], ◌∷◌}
 use Rattle.std.specs.Prelude.{◌++◌, length, take, flat_map, Option, Some, None, Contains}
-use Rattle.vipr_spec.specs.Fraction.{ℚ, zero_ℚ, whole}
 use Rattle.vipr_spec.specs.Constraint.{Profile, Sense, Row, Condition, condition, HasSense}
 use Rattle.vipr_spec.specs.Constraint.{SumOfFits, sum_of, IsWholeRow, RoundsTo, IsSplit, Dominates}
 use Rattle.vipr_spec.specs.Constraint.{Combines, CombinesRounded}
@@ -10,7 +9,7 @@ use Rattle.vipr_spec.specs.Certificate.{References, no_references, by_entries, b
 use Rattle.vipr_spec.specs.Certificate.{reason_references, Certificate, constraint_at, reason_at}
 use Rattle.vipr_spec.specs.Certificate.{entries, is_live, IsBest, cutoff, count, NamesEarlier}
 use Rattle.vipr_spec.specs.Certificate.{RestsOn, IsGoodStep}
-use Rattle.vipr_spec.specs.Reading.{is_nonzero}
+use Rattle.vipr_spec.specs.{Fraction.ℚ, Fraction.zero_ℚ, Fraction.whole, Reading.is_nonzero}
 use Rattle.vipr_spec.specs.Causes as cause
 
 -- ---- the certificate before a step

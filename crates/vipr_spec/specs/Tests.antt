@@ -1,18 +1,15 @@
 -- All tests of a certificate: of its solutions, its primal side, its steps and its dual side
 use Rattle.std.specs.Prelude.{◌≡◌, ℕ, suc, List, [], ◌∷◌, ◌++◌, length, map, flat_map, Option, Some}
 use Rattle.std.specs.Prelude.{None, slice_index_or}
-use Rattle.std.specs.List.{range_with_len}
-use Rattle.std.specs.Option.{option_map}
-use Rattle.std.specs.FinMap.{empty}
-use Rattle.vipr_spec.specs.Fraction.{ℚ, zero_ℚ, IsWhole}
+use Rattle.std.specs.{FinMap.empty, List.range_with_len, Option.option_map}
 use Rattle.vipr_spec.specs.Constraint.{Profile, Sense, equal, Row, at, Constraint, Condition}
 use Rattle.vipr_spec.specs.Constraint.{condition, value, IsTrueAt, ValueFits}
 use Rattle.vipr_spec.specs.Certificate.{Name, Named, Claim, infeasible, range, Problem, variables}
 use Rattle.vipr_spec.specs.Certificate.{integer_variables, Derivation, Certificate, known_at}
 use Rattle.vipr_spec.specs.Certificate.{constraint_at, dual_bound, primal_bound, stays}
 use Rattle.vipr_spec.specs.Certificate.{objective_constraint, MeetsPrimal, NeedsGoal, ProvesDual}
-use Rattle.vipr_spec.specs.Reading.{Fault}
 use Rattle.vipr_spec.specs.Steps.{before, StepTest, PassesStep, step_tests, StepDetail, Shows}
+use Rattle.vipr_spec.specs.{Fraction.ℚ, Fraction.zero_ℚ, Fraction.IsWhole, Reading.Fault}
 use Rattle.vipr_spec.specs.Causes as cause
 
 -- ---- what is tested of a listed solution

@@ -2,11 +2,10 @@
 use Rattle.std.specs.Prelude.{ℕ, zero, suc, Bool, false, cond, ◌&&◌, ◌||◌, nat_eq, nat_lt, ◌+◌}
 use Rattle.std.specs.Prelude.{filter, List, [], ◌∷◌, map, length, Option, Some, None, IsSomeAnd}
 use Rattle.std.specs.List.{list_any}
-use Rattle.vipr_spec.specs.Fraction.{ℚ}
-use Rattle.vipr_spec.specs.Reading.{is_nonzero}
 use Rattle.vipr_spec.specs.Certificate.{Reason, asm, lin, rnd, uns, sol, Derivation, References}
 use Rattle.vipr_spec.specs.Certificate.{no_references, by_entries, by_branches, reason_references}
 use Rattle.vipr_spec.specs.Certificate.{Certificate, IsNeeded}
+use Rattle.vipr_spec.specs.{Fraction.ℚ, Reading.is_nonzero}
 
 -- ---- references, as they are tested
 

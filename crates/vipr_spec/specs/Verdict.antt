@@ -3,16 +3,15 @@ use Rattle.std.specs.Prelude.{◌≡◌, ℕ, zero, suc, List, [], ◌∷◌, �
 use Rattle.std.specs.Prelude.{MatchOption, Result, Ok, Err}
 use Rattle.std.specs.FinSet as set
 use Rattle.std.specs.FinMap.{empty}
-use Rattle.vipr_spec.specs.Constraint.{Profile}
 use Rattle.vipr_spec.specs.Certificate.{minimum, Claim, infeasible, Problem, Derivation}
 use Rattle.vipr_spec.specs.Certificate.{Certificate, NeedsGoal, IsGoal, peak}
-use Rattle.vipr_spec.specs.Causes as cause
 use Rattle.vipr_spec.specs.Reading.{Rest, Fault, refused, unread, Read, ◌>>=◌, problem_read}
 use Rattle.vipr_spec.specs.Reading.{solution_read, derivations_read, derivation_read, end_read}
-use Rattle.vipr_spec.specs.Steps.{step_cause, FirstFailing}
 use Rattle.vipr_spec.specs.Tests.{solution_cause, Test, spelled, of_solution, meets_primal, of_step}
 use Rattle.vipr_spec.specs.Tests.{meets_dual, Passes, numbered_tests, tests_of_solution}
 use Rattle.vipr_spec.specs.Tests.{tests_of_derivation, Detail, none, Explains}
+use Rattle.vipr_spec.specs.{Constraint.Profile, Steps.step_cause, Steps.FirstFailing}
+use Rattle.vipr_spec.specs.Causes as cause
 
 -- ---- a text, item by item
 

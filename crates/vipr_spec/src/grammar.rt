@@ -3,9 +3,8 @@
 ghost use Rattle.std.specs.Prelude.{ℕ, List};
 ghost use Rattle.vipr_spec.specs.{StatesOnly, ReadsNaturals, KindsOfToken, KindsOfNumber};
 ghost use Rattle.vipr_spec.specs.{ItemReadings, ReadsCertificates, ReadsTexts, OneCertificate};
-ghost use Rattle.vipr_spec.specs.Certificate.{Certificate};
-ghost use Rattle.vipr_spec.specs.Grammar.{Spells};
 ghost use Rattle.vipr_spec.specs.ExampleText.{example_text, example_certificate};
+ghost use Rattle.vipr_spec.specs.{Certificate.Certificate, Grammar.Spells};
 
 /// Digits write the number that they spell, and nothing else writes one.
 pub fn naturals()

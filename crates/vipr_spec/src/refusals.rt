@@ -18,8 +18,7 @@ ghost use Rattle.vipr_spec.specs.{spelled, of_solution, meets_primal, of_step, m
 ghost use Rattle.vipr_spec.specs.{not_whole, breaks, overflows, no_proof, name_at, names_of};
 ghost use Rattle.vipr_spec.specs.{solution_detail, solution_cause, goal_needed_by, finite_primal};
 ghost use Rattle.vipr_spec.specs.{Explains, none, at_byte, at_solution, at_derivation, at_end};
-ghost use Rattle.vipr_spec.specs.{refuses, cut_short, answer_of_test};
-ghost use Rattle.vipr_spec.specs.Certificate.{Certificate};
+ghost use Rattle.vipr_spec.specs.{refuses, cut_short, answer_of_test, Certificate.Certificate};
 
 /// The numbers of the causes that a token has.
 pub fn causes_of_tokens()

@@ -4,8 +4,7 @@ ghost use Rattle.std.specs.Prelude.{◌≡◌, ◌↔◌, ℕ, ◌<◌, ◌≤�
 ghost use Rattle.std.specs.Prelude.{None};
 ghost use Rattle.vipr_spec.specs.{constraint_at, reason_at, last_at, RefersTo, count, RefersBack};
 ghost use Rattle.vipr_spec.specs.{is_kept, kept_of, tightened_index, renumbered_at};
-ghost use Rattle.vipr_spec.specs.{tightened_certificate, new_goal};
-ghost use Rattle.vipr_spec.specs.Certificate.{Certificate};
+ghost use Rattle.vipr_spec.specs.{tightened_certificate, new_goal, Certificate.Certificate};
 
 /// New indices rise, leave no gap, and are the old ones for the constraints of the problem.
 pub fn new_indices()

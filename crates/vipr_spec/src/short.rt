@@ -1,10 +1,8 @@
 //! What `verified` promises of a text, in a statement of its own.
 
 ghost use Rattle.std.specs.Prelude.{ℕ, List};
-ghost use Rattle.vipr_spec.specs.Constraint.{Profile};
 ghost use Rattle.vipr_spec.specs.Certificate.{Certificate, IsProof};
-ghost use Rattle.vipr_spec.specs.Grammar.{Spells};
-ghost use Rattle.vipr_spec.specs.Short.{Means};
+ghost use Rattle.vipr_spec.specs.{Constraint.Profile, Grammar.Spells, Short.Means};
 
 /// A text that spells a proof states a problem and solutions of which the claim is true.
 pub fn proofs_mean()

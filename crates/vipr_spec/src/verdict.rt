@@ -4,8 +4,7 @@ ghost use Rattle.std.specs.Prelude.{◌≡◌, ◌≢◌, ◌↔◌, ℕ, List, 
 ghost use Rattle.vipr_spec.specs.{Profile, IsProof, Rest, certificate_read, whole_text, IsShown};
 ghost use Rattle.vipr_spec.specs.{Detail, found_in, Report, Reports, Refusal, Answer, refuses};
 ghost use Rattle.vipr_spec.specs.{verified, IsAnswer, IsExplained, EndsAt, IsRefusedBy};
-ghost use Rattle.vipr_spec.specs.Certificate.{Certificate};
-ghost use Rattle.vipr_spec.specs.Grammar.{Spells};
+ghost use Rattle.vipr_spec.specs.{Certificate.Certificate, Grammar.Spells};
 ghost use Rattle.vipr_spec.specs.Causes as cause;
 
 /// What is refused before the end of the text is refused by the tokens up to the place, whatever

@@ -1,6 +1,5 @@
 use Rattle.std.proofs.Common.{arith, if◌then◌else◌, Ok, Err, ap, ◌∙◌}
-use Rattle.std.proofs.lemmas.Map.Views.{list_any-from_Contains}
-use Rattle.std.proofs.lemmas.Cmp.{nat_eq_equiv}
+use Rattle.std.proofs.{lemmas.Cmp.nat_eq_equiv, lemmas.Map.Views.list_any-from_Contains}
 use Rattle.vipr_spec.specs.Causes as cause
 use Rattle.vipr_spec.specs.{count_of, last_of, rule_of, derivation_count_of, variable_of}
 use Rattle.vipr_spec.specs.{new_variable_of, spelled_sense, spelled_direction, has_range_of}
