@@ -1,12 +1,9 @@
 -- What the order of two integers becomes by a positive factor.
 use Rattle.std.proofs.Common.{◌≡◌, ℕ, ◌+◌, ◌*◌, ◌<◌, ℤ, pos, sym, ap, arith}
-use Rattle.std.specs.declared.cmp.Ordering.{Ordering}
+use Rattle.std.proofs.{Math.Nat.mul-lt-mul_of_pos_right, lemmas.Int.ints}
 use Rattle.std.specs.declared.cmp.Ordering.TheVariants.{Less, Equal, Greater}
-use Rattle.std.specs.Prelude.{◌*ℤ◌, ◌<ℤ◌}
-use Rattle.std.specs.Ordering.{int_cmp, MatchOrdering}
-use Rattle.std.specs.Cmp.{int_ranks, int_cmp_is}
-use Rattle.std.proofs.Math.Nat.{mul-lt-mul_of_pos_right}
-use Rattle.std.proofs.lemmas.Int.{ints}
+use Rattle.std.specs.{Cmp.int_ranks, Cmp.int_cmp_is, Ordering.int_cmp, Ordering.MatchOrdering}
+use Rattle.std.specs.{Prelude.◌*ℤ◌, Prelude.◌<ℤ◌, declared.cmp.Ordering.Ordering}
 use borrow.Author.Differences.{up, down}
 
 lt-scale : (a b : ℤ) (n : ℕ) → 0 < n → a <ℤ b → (a *ℤ pos n) <ℤ (b *ℤ pos n)

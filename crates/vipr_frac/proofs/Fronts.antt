@@ -2,23 +2,19 @@
 use Rattle.std.proofs.Common.{◌≡◌, ℕ, ◌+◌, ◌-◌, ◌*◌, ◌^◌, ◌<◌, ◌≤◌, ◌≢◌, ◌⊎◌, Bool, true, false}
 use Rattle.std.proofs.Common.{List, [], ◌∷◌, ◌++◌, length, take, drop, get_or, Some, None, refl}
 use Rattle.std.proofs.Common.{sym, ap, ◌∙◌, arith, inl, inr, if◌then◌else◌, add-one, zero-lt-suc}
-use Rattle.std.proofs.Common.{subst}
-use Rattle.std.proofs.lemmas.Bool.Decides.{nat_tests}
+use Rattle.std.proofs.Common.{subst, Result, not, nat_lt, ◌==◌, cond}
 use Rattle.std.proofs.lemmas.List.{take-append-drop, drop-drop, length-take, length-drop, take_all}
-use Rattle.std.proofs.Math.Nat.{pow-suc, pow-le-pow_right, mul-le-mul}
-use Rattle.std.proofs.Common.{Result, not, nat_lt, ◌==◌, cond}
-use Rattle.std.specs.Str.Parse.{starts_with_minus, without_leading_sign}
-use Rattle.std.proofs.lemmas.Bool.{lt-ltb, cases_lt, cases_eq, eqb-true}
 use Rattle.std.proofs.lemmas.List.{get_or-take, get_or-drop, take-take, drop-take}
-use Rattle.std.proofs.lemmas.List.Sums.{prefix_len_is}
-use Rattle.vipr_spec.specs.Fraction.{ℚ}
-use Rattle.vipr_spec.specs.Tokens.{is_white}
+use Rattle.std.proofs.Math.Nat.{pow-suc, pow-le-pow_right, mul-le-mul}
+use Rattle.std.proofs.lemmas.Bool.{lt-ltb, cases_lt, cases_eq, eqb-true}
+use Rattle.std.proofs.{lemmas.Bool.Decides.nat_tests, lemmas.List.Sums.prefix_len_is}
+use Rattle.std.specs.Str.Parse.{starts_with_minus, without_leading_sign}
 use Rattle.vipr_spec.specs.Number.{is_slash, slash_place, top_of, bottom_of, of_parts, number_read}
-use Rattle.vipr_spec.proofs.Laws.{natural_of_some, next_other}
-use Rattle.vipr_frac.specs.Reading.{as_read}
-use Rattle.vipr_frac.specs.declared.number.NumberError.{NumberError}
-use Rattle.vipr_frac.proofs.Parsed.{read_parts}
 use Rattle.vipr_spec.specs.Digits.{natural_of, natural_after, is_digit}
+use Rattle.vipr_spec.specs.{Fraction.ℚ, Tokens.is_white}
+use Rattle.vipr_spec.proofs.Laws.{natural_of_some, next_other}
+use Rattle.vipr_frac.specs.{Reading.as_read, declared.number.NumberError.NumberError}
+use Rattle.vipr_frac.proofs.Parsed.{read_parts}
 
 -- n and k digits stand in front of those of m
 shifted : (n k m v : ℕ) (xs ys : List ℕ) → natural_after m xs ≡ Some v

@@ -2,15 +2,13 @@
 use mir.Val.{bits}
 use Rattle.std.proofs.Common.{◌≡◌, ℕ, zero, suc, ◌+◌, ◌*◌, ◌/◌, ◌%◌, ◌^◌, ◌-◌, ◌<◌, ◌≤◌, sym, ap}
 use Rattle.std.proofs.Common.{ap₂, subst, ◌∙◌, arith, min, inl, inr}
-use Rattle.std.specs.Int.{◌∣◌, bit_at, abs_diff, trailing_zeros, Width}
 use Rattle.std.proofs.Math.Nat.{mul_comm, mul_assoc, add-mul, mul-one, pow-suc, dvd-mul_right}
 use Rattle.std.proofs.Math.Nat.{dvd-sub, div-add-mod'}
-use Rattle.std.proofs.lemmas.Bool.{cases_lt}
-use Rattle.std.proofs.lemmas.Nat.{shr-shr}
 use Rattle.std.proofs.lemmas.Nat.Gcd.{IsGcd-from_sub, dvd_trans}
 use Rattle.std.proofs.lemmas.Nat.Bits.{bit_at_lowest, bit_at-suc, bit_at-trailing_zeros}
-use Rattle.vipr_spec.specs.Gcd.{gcd}
-use Rattle.vipr_spec.specs.GcdLaws.{gcd_is, gcd-scaled}
+use Rattle.std.proofs.{lemmas.Bool.cases_lt, lemmas.Nat.shr-shr}
+use Rattle.std.specs.Int.{◌∣◌, bit_at, abs_diff, trailing_zeros, Width}
+use Rattle.vipr_spec.specs.{Gcd.gcd, GcdLaws.gcd_is, GcdLaws.gcd-scaled}
 use Rattle.vipr_frac.proofs.Steps.{gcd-same, gcd-swap}
 
 -- ---- an odd number has no factor 2

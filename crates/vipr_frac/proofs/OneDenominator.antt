@@ -9,18 +9,14 @@ use Rattle.std.proofs.Math.Nat.{mul-le-mul_left, le_of_mul-le-mul_right}
 use Rattle.std.proofs.lemmas.Int.{ints, unsigned_abs-mul, fits_signed_from_abs, int_wrap_fits}
 use Rattle.std.proofs.lemmas.Int.{int_wrap-add_left, wrapping_add_is}
 use Rattle.std.proofs.lemmas.Nat.Gcd.{le_of_dvd}
-use Rattle.vipr_spec.specs.Gcd.{gcd}
-use Rattle.vipr_spec.specs.GcdLaws.{gcd_is, gcd-scaled}
-use Rattle.vipr_spec.specs.Lowest.{abs_div}
 use Rattle.vipr_spec.specs.Fraction.{ℚ, over, most, ◌+ℚ◌, ◌*ℚ◌, zero_ℚ, IsBounded, SumFits}
 use Rattle.vipr_spec.specs.Fraction.{ProductFits}
+use Rattle.vipr_spec.specs.{Gcd.gcd, GcdLaws.gcd_is, GcdLaws.gcd-scaled, Lowest.abs_div}
 use Rattle.vipr_spec.proofs.Laws.{Is, is_one, is_over, is_zero, over_equal}
 use Rattle.vipr_frac.specs.Parts.{FitsSum, left_part, right_part, both_parts, sum_gcd, sum_denom}
-use Rattle.vipr_frac.proofs.Steps.{gcd-some, gcd-swap}
 use Rattle.vipr_frac.proofs.Sums.{sum-numer, sum-denom, SumFits-parts}
-use Rattle.vipr_frac.proofs.Small.{numer_bound}
-use Rattle.vipr_frac.proofs.Unreduced.{word_abs, is_product}
-use Rattle.vipr_frac.proofs.Views.{over-parts, IsReduced-over}
+use Rattle.vipr_frac.proofs.{Small.numer_bound, Steps.gcd-some, Steps.gcd-swap, Unreduced.word_abs}
+use Rattle.vipr_frac.proofs.{Unreduced.is_product, Views.over-parts, Views.IsReduced-over}
 
 -- the denominator in lowest terms divides each other one
 denom_divides : (x : ℚ) (p : ℤ) (n : ℕ) → 0 < n → over p n ≡ x → x.denom ∣ n

@@ -1,13 +1,10 @@
 -- What the parts of a text give is what is read from it, and what it spells.
 use Rattle.std.proofs.Common.{◌≡◌, ℕ, Bool, List, Result, Ok, Err, sym, ◌∙◌, ap}
-use Rattle.std.specs.Prelude.{◌↔◌}
-use Rattle.std.specs.Str.Parse.{starts_with_minus, without_leading_sign}
-use Rattle.vipr_spec.specs.Fraction.{ℚ}
-use Rattle.vipr_spec.specs.Digits.{natural_of}
+use Rattle.std.specs.{Prelude.◌↔◌, Str.Parse.starts_with_minus, Str.Parse.without_leading_sign}
 use Rattle.vipr_spec.specs.Number.{SpellsNumber, number_read, of_parts, top_of, bottom_of}
+use Rattle.vipr_spec.specs.{Digits.natural_of, Fraction.ℚ}
 use Rattle.vipr_spec.proofs.Laws.{number_sound, number_complete}
-use Rattle.vipr_frac.specs.Reading.{as_read}
-use Rattle.vipr_frac.specs.declared.number.NumberError.{NumberError}
+use Rattle.vipr_frac.specs.{Reading.as_read, declared.number.NumberError.NumberError}
 
 pub read_parts : (bs cs : List ℕ) (is_negative : Bool) (r : Result ℚ NumberError)
     → is_negative ≡ starts_with_minus bs → cs ≡ without_leading_sign bs

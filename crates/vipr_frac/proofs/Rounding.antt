@@ -1,11 +1,9 @@
 -- The quotient of the numerator by the denominator is the whole number below a fraction.
 use Rattle.std.proofs.Common.{ℕ, ◌/◌, ◌<◌, ◌≤◌, ℤ, pos, negsuc, arith}
+use Rattle.std.proofs.{Math.Nat.div-le_self, lemmas.Int.ints, lemmas.Int.by_lt_z}
 use Rattle.std.specs.Prelude.{◌+ℤ◌, ◌*ℤ◌, ◌≤ℤ◌, ◌<ℤ◌, neg_ℤ, unsigned_abs}
 use Rattle.std.specs.Int.{int_div_euclid}
-use Rattle.std.proofs.lemmas.Int.{ints, by_lt_z}
-use Rattle.std.proofs.Math.Nat.{div-le_self}
-use Rattle.vipr_spec.specs.Fraction.{ℚ, neg_ℚ}
-use Rattle.vipr_spec.specs.FractionOrder.{IsFloor, IsCeil}
+use Rattle.vipr_spec.specs.{Fraction.ℚ, Fraction.neg_ℚ, FractionOrder.IsFloor, FractionOrder.IsCeil}
 use Rattle.vipr_spec.proofs.Laws.{mul-le_ℤ, neg-mul, add-mul_ℤ, is_whole, is_self, is_neg, le_in}
 use Rattle.vipr_spec.proofs.Laws.{le_out}
 

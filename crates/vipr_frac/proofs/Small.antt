@@ -5,9 +5,7 @@ use Rattle.std.specs.Prelude.{ℤ, pos, ◌+ℤ◌, ◌*ℤ◌, unsigned_abs, in
 use Rattle.std.specs.Int.{w128}
 use Rattle.std.proofs.Math.Nat.{le_trans, div-le_self, mul-le-mul}
 use Rattle.std.proofs.lemmas.Int.{ints, unsigned_abs-mul, fits_signed_from_abs}
-use Rattle.vipr_spec.specs.Gcd.{gcd}
-use Rattle.vipr_spec.specs.Lowest.{abs_div}
-use Rattle.vipr_spec.specs.Fraction.{ℚ, most}
+use Rattle.vipr_spec.specs.{Fraction.ℚ, Fraction.most, Gcd.gcd, Lowest.abs_div}
 use Rattle.vipr_frac.specs.Parts.{IsSmall, left_part, right_part, both_parts, sum_denom}
 use Rattle.vipr_frac.specs.Parts.{product_numer, product_denom, FitsSum, FitsProduct}
 use Rattle.vipr_frac.proofs.Views.{as-is}

@@ -4,8 +4,7 @@ use Rattle.std.specs.Int.{IsGcd, ◌∣◌}
 use Rattle.std.proofs.Math.Nat.{one-dvd, dvd_refl, pos_of_dvd_of_pos}
 use Rattle.std.proofs.lemmas.Nat.Gcd.{IsGcd-from_zero, IsGcd-from_mod, IsGcd-swap, same_from_IsGcd}
 use Rattle.std.proofs.lemmas.Nat.Gcd.{le_of_dvd}
-use Rattle.vipr_spec.specs.Gcd.{gcd}
-use Rattle.vipr_spec.specs.GcdLaws.{gcd_is}
+use Rattle.vipr_spec.specs.{Gcd.gcd, GcdLaws.gcd_is}
 
 pub gcd-same : (a b g : ℕ) → IsGcd a b g → gcd a b ≡ g
 gcd-same a b g h = same_from_IsGcd a b (gcd a b) g (gcd_is a b) h

@@ -1,18 +1,15 @@
 -- The steps of a sum and a product give the sum and the product.
 use Rattle.std.proofs.Common.{◌≡◌, ◌≤◌, ◌↔◌, ℕ, sym, ap, ap₂, subst, ◌∙◌, arith, to_z, of_z}
+use Rattle.std.proofs.{Math.Nat.le_trans, Math.Nat.div-le_self, lemmas.Int.ints}
 use Rattle.std.specs.Prelude.{ℤ, pos, ◌+ℤ◌, ◌*ℤ◌, unsigned_abs, int_div, Result, IsOk, IfOk}
 use Rattle.std.specs.Int.{w128}
-use Rattle.std.proofs.Math.Nat.{le_trans, div-le_self}
-use Rattle.std.proofs.lemmas.Int.{ints}
-use Rattle.vipr_spec.specs.Gcd.{gcd}
-use Rattle.vipr_spec.specs.Lowest.{IsLowest, abs_div}
 use Rattle.vipr_spec.specs.Fraction.{ℚ, over, whole, most, ◌+ℚ◌, ◌*ℚ◌, IsBounded, IsWhole, SumFits}
 use Rattle.vipr_spec.specs.Fraction.{ProductFits}
+use Rattle.vipr_spec.specs.{Gcd.gcd, Lowest.IsLowest, Lowest.abs_div}
 use Rattle.vipr_spec.proofs.Laws.{whole-add, whole-mul, sum_is, sum_lowest, product_is, parts_of}
 use Rattle.vipr_frac.specs.Parts.{IsReduced, left_part, right_part, both_parts, sum_gcd, sum_denom}
 use Rattle.vipr_frac.specs.Parts.{product_numer, product_denom, FitsSum, FitsProduct}
-use Rattle.vipr_frac.proofs.Steps.{gcd-one}
-use Rattle.vipr_frac.proofs.Views.{over-self, passed-on, WholeFacts}
+use Rattle.vipr_frac.proofs.{Steps.gcd-one, Views.over-self, Views.passed-on, Views.WholeFacts}
 
 -- ---- the sum
 sum-lowest : (x y : ℚ) → IsLowest (int_div (both_parts x y) (pos (sum_gcd x y))) (sum_denom x y)

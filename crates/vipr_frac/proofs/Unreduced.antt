@@ -1,20 +1,16 @@
 -- Sums of fractions whose parts are words of 64 bits, and needn't be in lowest terms.
 use Rattle.std.proofs.Common.{◌≡◌, ℕ, ◌*◌, ◌/◌, ◌%◌, ◌<◌, ◌≤◌, ◌^◌, refl, sym, ap, ap₂, ◌∙◌, arith}
 use Rattle.std.proofs.Common.{FitsSigned, pos_of_ne-zero, zero-mul}
+use Rattle.std.proofs.Math.Nat.{div-mul_cancel, mul_comm}
+use Rattle.std.proofs.{lemmas.Int.ints, lemmas.Nat.Gcd.dvd_of_mod-eq-zero}
 use Rattle.std.specs.Prelude.{ℤ, pos, ◌+ℤ◌, ◌*ℤ◌, unsigned_abs, Bool, true, false, Option, Some}
 use Rattle.std.specs.Prelude.{None, IsSome, IfSome, IsTrue, IsFalse, MatchOption}
 use Rattle.std.specs.Int.{w64}
-use Rattle.std.proofs.Math.Nat.{div-mul_cancel, mul_comm}
-use Rattle.std.proofs.lemmas.Int.{ints}
-use Rattle.std.proofs.lemmas.Nat.Gcd.{dvd_of_mod-eq-zero}
-use Rattle.vipr_spec.specs.Gcd.{gcd}
-use Rattle.vipr_spec.specs.GcdLaws.{gcd_is}
-use Rattle.vipr_spec.specs.Lowest.{abs_div}
 use Rattle.vipr_spec.specs.Fraction.{ℚ, over, ◌+ℚ◌, ◌*ℚ◌}
+use Rattle.vipr_spec.specs.{Gcd.gcd, GcdLaws.gcd_is, Lowest.abs_div}
 use Rattle.vipr_spec.proofs.Laws.{over_common}
 use Rattle.vipr_frac.specs.Parts.{IsSmall, AreWords}
-use Rattle.vipr_frac.proofs.Small.{quotient_bound, quotient_below}
-use Rattle.vipr_frac.proofs.Views.{over-parts}
+use Rattle.vipr_frac.proofs.{Small.quotient_bound, Small.quotient_below, Views.over-parts}
 
 -- ---- words
 pub word_abs : (z : ℤ) → FitsSigned w64 z → unsigned_abs z ≤ 2 ^ 63

@@ -1,17 +1,13 @@
 -- What the fields of a `Frac` say of the fraction that contracts see, and signed words that are
 -- passed on.
 use Rattle.std.proofs.Common.{◌≡◌, ℕ, zero, suc, ℤ, pos, ◌/◌, ◌<◌, ◌≤◌, refl, sym, ap, ◌∙◌, arith}
-use Rattle.std.proofs.Common.{to_z, of_z, int_div}
-use Rattle.std.specs.Prelude.{unsigned_abs, ◌*ℤ◌, ◌-ℤ◌, neg_ℤ}
-use Rattle.std.specs.Int.{w128}
-use Rattle.std.proofs.Common.{FitsSigned}
-use Rattle.std.specs.Prelude.{Result, Ok, Err, IsOk}
-use Rattle.std.specs.Result.{IsErr}
+use Rattle.std.proofs.Common.{to_z, of_z, int_div, FitsSigned}
 use Rattle.std.proofs.lemmas.Int.{ints, to_z-of_z, fits_signed_from_abs}
 use Rattle.std.proofs.Math.Nat.{div-le_self, le_trans}
-use Rattle.vipr_spec.specs.Gcd.{gcd}
-use Rattle.vipr_spec.specs.Lowest.{abs_div}
+use Rattle.std.specs.Prelude.{unsigned_abs, ◌*ℤ◌, ◌-ℤ◌, neg_ℤ, Result, Ok, Err, IsOk}
+use Rattle.std.specs.{Int.w128, Result.IsErr}
 use Rattle.vipr_spec.specs.Fraction.{ℚ, over, neg_ℚ, most, IsBounded}
+use Rattle.vipr_spec.specs.{Gcd.gcd, Lowest.abs_div}
 use Rattle.vipr_spec.proofs.Laws.{parts_of, is_one, is_neg, is_over}
 use Rattle.vipr_frac.specs.Parts.{IsReduced}
 use Rattle.vipr_frac.proofs.Steps.{gcd-one}

@@ -3,11 +3,9 @@
 use Rattle.std.proofs.Common.{◌≡◌, ℕ, ap, ◌∙◌, true}
 use Rattle.std.specs.Prelude.{◌++◌}
 use Rattle.std.specs.Hash as fed
-use Rattle.vipr_spec.specs.Fraction.{ℚ, over}
-use Rattle.vipr_spec.specs.FractionOrder.{eq_ℚ}
+use Rattle.vipr_spec.specs.{Fraction.ℚ, Fraction.over, FractionOrder.eq_ℚ}
 use Rattle.vipr_spec.proofs.Laws.{parts_of, eq_is}
-use Rattle.vipr_frac.specs.declared.frac.Frac.TheInside.{Inside}
-use Rattle.vipr_frac.specs.Parts.{IsReduced}
+use Rattle.vipr_frac.specs.{Parts.IsReduced, declared.frac.Frac.TheInside.Inside}
 
 pub inverse_is : (a : Inside) → IsReduced a.p a.q
     → record { p = (over a.p a.q).numer; q = (over a.p a.q).denom } ≡ a

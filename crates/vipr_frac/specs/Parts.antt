@@ -4,8 +4,7 @@ use Rattle.std.specs.Prelude.{unsigned_abs, int_div, FitsSigned, Result, IsOk, O
 use Rattle.std.specs.Prelude.{Bool, IsTrue, IsFalse}
 use Rattle.std.specs.Int.{w64}
 use Rattle.vipr_spec.specs.Fraction.{ℚ, most, ◌+ℚ◌, ◌*ℚ◌, ProductFits, SumFits}
-use Rattle.vipr_spec.specs.Gcd.{gcd}
-use Rattle.vipr_spec.specs.Lowest.{IsLowest}
+use Rattle.vipr_spec.specs.{Gcd.gcd, Lowest.IsLowest}
 
 -- p / q is in lowest terms and bounded
 pub record IsReduced (p : ℤ) (q : ℕ) : Type 0 where

@@ -1,9 +1,8 @@
 -- What `Frac::parse` answers, in the words of how numbers are read.
 use Rattle.std.specs.Prelude.{◌≡◌, ℕ, ◌<◌, ◌≤◌, List, Result, Ok, Err, Some, true, take, length}
 use Rattle.std.specs.Prelude.{slice_index}
-use Rattle.vipr_spec.specs.Fraction.{ℚ}
-use Rattle.vipr_spec.specs.Digits.{natural_after, is_digit}
 use Rattle.vipr_spec.specs.Number.{NumberFault, not_a_number, too_large, zero_denominator}
+use Rattle.vipr_spec.specs.{Digits.natural_after, Digits.is_digit, Fraction.ℚ}
 use Rattle.vipr_frac.specs.declared.number.NumberError.{NumberError}
 use Rattle.vipr_frac.specs.declared.number.NumberError.TheVariants.{Bad, TooLarge, ZeroDenominator}
 

@@ -5,11 +5,9 @@
 //! refused with [`Overflow`], and its contract says exactly when. Comparison, `floor` and `ceil`
 //! are exact and never refused. In contracts a `Frac` is the fraction itself.
 ghost use Rattle.std.specs.Prelude.{◌≡◌, ℤ, pos, ◌+◌, ◌*◌, ◌^◌, ◌<◌, ◌≤◌, ◌+ℤ◌, ◌*ℤ◌, ◌<ℤ◌};
-ghost use Rattle.std.specs.Prelude.{unsigned_abs, int_div, ◌↔◌, ◌⊎◌, IsOk, IfOk, IsTrue};
-ghost use Rattle.std.specs.Prelude.{IsSome, IfSome, FitsSigned};
-ghost use Rattle.std.specs.Int.{w128};
-ghost use Rattle.std.specs.Ordering.{nat_cmp, int_cmp};
-ghost use Rattle.std.specs.Ordering.{int_eq};
+ghost use Rattle.std.specs.Prelude.{unsigned_abs, int_div, ◌↔◌, ◌⊎◌, IsOk, IfOk, IsTrue, IsSome};
+ghost use Rattle.std.specs.Prelude.{IfSome, FitsSigned};
+ghost use Rattle.std.specs.{Int.w128, Ordering.nat_cmp, Ordering.int_cmp, Ordering.int_eq};
 ghost use Rattle.vipr_spec.specs.Fraction.{most, over, whole, zero_ℚ, neg_ℚ, ◌+ℚ◌, ◌*ℚ◌, IsBounded};
 ghost use Rattle.vipr_spec.specs.Fraction.{IsWhole, SumFits, ProductFits};
 ghost use Rattle.vipr_spec.specs.FractionOrder.{IsFloor, IsCeil, eq_ℚ};

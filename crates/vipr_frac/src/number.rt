@@ -2,15 +2,13 @@
 ghost use Rattle.std.specs.Prelude.{◌≡◌, ℕ, ◌+◌, ◌-◌, ◌^◌, ◌<◌, ◌≤◌, ◌⊎◌, ◌↔◌, min, MatchOption};
 ghost use Rattle.std.specs.Prelude.{IfSome, IsOk, OnOk, OnErr, length, ◌++◌, vec_len, vec_capacity};
 ghost use Rattle.std.specs.Prelude.{take, true, false, Some, Ok, None, slice_index};
-ghost use Rattle.std.specs.Option.{option_map};
-ghost use Rattle.std.specs.List.{position};
 ghost use Rattle.std.specs.Str.Parse.{without_leading_sign, starts_with_minus};
-ghost use Rattle.vipr_spec.specs.Fraction.{ℚ, most};
+ghost use Rattle.std.specs.{List.position, Option.option_map};
 ghost use Rattle.vipr_spec.specs.Digits.{natural_of, natural_after, is_digit};
-ghost use Rattle.vipr_spec.specs.Tokens.{is_white};
 ghost use Rattle.vipr_spec.specs.Number.{SpellsNumber, is_slash, slash_place, top_of, bottom_of};
 ghost use Rattle.vipr_spec.specs.Number.{signed_integer, written_fraction, of_parts, number_read};
 ghost use Rattle.vipr_spec.specs.Number.{number_text};
+ghost use Rattle.vipr_spec.specs.{Fraction.ℚ, Fraction.most, Tokens.is_white};
 ghost use Rattle.vipr_frac.specs.Reading.{as_read, IsLoneDigit};
 
 use crate::frac::{Frac, of_whole, reduced, reduced_words};

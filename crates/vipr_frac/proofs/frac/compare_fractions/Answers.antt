@@ -1,7 +1,5 @@
 use Rattle.std.proofs.Common.{pos, sym, ap, ◌∙◌, ℕ}
-use Rattle.std.specs.Prelude.{◌*ℤ◌}
-use Rattle.std.specs.Ordering.{int_cmp}
-use Rattle.std.specs.Int.{w128}
+use Rattle.std.specs.{Int.w128, Ordering.int_cmp, Prelude.◌*ℤ◌}
 use Rattle.std.proofs.lemmas.Int.{to_z-of_z}
 use Rattle.vipr_frac.proofs.Compared.{int_cmp-scale}
 use Rattle.vipr_frac.proofs.frac.compare_fractions.Goals as goal

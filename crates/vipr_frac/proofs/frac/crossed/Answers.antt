@@ -1,11 +1,8 @@
-use Rattle.std.proofs.Common.{◌≡◌, ◌∙◌}
-use Rattle.std.specs.Prelude.{unsigned_abs}
-use Rattle.std.specs.Int.{w128}
-use Rattle.std.proofs.lemmas.Int.{to_z-of_z}
+use Rattle.std.proofs.{Common.◌≡◌, Common.◌∙◌, lemmas.Int.to_z-of_z}
+use Rattle.std.specs.{Int.w128, Prelude.unsigned_abs}
 use Rattle.vipr_spec.specs.Gcd.{gcd}
-use Rattle.vipr_frac.proofs.Views.{facts_of, Facts}
+use Rattle.vipr_frac.proofs.{Views.facts_of, Views.Facts, frac.crossed.Goals.After-quotient-2}
 use Rattle.vipr_frac.proofs.frac.crossed.Goals as goal
-use Rattle.vipr_frac.proofs.frac.crossed.Goals.{After-quotient-2}
 
 module _ (c : After-quotient-2) where
   a : Facts c.args.a c.parts-p.result.0 c.parts-p.result.1

@@ -1,13 +1,11 @@
 use Rattle.std.proofs.Common.{◌≡◌, ◌∙◌, refl, to_z, of_z}
-use Rattle.std.specs.Prelude.{◌*ℤ◌}
-use Rattle.std.specs.Int.{w128}
+use Rattle.std.specs.{Int.w128, Prelude.◌*ℤ◌}
 use Rattle.std.proofs.lemmas.Bool.{false≢true}
 use Rattle.vipr_frac.specs.Parts.{product_numer, product_denom, FitsProduct}
-use Rattle.vipr_frac.proofs.Sums.{product-is, IsReduced-product, ProductFits-parts}
-use Rattle.vipr_frac.proofs.Sums.{FitsProduct-from}
 use Rattle.vipr_frac.proofs.Views.{as-is, words_times, refused}
+use Rattle.vipr_frac.proofs.{Sums.product-is, Sums.IsReduced-product, Sums.ProductFits-parts}
+use Rattle.vipr_frac.proofs.{Sums.FitsProduct-from, frac.product_by_parts.Goals.In_ok-below}
 use Rattle.vipr_frac.proofs.frac.product_by_parts.Goals as goal
-use Rattle.vipr_frac.proofs.frac.product_by_parts.Goals.{In_ok-below}
 
 pub returns-in_err-above-clause-fits : goal.returns-in_err-above-clause-fits
 returns-in_err-above-clause-fits c = (

@@ -1,9 +1,7 @@
 use Rattle.std.proofs.Common.{◌≡◌, ℕ, ◌/◌, pos, sym, ap, ◌∙◌, to_z, of_z}
-use Rattle.std.specs.Prelude.{int_div, unsigned_abs}
-use Rattle.std.specs.Int.{w128}
+use Rattle.std.specs.{Int.w128, Prelude.int_div, Prelude.unsigned_abs}
 use Rattle.std.proofs.lemmas.Int.{to_z-of_z}
-use Rattle.vipr_spec.specs.Gcd.{gcd}
-use Rattle.vipr_spec.specs.Fraction.{over}
+use Rattle.vipr_spec.specs.{Fraction.over, Gcd.gcd}
 use Rattle.vipr_frac.proofs.Views.{IsReduced-over, over-parts, over-self}
 use Rattle.vipr_frac.proofs.frac.reduced.Goals as goal
 use Rattle.vipr_frac.proofs.frac.reduced.Goals.{After-quotient}

@@ -1,15 +1,11 @@
 use Rattle.std.proofs.Common.{◌≡◌, ℕ, ◌/◌, ◌≤◌, pos, sym, ap, ◌∙◌, arith, to_z, of_z, lit≤}
-use Rattle.std.specs.Prelude.{int_div, unsigned_abs}
-use Rattle.std.specs.Int.{w64, w128}
-use Rattle.std.proofs.Math.Nat.{le_trans}
-use Rattle.std.proofs.lemmas.Int.{to_z-of_z}
-use Rattle.vipr_spec.specs.Gcd.{gcd}
-use Rattle.vipr_spec.specs.Fraction.{over, most}
-use Rattle.vipr_frac.proofs.Steps.{gcd-rest}
-use Rattle.vipr_frac.proofs.Unreduced.{word_abs}
+use Rattle.std.proofs.{Math.Nat.le_trans, lemmas.Int.to_z-of_z}
+use Rattle.std.specs.{Int.w64, Int.w128, Prelude.int_div, Prelude.unsigned_abs}
+use Rattle.vipr_spec.specs.{Fraction.over, Fraction.most, Gcd.gcd}
 use Rattle.vipr_frac.proofs.Views.{IsReduced-over, over-parts, over-self}
-use Rattle.vipr_frac.proofs.frac.reduced_words.Goals as goal
 use Rattle.vipr_frac.proofs.frac.reduced_words.Goals.{After-from-3}
+use Rattle.vipr_frac.proofs.{Steps.gcd-rest, Unreduced.word_abs}
+use Rattle.vipr_frac.proofs.frac.reduced_words.Goals as goal
 
 g_is : (c : After-from-3) → c.word_gcd-g.result ≡ gcd (unsigned_abs c.args.p) c.args.q
 g_is c = c.word_gcd-g.ensures.value ∙ ap (λ n. gcd n c.args.q) c.word_rest.ensures ∙ gcd-rest _ c.args.q ∙ ap (λ n. gcd n c.args.q) (c.unsigned_abs.ensures.value ∙ ap unsigned_abs (to_z-of_z w64 c.args.p c.ranges.p))

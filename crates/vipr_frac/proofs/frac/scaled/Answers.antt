@@ -1,6 +1,5 @@
-use Rattle.std.proofs.Common.{pos}
+use Rattle.std.proofs.{Common.pos, lemmas.Int.to_z-of_z}
 use Rattle.std.specs.Int.{w128}
-use Rattle.std.proofs.lemmas.Int.{to_z-of_z}
 use Rattle.vipr_frac.proofs.Views.{as-is}
 use Rattle.vipr_frac.proofs.frac.scaled.Goals as goal
 

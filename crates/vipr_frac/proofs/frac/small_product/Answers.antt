@@ -1,13 +1,11 @@
 use Rattle.std.proofs.Common.{◌≡◌, ◌∙◌, ap, arith, to_z, of_z}
-use Rattle.std.specs.Prelude.{◌*ℤ◌}
-use Rattle.std.specs.Int.{w128}
+use Rattle.std.specs.{Int.w128, Prelude.◌*ℤ◌}
 use Rattle.vipr_frac.specs.Parts.{product_numer}
 use Rattle.vipr_frac.proofs.Sums.{product-is, IsReduced-product, ProductFits-parts}
-use Rattle.vipr_frac.proofs.Small.{word_fits, small_product_fits, product_numer_small}
-use Rattle.vipr_frac.proofs.Small.{product_denom_small}
-use Rattle.vipr_frac.proofs.Views.{as-is, words_times}
+use Rattle.vipr_frac.proofs.{Small.word_fits, Small.small_product_fits, Small.product_numer_small}
+use Rattle.vipr_frac.proofs.{Small.product_denom_small, Views.as-is, Views.words_times}
+use Rattle.vipr_frac.proofs.{frac.small_product.Goals.After-crossed-p}
 use Rattle.vipr_frac.proofs.frac.small_product.Goals as goal
-use Rattle.vipr_frac.proofs.frac.small_product.Goals.{After-crossed-p}
 
 module _ (c : After-crossed-p) where
   numer_is : to_z w128 (of_z w128 c.crossed-p.result.0) *ℤ to_z w128 (of_z w128 c.crossed-p.result.1) ≡ product_numer c.args.a c.args.b

@@ -1,14 +1,12 @@
 use Rattle.std.proofs.Common.{◌≡◌, ◌*◌, pos, ◌∙◌, to_z, of_z}
-use Rattle.std.specs.Prelude.{int_div}
-use Rattle.std.specs.Int.{w128}
+use Rattle.std.specs.{Int.w128, Prelude.int_div}
 use Rattle.std.proofs.lemmas.Int.{to_z-of_z}
 use Rattle.vipr_spec.specs.Gcd.{gcd}
 use Rattle.vipr_frac.specs.Parts.{both_parts, sum_gcd, sum_denom}
-use Rattle.vipr_frac.proofs.Sums.{sum-is, IsReduced-sum}
 use Rattle.vipr_frac.proofs.Small.{left_fits, right_fits, both_fits, both_back, small_sum_fits}
-use Rattle.vipr_frac.proofs.Views.{facts_of, Facts}
-use Rattle.vipr_frac.proofs.frac.small_sum.Goals as goal
 use Rattle.vipr_frac.proofs.frac.small_sum.Goals.{After-quotient-4}
+use Rattle.vipr_frac.proofs.{Sums.sum-is, Sums.IsReduced-sum, Views.facts_of, Views.Facts}
+use Rattle.vipr_frac.proofs.frac.small_sum.Goals as goal
 
 pub overflow_mul-left : goal.overflow_mul-left
 overflow_mul-left c =

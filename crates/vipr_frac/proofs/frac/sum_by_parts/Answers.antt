@@ -1,8 +1,6 @@
 use Rattle.std.proofs.Common.{◌≡◌, ◌*◌, pos, ◌∙◌, refl, to_z, of_z}
-use Rattle.std.specs.Prelude.{int_div}
-use Rattle.std.specs.Int.{w128}
-use Rattle.std.proofs.lemmas.Int.{to_z-of_z}
-use Rattle.std.proofs.lemmas.Bool.{false≢true}
+use Rattle.std.proofs.{lemmas.Bool.false≢true, lemmas.Int.to_z-of_z}
+use Rattle.std.specs.{Int.w128, Prelude.int_div}
 use Rattle.vipr_spec.specs.Gcd.{gcd}
 use Rattle.vipr_frac.specs.Parts.{both_parts, sum_gcd, sum_denom, FitsParts, FitsSum}
 use Rattle.vipr_frac.proofs.Sums.{sum-is, IsReduced-sum}

@@ -1,11 +1,8 @@
 use Rattle.std.proofs.Common.{◌≡◌, ◌/◌, ◌∙◌, subst, refl, to_z, of_z, ℕ, ℤ, ◌≤◌, pos}
-use Rattle.std.specs.Prelude.{◌+ℤ◌, ◌*ℤ◌, unsigned_abs}
-use Rattle.std.specs.Int.{w128}
-use Rattle.vipr_spec.specs.Fraction.{ℚ, most}
-use Rattle.vipr_spec.specs.Gcd.{gcd}
+use Rattle.std.specs.{Int.w128, Prelude.◌+ℤ◌, Prelude.◌*ℤ◌, Prelude.unsigned_abs}
+use Rattle.vipr_spec.specs.{Fraction.ℚ, Fraction.most, Gcd.gcd}
 use Rattle.vipr_frac.specs.Parts.{left_part, right_part, both_parts}
-use Rattle.vipr_frac.proofs.Steps.{gcd-some}
-use Rattle.vipr_frac.proofs.Views.{as-is, facts_of, Facts}
+use Rattle.vipr_frac.proofs.{Steps.gcd-some, Views.as-is, Views.facts_of, Views.Facts}
 use Rattle.vipr_frac.proofs.frac.sum_of_parts.Goals as goal
 
 pub quotient-requires : goal.quotient-requires

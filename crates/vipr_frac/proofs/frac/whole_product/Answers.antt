@@ -1,7 +1,5 @@
-use Rattle.std.proofs.Common.{◌≤◌, ◌∙◌, ap, refl}
-use Rattle.std.specs.Prelude.{unsigned_abs}
-use Rattle.std.specs.Int.{w128}
-use Rattle.std.proofs.lemmas.Int.{to_z-of_z}
+use Rattle.std.proofs.{Common.◌≤◌, Common.◌∙◌, Common.ap, Common.refl, lemmas.Int.to_z-of_z}
+use Rattle.std.specs.{Int.w128, Prelude.unsigned_abs}
 use Rattle.vipr_spec.specs.Fraction.{most, whole}
 use Rattle.vipr_frac.proofs.Views.{as-is}
 use Rattle.vipr_frac.proofs.frac.whole_product.Goals as goal

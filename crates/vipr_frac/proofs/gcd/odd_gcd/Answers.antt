@@ -1,8 +1,7 @@
 use Rattle.std.proofs.Common.{◌%◌, ◌<◌, ap, ap₂, sym, ◌∙◌, arith, pos_of_ne-zero}
 use Rattle.std.specs.Int.{w64}
 use Rattle.vipr_spec.specs.Gcd.{gcd}
-use Rattle.vipr_frac.proofs.Steps.{gcd-end}
-use Rattle.vipr_frac.proofs.Halving.{halved}
+use Rattle.vipr_frac.proofs.{Halving.halved, Steps.gcd-end}
 use Rattle.vipr_frac.proofs.gcd.odd_gcd.Goals as goal
 
 pub loop-y-preserved : goal.loop-y-preserved

@@ -2,8 +2,7 @@ use Rattle.std.proofs.Common.{◌≡◌, ◌*◌, ◌%◌, ◌<◌, ◌^◌, ap,
 use Rattle.std.proofs.Math.Nat.{mod-eq_of_lt}
 use Rattle.std.specs.Int.{w128}
 use Rattle.vipr_spec.specs.Gcd.{gcd}
-use Rattle.vipr_frac.proofs.Steps.{gcd-at_most}
-use Rattle.vipr_frac.proofs.Halving.{halved, odd_is, twos_back}
+use Rattle.vipr_frac.proofs.{Halving.halved, Halving.odd_is, Halving.twos_back, Steps.gcd-at_most}
 use Rattle.vipr_frac.proofs.gcd.wide_gcd.Goals as goal
 
 pub loop-y-init : goal.loop-y-init

@@ -3,9 +3,8 @@ use Rattle.std.proofs.Math.Nat.{mod-eq_of_lt}
 use Rattle.std.specs.Int.{w64}
 use Rattle.vipr_spec.specs.Gcd.{gcd}
 use Rattle.vipr_frac.proofs.Steps.{zero-gcd, gcd-some, gcd-at_most}
-use Rattle.vipr_frac.proofs.Halving.{odd_is, twos_back}
+use Rattle.vipr_frac.proofs.{Halving.odd_is, Halving.twos_back, gcd.word_gcd.Goals.After-min}
 use Rattle.vipr_frac.proofs.gcd.word_gcd.Goals as goal
-use Rattle.vipr_frac.proofs.gcd.word_gcd.Goals.{After-min}
 
 pub returns-then-a-eq0-clause-value : goal.returns-then-a-eq0-clause-value
 returns-then-a-eq0-clause-value c = sym (ap (λ n. gcd n c.args.b) c.if-a-eq0.true ∙ zero-gcd c.args.b)

@@ -1,7 +1,6 @@
 use Rattle.std.proofs.Common.{◌≡◌, ℕ, ◌+◌, ◌-◌, ◌<◌, List, length, take, drop, ◌∙◌, arith}
 use Rattle.std.proofs.Common.{length-drop}
-use Rattle.std.proofs.lemmas.Bool.Decides.{nat_tests}
-use Rattle.std.proofs.lemmas.List.{take_all}
+use Rattle.std.proofs.{lemmas.Bool.Decides.nat_tests, lemmas.List.take_all}
 use Rattle.vipr_spec.specs.Number.{slash_place, bottom_of}
 use Rattle.vipr_frac.proofs.number.bottom.Goals as goal
 

@@ -1,9 +1,7 @@
 use Rattle.std.proofs.Common.{◌≡◌, ℕ, ℤ, ◌≤◌, Bool, true, false, Ok, Err, sym, ap, ◌∙◌, arith, to_z}
 use Rattle.std.proofs.Common.{of_z}
-use Rattle.std.specs.Prelude.{unsigned_abs}
-use Rattle.std.specs.Int.{w128}
-use Rattle.std.proofs.lemmas.Bool.Decides.{nat_tests}
-use Rattle.std.proofs.lemmas.Int.{ints}
+use Rattle.std.proofs.{lemmas.Bool.Decides.nat_tests, lemmas.Int.ints}
+use Rattle.std.specs.{Int.w128, Prelude.unsigned_abs}
 use Rattle.vipr_spec.specs.Fraction.{most, over}
 use Rattle.vipr_spec.specs.Number.{signed_integer, written_fraction, zero_denominator}
 use Rattle.vipr_frac.proofs.Views.{as-is}

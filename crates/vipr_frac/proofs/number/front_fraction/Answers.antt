@@ -1,10 +1,8 @@
 use Rattle.std.proofs.Common.{◌≡◌, ℕ, ◌≤◌, Bool, Some, Ok, take, sym, ap, ◌∙◌, arith, to_z, of_z}
+use Rattle.std.proofs.{lemmas.Bool.Decides.nat_tests, lemmas.Int.to_z-of_z}
 use Rattle.std.specs.Int.{w64}
-use Rattle.std.proofs.lemmas.Bool.Decides.{nat_tests}
-use Rattle.std.proofs.lemmas.Int.{to_z-of_z}
-use Rattle.vipr_spec.specs.Digits.{natural_of}
-use Rattle.vipr_spec.specs.Fraction.{most, over}
 use Rattle.vipr_spec.specs.Number.{of_parts, signed_integer, written_fraction}
+use Rattle.vipr_spec.specs.{Digits.natural_of, Fraction.most, Fraction.over}
 use Rattle.vipr_frac.proofs.Fronts.{front_value}
 use Rattle.vipr_frac.proofs.number.front_fraction.Goals as goal
 

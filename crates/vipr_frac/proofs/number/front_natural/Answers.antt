@@ -2,9 +2,8 @@ use Rattle.std.proofs.Common.{◌≡◌, ℕ, ◌+◌, ◌-◌, ◌*◌, ◌^◌
 use Rattle.std.proofs.Common.{drop, length, arith, sym, subst, ◌∙◌, inl, inr, ap, zero-lt-suc}
 use Rattle.std.proofs.Common.{add-one}
 use Rattle.std.proofs.lemmas.List.{length-take, get_or-take}
-use Rattle.std.proofs.lemmas.Bool.{cases_lt}
-use Rattle.std.proofs.lemmas.Bool.Decides.{nat_tests}
 use Rattle.std.proofs.Math.Nat.{pow-le-pow_right, pow-suc}
+use Rattle.std.proofs.{lemmas.Bool.cases_lt, lemmas.Bool.Decides.nat_tests}
 use Rattle.vipr_spec.specs.Digits.{natural_after, is_digit}
 use Rattle.vipr_spec.proofs.Laws.{next_digit, at_end}
 use Rattle.vipr_frac.proofs.number.front_natural.Goals as goal

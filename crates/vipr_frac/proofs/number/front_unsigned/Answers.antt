@@ -2,10 +2,8 @@ use Rattle.std.proofs.Common.{◌≡◌, ◌+◌, ◌<◌, ◌^◌, ℕ, Some, O
 use Rattle.std.proofs.Common.{to_z, of_z}
 use Rattle.std.specs.Int.{w64, w128}
 use Rattle.std.proofs.lemmas.Int.{to_z-of_z}
-use Rattle.vipr_spec.specs.Fraction.{whole}
 use Rattle.vipr_spec.specs.Number.{signed_integer}
-use Rattle.vipr_spec.specs.Tokens.{is_white}
-use Rattle.vipr_spec.specs.Digits.{natural_of}
+use Rattle.vipr_spec.specs.{Digits.natural_of, Fraction.whole, Tokens.is_white}
 use Rattle.vipr_spec.proofs.Laws.{plain_number}
 use Rattle.vipr_frac.proofs.Fronts.{front_value, fraction_solid, fraction_value, onward, solid}
 use Rattle.vipr_frac.proofs.number.front_unsigned.Goals as goal

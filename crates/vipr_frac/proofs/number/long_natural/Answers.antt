@@ -1,10 +1,8 @@
 use Rattle.std.proofs.Common.{rules, ◌≡◌, ◌≢◌, ◌⊎◌, ℕ, ◌+◌, ◌-◌, ◌*◌, ◌^◌, ◌<◌, ◌≤◌, min, get_or}
 use Rattle.std.proofs.Common.{length, drop, Some, false, arith, refl, sym, subst, ◌∙◌, ap, inl, inr}
+use Rattle.std.proofs.{Math.Nat.min_comm, lemmas.List.length-drop, lemmas.List.get_or-drop}
 use Rattle.std.specs.Option.{option_map}
-use Rattle.std.proofs.Math.Nat.{min_comm}
-use Rattle.std.proofs.lemmas.List.{length-drop, get_or-drop}
-use Rattle.vipr_spec.specs.Fraction.{most}
-use Rattle.vipr_spec.specs.Digits.{natural_after, is_digit}
+use Rattle.vipr_spec.specs.{Digits.natural_after, Digits.is_digit, Fraction.most}
 use Rattle.vipr_spec.proofs.Laws.{natural_of_empty, natural_of_some, next_digit, next_other, at_end}
 use Rattle.vipr_frac.proofs.Fronts.{behind, onward, other, part_fits}
 use Rattle.vipr_frac.proofs.number.long_natural.Goals as goal

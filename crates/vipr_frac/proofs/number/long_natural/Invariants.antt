@@ -1,6 +1,5 @@
 use Rattle.std.proofs.Common.{◌≡◌, ◌≤◌, ◌+◌, ◌-◌, ℕ, min, drop, length}
-use Rattle.vipr_spec.specs.Fraction.{most}
-use Rattle.vipr_spec.specs.Digits.{natural_of, natural_after}
+use Rattle.vipr_spec.specs.{Digits.natural_of, Digits.natural_after, Fraction.most}
 use Rattle.vipr_frac.proofs.number.long_natural.Given as goal
 
 abbrev pub invariant-loop-from : goal.invariant-loop-from

@@ -1,8 +1,7 @@
 use Rattle.std.proofs.Common.{◌≡◌, ◌<◌, ◌^◌, sym, ◌∙◌, ap, arith, to_z, of_z, Ok}
 use Rattle.std.specs.Int.{w128}
 use Rattle.std.proofs.lemmas.Int.{to_z-of_z}
-use Rattle.vipr_spec.specs.Fraction.{whole}
-use Rattle.vipr_spec.specs.Number.{signed_integer}
+use Rattle.vipr_spec.specs.{Fraction.whole, Number.signed_integer}
 use Rattle.vipr_spec.proofs.Laws.{plain_number}
 use Rattle.vipr_frac.proofs.number.short_whole.Goals as goal
 

@@ -1,7 +1,6 @@
 use Rattle.std.proofs.Common.{◌≡◌, ◌∙◌, ap, sym, pos, ◌*ℤ◌, to_z, of_z, eq-eqb}
+use Rattle.std.proofs.{lemmas.Bool.eqb-true, lemmas.Int.to_z-of_z}
 use Rattle.std.specs.Int.{w64, w128}
-use Rattle.std.proofs.lemmas.Bool.{eqb-true}
-use Rattle.std.proofs.lemmas.Int.{to_z-of_z}
 use Rattle.vipr_frac.proofs.pairs.are_equal.Goals as goal
 
 pub returns : goal.returns

@@ -1,13 +1,10 @@
 use Rattle.std.proofs.Common.{◌≡◌, ◌≤◌, ◌∙◌, ap, pos, ◌+ℤ◌, ◌*ℤ◌, to_z, of_z}
-use Rattle.std.specs.Prelude.{unsigned_abs}
-use Rattle.std.specs.Int.{w64, w128}
+use Rattle.std.specs.{Int.w64, Int.w128, Prelude.unsigned_abs}
 use Rattle.std.proofs.lemmas.Int.{to_z-of_z}
 use Rattle.vipr_spec.specs.Fraction.{most}
 use Rattle.vipr_frac.proofs.Small.{word_fits, word_products}
-use Rattle.vipr_frac.proofs.Unreduced.{word_abs}
-use Rattle.vipr_frac.proofs.Views.{as-is}
+use Rattle.vipr_frac.proofs.{Unreduced.word_abs, Views.as-is, pairs.both.Goals.After-product-2}
 use Rattle.vipr_frac.proofs.pairs.both.Goals as goal
-use Rattle.vipr_frac.proofs.pairs.both.Goals.{After-product-2}
 
 module _ (c : After-product-2) where
   left : to_z w128 (of_z w128 c.product.result) ≡ c.args.p *ℤ pos c.args.u

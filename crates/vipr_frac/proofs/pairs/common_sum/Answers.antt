@@ -1,8 +1,6 @@
 use Rattle.std.proofs.Common.{rules, ◌≡◌, ◌*◌, ◌/◌, ◌<◌, pos, FitsSigned}
-use Rattle.std.specs.Prelude.{◌+ℤ◌, ◌*ℤ◌}
-use Rattle.std.specs.Int.{w64}
-use Rattle.std.proofs.Math.Nat.{mul-pos}
-use Rattle.std.proofs.lemmas.Int.{to_z-of_z}
+use Rattle.std.proofs.{Math.Nat.mul-pos, lemmas.Int.to_z-of_z}
+use Rattle.std.specs.{Int.w64, Prelude.◌+ℤ◌, Prelude.◌*ℤ◌}
 use Rattle.vipr_spec.specs.Fraction.{over, ◌+ℚ◌}
 use Rattle.vipr_frac.proofs.Unreduced.{common_sum, factor_some}
 use Rattle.vipr_frac.proofs.pairs.common_sum.Goals as goal

@@ -1,11 +1,9 @@
-use Rattle.std.proofs.Common.{◌≡◌, ◌∙◌}
-use Rattle.std.proofs.lemmas.Int.{to_z-of_z}
+use Rattle.std.proofs.{Common.◌≡◌, Common.◌∙◌, lemmas.Int.to_z-of_z}
 use Rattle.std.specs.Int.{w64}
 use Rattle.vipr_spec.specs.Gcd.{gcd}
-use Rattle.vipr_frac.proofs.Steps.{gcd-rest, gcd-swap}
 use Rattle.vipr_frac.proofs.Unreduced.{whole_factor, first_factor, second_factor}
+use Rattle.vipr_frac.proofs.{Steps.gcd-rest, Steps.gcd-swap, pairs.mixed_sum.Goals.After-word_gcd}
 use Rattle.vipr_frac.proofs.pairs.mixed_sum.Goals as goal
-use Rattle.vipr_frac.proofs.pairs.mixed_sum.Goals.{After-word_gcd}
 
 g_is : (c : After-word_gcd) → c.word_gcd.result ≡ gcd c.args.q c.args.s
 g_is c = c.word_gcd.ensures.value ∙ gcd-rest c.args.s c.args.q ∙ gcd-swap c.args.s c.args.q

@@ -1,13 +1,10 @@
 use Rattle.std.proofs.Common.{◌≡◌, ◌≤◌, ◌∙◌, pos, ◌*ℤ◌, to_z, of_z}
-use Rattle.std.specs.Prelude.{unsigned_abs}
-use Rattle.std.specs.Int.{w64, w128}
+use Rattle.std.specs.{Int.w64, Int.w128, Prelude.unsigned_abs}
 use Rattle.std.proofs.lemmas.Int.{to_z-of_z, to_z_pos}
 use Rattle.vipr_spec.specs.Fraction.{most}
 use Rattle.vipr_frac.proofs.Small.{word_fits, word_products}
-use Rattle.vipr_frac.proofs.Unreduced.{word_abs}
-use Rattle.vipr_frac.proofs.Views.{as-is}
+use Rattle.vipr_frac.proofs.{Unreduced.word_abs, Views.as-is, pairs.product.Goals.After-from-2}
 use Rattle.vipr_frac.proofs.pairs.product.Goals as goal
-use Rattle.vipr_frac.proofs.pairs.product.Goals.{After-from-2}
 
 module _ (c : After-from-2) where
   p_is : to_z w128 (of_z w128 c.from.result) ≡ c.args.p

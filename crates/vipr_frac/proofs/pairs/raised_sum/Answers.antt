@@ -1,6 +1,5 @@
-use Rattle.std.proofs.Common.{rules, FitsSigned}
+use Rattle.std.proofs.{Common.rules, Common.FitsSigned, lemmas.Int.to_z-of_z}
 use Rattle.std.specs.Int.{w64}
-use Rattle.std.proofs.lemmas.Int.{to_z-of_z}
 use Rattle.vipr_frac.proofs.Unreduced.{raised_sum}
 use Rattle.vipr_frac.proofs.pairs.raised_sum.Goals as goal
 

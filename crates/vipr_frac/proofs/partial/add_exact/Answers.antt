@@ -1,9 +1,8 @@
 use Rattle.std.proofs.Common.{rules, ◌≡◌, refl, ap, ◌∙◌}
 use Rattle.std.proofs.lemmas.Bool.{false≢true}
 use Rattle.vipr_spec.specs.Fraction.{over}
-use Rattle.vipr_frac.proofs.Views.{as-is, refused}
+use Rattle.vipr_frac.proofs.{Views.as-is, Views.refused, partial.add_exact.Goals.After-exact_sum}
 use Rattle.vipr_frac.proofs.partial.add_exact.Goals as goal
-use Rattle.vipr_frac.proofs.partial.add_exact.Goals.{After-exact_sum}
 
 left_is : (c : After-exact_sum) → c.of_parts.result ≡ over c.args.p c.args.q
 left_is c = c.of_parts.ensures ∙ ap (λ z. over z c.args.q) (as-is c.args.p c.requires.left.numer_bounded)

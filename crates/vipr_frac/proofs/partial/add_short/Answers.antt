@@ -1,12 +1,9 @@
 use Rattle.std.proofs.Common.{rules, ◌≡◌, ◌≤◌, ◌∙◌, refl, ap, subst, arith, pos, FitsSigned, lit≤}
 use Rattle.std.proofs.Common.{to_z, of_z}
-use Rattle.std.specs.Prelude.{unsigned_abs}
-use Rattle.std.specs.Int.{w64, w128, int_wrapping_add}
-use Rattle.std.proofs.Math.Nat.{le_trans}
-use Rattle.std.proofs.lemmas.Int.{to_z-of_z}
+use Rattle.std.proofs.{Math.Nat.le_trans, lemmas.Int.to_z-of_z}
+use Rattle.std.specs.{Int.w64, Int.w128, Int.int_wrapping_add, Prelude.unsigned_abs}
 use Rattle.vipr_spec.specs.Fraction.{over, most}
-use Rattle.vipr_frac.proofs.OneDenominator.{sum_by_equal, sum_from_zero}
-use Rattle.vipr_frac.proofs.Views.{as-is}
+use Rattle.vipr_frac.proofs.{OneDenominator.sum_by_equal, OneDenominator.sum_from_zero, Views.as-is}
 use Rattle.vipr_frac.proofs.partial.add_short.Goals as goal
 
 pub returns-then-is_word : goal.returns-then-is_word

@@ -1,6 +1,5 @@
-use Rattle.std.proofs.Common.{rules, refl, FitsSigned}
+use Rattle.std.proofs.{Common.rules, Common.refl, Common.FitsSigned, lemmas.Int.to_z-of_z}
 use Rattle.std.specs.Int.{w64}
-use Rattle.std.proofs.lemmas.Int.{to_z-of_z}
 use Rattle.vipr_frac.proofs.Views.{as-is}
 use Rattle.vipr_frac.proofs.partial.add_word_product.Goals as goal
 

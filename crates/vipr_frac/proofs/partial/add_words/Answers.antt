@@ -1,10 +1,8 @@
 use Rattle.std.proofs.Common.{subst}
 use Rattle.vipr_spec.specs.Fraction.{over}
 use Rattle.vipr_frac.specs.Parts.{IsSmall, AreWords}
-use Rattle.vipr_frac.proofs.Small.{small_sum_fits}
-use Rattle.vipr_frac.proofs.Sums.{SumFits-parts}
 use Rattle.vipr_frac.proofs.Unreduced.{word_abs, small_over}
-use Rattle.vipr_frac.proofs.Views.{as-is}
+use Rattle.vipr_frac.proofs.{Small.small_sum_fits, Sums.SumFits-parts, Views.as-is}
 use Rattle.vipr_frac.proofs.partial.add_words.Goals as goal
 
 pub returns-in-Some-clause-fits : goal.returns-in-Some-clause-fits

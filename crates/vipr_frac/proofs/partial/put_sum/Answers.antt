@@ -1,6 +1,5 @@
-use Rattle.std.proofs.Common.{◌≡◌, ◌*◌, ◌∙◌, arith}
+use Rattle.std.proofs.{Common.◌≡◌, Common.◌*◌, Common.◌∙◌, Common.arith, lemmas.Int.to_z-of_z}
 use Rattle.std.specs.Int.{w64}
-use Rattle.std.proofs.lemmas.Int.{to_z-of_z}
 use Rattle.vipr_spec.specs.Fraction.{over}
 use Rattle.vipr_frac.proofs.Unreduced.{put_value, sum-swap, turned}
 use Rattle.vipr_frac.proofs.partial.put_sum.Goals as goal

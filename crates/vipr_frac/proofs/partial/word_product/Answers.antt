@@ -3,12 +3,10 @@ use Rattle.std.specs.Int.{w64, w128}
 use Rattle.std.proofs.lemmas.Int.{to_z-of_z}
 use Rattle.vipr_spec.specs.Fraction.{over}
 use Rattle.vipr_frac.specs.Parts.{IsSmall, AreWords}
-use Rattle.vipr_frac.proofs.Small.{small_product_fits}
-use Rattle.vipr_frac.proofs.Sums.{ProductFits-parts}
 use Rattle.vipr_frac.proofs.Unreduced.{word_abs, small_over, product_of}
-use Rattle.vipr_frac.proofs.Views.{facts}
-use Rattle.vipr_frac.proofs.partial.word_product.Goals as goal
 use Rattle.vipr_frac.proofs.partial.word_product.Goals.{After-pair_product}
+use Rattle.vipr_frac.proofs.{Small.small_product_fits, Sums.ProductFits-parts, Views.facts}
+use Rattle.vipr_frac.proofs.partial.word_product.Goals as goal
 
 module _ (c : After-pair_product) where
   left_words : AreWords c.args.p c.args.q

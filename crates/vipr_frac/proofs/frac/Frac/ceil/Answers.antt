@@ -1,6 +1,5 @@
 use Rattle.std.proofs.Common.{sym, subst}
-use Rattle.vipr_spec.specs.Fraction.{neg_ℚ}
-use Rattle.vipr_spec.specs.FractionOrder.{IsFloor, IsCeil}
+use Rattle.vipr_spec.specs.{Fraction.neg_ℚ, FractionOrder.IsFloor, FractionOrder.IsCeil}
 use Rattle.vipr_frac.proofs.Rounding.{IsCeil-negated}
 use Rattle.vipr_frac.proofs.Views.{negated-word, negated-small, negated-fits}
 use Rattle.vipr_frac.proofs.frac.Frac.ceil.Goals as goal

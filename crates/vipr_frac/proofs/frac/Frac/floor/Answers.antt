@@ -1,12 +1,10 @@
 use Rattle.std.proofs.Common.{◌≡◌, ◌∙◌, pos, sym, subst, to_z, of_z}
+use Rattle.std.proofs.{Math.Nat.le_trans, lemmas.Int.to_z-of_z}
 use Rattle.std.specs.Int.{w128, int_div_euclid}
-use Rattle.std.proofs.lemmas.Int.{to_z-of_z}
-use Rattle.std.proofs.Math.Nat.{le_trans}
 use Rattle.vipr_spec.specs.FractionOrder.{IsFloor}
 use Rattle.vipr_frac.proofs.Rounding.{IsFloor-quotient, quotient-small}
-use Rattle.vipr_frac.proofs.Views.{as-is}
+use Rattle.vipr_frac.proofs.{Views.as-is, frac.Frac.floor.Goals.After-div_euclid}
 use Rattle.vipr_frac.proofs.frac.Frac.floor.Goals as goal
-use Rattle.vipr_frac.proofs.frac.Frac.floor.Goals.{After-div_euclid}
 
 result_is : (c : After-div_euclid) → to_z w128 (of_z w128 c.div_euclid.result)
     ≡ int_div_euclid c.args.self.numer (pos c.args.self.denom)

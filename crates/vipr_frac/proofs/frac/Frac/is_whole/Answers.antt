@@ -1,7 +1,6 @@
 use Rattle.std.proofs.Common.{◌≡◌, ◌∙◌, sym, eq-eqb, eqb, rules, tests}
 use Rattle.std.specs.Prelude.{IsTrue}
-use Rattle.vipr_frac.proofs.Sums.{denom-whole, is-whole}
-use Rattle.vipr_frac.proofs.Views.{facts_of, Facts}
+use Rattle.vipr_frac.proofs.{Sums.denom-whole, Sums.is-whole, Views.facts_of, Views.Facts}
 use Rattle.vipr_frac.proofs.frac.Frac.is_whole.Goals as goal
 
 pub returns : goal.returns

@@ -1,5 +1,4 @@
-use Rattle.vipr_frac.proofs.Unreduced.{some_words}
-use Rattle.vipr_frac.proofs.Views.{facts_of, Facts}
+use Rattle.vipr_frac.proofs.{Unreduced.some_words, Views.facts_of, Views.Facts}
 use Rattle.vipr_frac.proofs.frac.Frac.words.Goals as goal
 
 pub returns : goal.returns

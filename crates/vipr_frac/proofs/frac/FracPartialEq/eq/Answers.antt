@@ -1,6 +1,5 @@
-use Rattle.std.proofs.Common.{sym, ap, ◌∙◌}
+use Rattle.std.proofs.{Common.sym, Common.ap, Common.◌∙◌, lemmas.Bool.true≢false}
 use Rattle.std.specs.Cmp.{both_ways}
-use Rattle.std.proofs.lemmas.Bool.{true≢false}
 use Rattle.vipr_spec.specs.Fraction.{ℚ, same_parts}
 use Rattle.vipr_spec.proofs.Laws.{eq_is}
 use Rattle.vipr_frac.proofs.Views.{facts, Facts}

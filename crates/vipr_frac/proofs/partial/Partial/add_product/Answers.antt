@@ -1,6 +1,5 @@
 use Rattle.std.proofs.Common.{◌≡◌, ◌*◌, ◌∙◌, refl, subst, arith, FitsSigned, to_z, of_z}
-use Rattle.std.specs.Prelude.{◌*ℤ◌}
-use Rattle.std.specs.Int.{w64, w128}
+use Rattle.std.specs.{Int.w64, Int.w128, Prelude.◌*ℤ◌}
 use Rattle.std.proofs.lemmas.Int.{to_z-of_z, fits_signed_from_abs}
 use Rattle.vipr_frac.proofs.OneDenominator.{IsShortProduct, short_product}
 use Rattle.vipr_frac.proofs.Views.{as-is, passed-on}

@@ -1,6 +1,5 @@
 use Rattle.std.proofs.Common.{rules, ◌≡◌, ◌<◌, ◌∙◌, ℕ, ℤ, pos, ◌*ℤ◌, sym, subst, FitsSigned, to_z, of_z}
-use Rattle.std.specs.Prelude.{◌↔◌}
-use Rattle.std.specs.Int.{w64}
+use Rattle.std.specs.{Int.w64, Prelude.◌↔◌}
 use Rattle.std.proofs.lemmas.Int.{to_z-of_z}
 use Rattle.vipr_spec.specs.Fraction.{ℚ, over}
 use Rattle.vipr_spec.proofs.Laws.{Is, is_one, is_over}

@@ -1,8 +1,7 @@
 use Rattle.std.proofs.Common.{ℕ, ◌≡◌, ◌<◌, ◌∙◌, refl, sym, subst, arith, ℤ, pos, ◌*ℤ◌, to_z, of_z}
 use Rattle.std.specs.Int.{w128}
 use Rattle.std.proofs.lemmas.Int.{ints}
-use Rattle.vipr_spec.specs.Gcd.{gcd}
-use Rattle.vipr_spec.specs.Fraction.{over, zero_ℚ}
+use Rattle.vipr_spec.specs.{Fraction.over, Fraction.zero_ℚ, Gcd.gcd}
 use Rattle.vipr_spec.proofs.Laws.{Is, is_one, is_over, is_zero}
 use Rattle.vipr_frac.proofs.Views.{as-is}
 use Rattle.vipr_frac.proofs.partial.Partial.is_zero.Goals as goal
