@@ -2,6 +2,7 @@
 -- word is opened once. If not, both words are opened, and what is read is 0. Assumes `Logic`.
 use Rattle.std.proofs.Common.{◌≡◌, ℕ, Bool, true, false, IsTrue, List, [], ◌∷◌, ◌++◌, refl, sym}
 use Rattle.std.proofs.Common.{lit<, true≢false}
+use Rattle.std.proofs.{alloc.Shapes.after, raw_atomic.Walks.leaves}
 use Rattle.std.specs.Coded.{Coded, coded×, coded_ℕ}
 use native.Mathlib.Decide.{ℕ_discrete}
 use mir.Syntax.{Fn, Args, a_type}
@@ -26,17 +27,13 @@ use denote.Param.{param, layouts}
 use denote.Signature.{types_at}
 use denote.Steps.{nothing}
 use denote.Triple.Walked.{Stays, stay_dropped, walk_of, Goes-dropped}
-use Rattle.std.proofs.alloc.Shapes.{after}
-use Rattle.std.proofs.raw_atomic.Walks.{leaves}
-use Rattle.vipr_shared.specs.Ownership.{named}
-use Rattle.vipr_shared.proofs.Walks.{slot_at, with_token, proved_with_token}
-use Rattle.vipr_shared.proofs.Values.{mark_type, mark_val}
-use Rattle.vipr_shared.proofs.Marks.{opens_mark, shuts_mark, agrees}
 use Rattle.vipr_shared.specs.contracts.mark.Mark.is_one.{ended, clauses}
-use Rattle.vipr_shared.specs.contracts.mark.Mark.is_one.Key.{name as #self}
+use Rattle.vipr_shared.specs.{Ownership.named, contracts.mark.Mark.is_one.Key.name as #self}
+use Rattle.vipr_shared.proofs.Walks.{slot_at, with_token, proved_with_token}
+use Rattle.vipr_shared.proofs.Marks.{opens_mark, shuts_mark, agrees}
 use Rattle.vipr_shared.proofs.mark.Mark.is_one.Statement.{statement}
+use Rattle.vipr_shared.proofs.{Values.mark_type, Values.mark_val, mark.Mark.is_one.Code.code}
 use Rattle.vipr_shared.proofs.mark.Mark.is_one.Code as compiled
-use Rattle.vipr_shared.proofs.mark.Mark.is_one.Code.{code}
 
 decided : {X : Type 1} {A : Type 0} → Dec A → (A → X) → (¬ A → X) → X
 decided (yes a) f g = f a

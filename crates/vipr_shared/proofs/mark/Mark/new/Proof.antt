@@ -21,13 +21,11 @@ use denote.Steps.{nothing}
 use denote.Triple.Entry.{alive}
 use denote.Triple.Walked.{Stays, stay_dropped, walk_of, Goes-dropped}
 use Rattle.std.proofs.raw_atomic.Walks.{proved_at, leaves}
-use Rattle.vipr_shared.specs.Ownership.{is_zero}
-use Rattle.vipr_shared.proofs.Walks.{slot_at}
-use Rattle.vipr_shared.proofs.Values.{mark_val, mark_made, mark_typed}
-use Rattle.vipr_shared.specs.contracts.mark.Mark.TheInside as inside
 use Rattle.vipr_shared.specs.contracts.mark.Mark.new.{ended, clauses}
-use Rattle.vipr_shared.specs.contracts.mark.Mark.new.Key.{name as #self}
-use Rattle.vipr_shared.proofs.mark.Mark.new.Statement.{statement}
+use Rattle.vipr_shared.specs.{Ownership.is_zero, contracts.mark.Mark.new.Key.name as #self}
+use Rattle.vipr_shared.proofs.Values.{mark_val, mark_made, mark_typed}
+use Rattle.vipr_shared.proofs.{Walks.slot_at, mark.Mark.new.Statement.statement}
+use Rattle.vipr_shared.specs.contracts.mark.Mark.TheInside as inside
 use Rattle.vipr_shared.proofs.mark.Mark.new.Code as compiled
 
 pub new_spec : {M : Type 1} → statement M
