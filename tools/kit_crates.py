@@ -5,7 +5,7 @@ usage: tools/kit_crates.py [--list] [CRATE ..]
 
 Without names those are checked that crates.txt lists, with all that they use beside std. --list only lists these. A
 crate's last line has to begin with `logic=proved`; the exit status is 1 if one isn't proved. The page keeps the rows of
-crates that this run didn't check, as long as they are of the same kit. Nothing is written outside of that page.
+crates that this run didn't check, each with its kit, and lists those that have none. Nothing is written outside of that page.
 """
 import datetime
 import os
@@ -27,7 +27,7 @@ HEAD = '''# The kit's crates, from their sources
 The program uses crates of the Rattle kit. A check takes them as they were proved when the kit was built \
 (`libraries-built=trusted`). `tools/kit_crates.py CRATE ..` proves a crate anew, from its source, over the kit's libraries \
 below it: the command is `rattle check --crate-name CRATE KIT/rattle/CRATE/src/lib.rt`, with `--extern` for each library \
-that it uses. A crate that isn't in the table wasn't checked so.
+that it uses. Each row is of the kit that it names.
 
 What such a check leaves is in [PROOF.md](PROOF.md#what-is-trusted): the kernel, its own code for numbers and texts \
 (`native=`), the contracts of functions in C, and that the libraries below are what their sources say.
@@ -35,7 +35,13 @@ What such a check leaves is in [PROOF.md](PROOF.md#what-is-trusted): the kernel,
 | Crate | Lines | Functions | Seconds | On | Kit |
 |---|---|---|---|---|---|
 '''
-ROW = re.compile(r'^\| `(\w+)` \|.*\| (\S+) \|$', re.M)
+LEFT = '''
+These weren't checked so:
+
+| Crate | Lines |
+|---|---|
+'''
+ROW = re.compile(r'^\| `(\w+)` \|.*\| \S+ \|$', re.M)
 
 
 def lines_of(crate):
@@ -76,13 +82,20 @@ def check(crate):
     return run.returncode, lines, after.ru_utime + after.ru_stime - before.ru_utime - before.ru_stime
 
 
+def write(rows):
+    """Writes the page, with these rows and the crates that have none."""
+    left = ['| `%s` | %d |' % (it, lines_of(it)) for it in listed() if it not in rows]
+    parts = [HEAD + '\n'.join(rows[it] for it in sorted(rows)), *([LEFT + '\n'.join(left)] if left else [])]
+    PAGE.write_text('\n'.join(parts) + '\n', encoding='utf-8')
+
+
 def main():
     names = [it for it in sys.argv[1:] if it != '--list'] or listed()
     if '--list' in sys.argv:
         print('\n'.join('%s %d' % (it, lines_of(it)) for it in names))
         return 0
     kit, failed = (KIT / 'KIT-ID').read_text().split()[0], 0
-    rows = {m[1]: m[0] for m in ROW.finditer(PAGE.read_text(encoding='utf-8') if PAGE.exists() else '') if m[2] == kit}
+    rows = {m[1]: m[0] for m in ROW.finditer(PAGE.read_text(encoding='utf-8') if PAGE.exists() else '')}
     for crate in names:
         start = time.monotonic()
         status, lines, seconds = check(crate)
@@ -94,7 +107,7 @@ def main():
             print('\n'.join(lines[-20:]), file=sys.stderr)
             continue
         rows[crate] = '| `%s` | %d | %s | %.0f | %s | %s |' % (crate, lines_of(crate), proved[1], seconds, datetime.date.today(), kit)
-        PAGE.write_text(HEAD + '\n'.join(rows[it] for it in sorted(rows)) + '\n', encoding='utf-8')
+        write(rows)
     return 1 if failed else 0
 
 
