@@ -99,6 +99,8 @@ WRONG = [
     ('check --profile=', "invalid value '' for '--profile <PROFILE>' of 'vipr check'"),
     ('check -o b', "unexpected argument '-o' found"),
     ('tighten -o a --out b', "the argument '--out <OUT>' cannot be used multiple times"),
+    # (a long word is told whole)
+    (f'check --{"x" * 20_000}', f"unexpected argument '--{'x' * 20_000}' found"),
 ]
 
 HELP = ['check    Checks a certificate', 'explain  Checks a certificate', 'show     Writes a certificate',

@@ -733,8 +733,8 @@ def main():
         if not os.access(path, os.R_OK):
             unread(path, errno.EACCES)
         path.unlink()
-        for name in ('missing.vipr', 'a \x1b[31m name\n', ''):
-            unread(name and f'{folder}/{name}', errno.ENOENT)
+        for name, reason in *((it, errno.ENOENT) for it in ('missing.vipr', 'a \x1b[31m name\n', '')), ('n' * 300, errno.ENAMETOOLONG):
+            unread(name and f'{folder}/{name}', reason)
         check(explained(['--long', folder]) == (b'', 3), 'a folder')
         for problem, old, new, place, change in MISTAKES:
             name = f'{problem}, {old!r} -> {new!r}'

@@ -593,12 +593,15 @@ def failing_calls(text, tight, kept):
             expect(f'{inject} of {len(text)} bytes: OUT', (file.read_bytes() == after, stat.S_IMODE(file.stat().st_mode), names(folder)),
                    (True, 0o600 if name == 'fchmod' else 0o640, ['a.vipr']))
     file.write_bytes(text)
-    out = folder / 'out'
-    for call, wanted, after in (('fsync:error=ENOSPC:when=1', all_written, None), ('link:error=EPERM', done, tight),
-                                ('fsync:error=EIO:when=2', all_written, tight), ('fsync:error=EINVAL', done, tight)):
+    cases = (('fsync:error=ENOSPC:when=1', all_written, None), ('link:error=EPERM', done, tight),
+             ('fsync:error=EIO:when=2', all_written, tight), ('fsync:error=EINVAL', done, tight))
+    # (in a folder of a short path, and in one of a long path)
+    for place, (call, wanted, after) in itertools.product((folder / 'o', folder.joinpath('o', *['d' * 250] * 3)), cases):
+        place.mkdir(parents=True, exist_ok=True)
+        out = place / 'out'
         got, _ = traced(['tighten', file, '--out', out], '-e', f'trace={call.partition(":")[0]}', '-e', f'inject={call}')
-        expect(f'{call}, OUT new', (got, read(out) == after), (wanted, True))
-        expect(f'{call}, OUT new: names', names(folder), ['a.vipr', *(['out'] if after else [])])
+        expect(f'{call}, OUT new, {len(str(out))} bytes', (got, read(out) == after), (wanted, True))
+        expect(f'{call}, OUT new, {len(str(out))} bytes: names', [it for it in names(place) if it != 'd' * 250], ['out'] if after else [])
         out.unlink(missing_ok=True)
 
 
