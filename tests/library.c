@@ -27,6 +27,7 @@ static const char *const NAMES[] = {"check", "report", "explain", "long", "show"
 struct job {
     enum call call;
     uint32_t profile, compact;
+    const char *name;
     const uint8_t *text;
     size_t size, room, length;
     char *buffer;
@@ -90,7 +91,7 @@ static int32_t run(struct job *it)
     case EXPLAIN:
         return vipr_explain(it->profile, it->text, it->size, it->buffer, it->room, &it->length);
     case EXPLAIN_LONG:
-        return vipr_explain_long(it->profile, "standard input", 14, it->text, it->size, it->buffer, it->room, &it->length);
+        return vipr_explain_long(it->profile, it->name, strlen(it->name), it->text, it->size, it->buffer, it->room, &it->length);
     case SHOW:
         return vipr_show(it->compact, it->text, it->size, it->buffer, it->room, &it->length, &it->answer);
     case DIGEST:
@@ -167,7 +168,7 @@ static int all_growths(const uint8_t *text, size_t size)
     static char buffer[ROOM + 1];
     long sum = 0;
     for (int call = 0; call < CALLS; call++) {
-        struct job it = {(enum call)call, 1, 1, text, size, ROOM, 0, buffer, {0}, {0}};
+        struct job it = {(enum call)call, 1, 1, "FILE", text, size, ROOM, 0, buffer, {0}, {0}};
         long count = refuse_each(&it);
         if (count < 0)
             return 1;
@@ -204,7 +205,7 @@ static int has_buffer(struct job *it)
 /* The name of a cause, or the version where there is none, in a buffer. */
 static int print_name(const char *cause, const char *room)
 {
-    struct job it = {EXPLAIN, 0, 0, NULL, 0, number(room), 0, NULL, {0}, {0}};
+    struct job it = {EXPLAIN, 0, 0, NULL, NULL, 0, number(room), 0, NULL, {0}, {0}};
     if (!has_buffer(&it))
         return 2;
     memset(it.buffer, '.', it.room + 1);
@@ -214,10 +215,10 @@ static int print_name(const char *cause, const char *room)
     return 0;
 }
 
-/* A call on a text, as four words have it. */
-static int print_call(char **words, const uint8_t *text, size_t size)
+/* A call on the text of a file, as four words have it. */
+static int print_call(char **words, const char *file, const uint8_t *text, size_t size)
 {
-    struct job it = {CHECK, number(words[1]), number(words[2]), text, size, number(words[3]), 0, NULL, {0}, {0}};
+    struct job it = {CHECK, number(words[1]), number(words[2]), file, text, size, number(words[3]), 0, NULL, {0}, {0}};
     while (it.call < CALLS - 1 && strcmp(words[0], NAMES[it.call]) != 0)
         it.call++;
     if (!has_buffer(&it))
@@ -245,7 +246,7 @@ int main(int count, char **words)
     if (is_growths)
         status = all_growths(text, size);
     for (int at = 2; at + 3 < count && status == 0; at += 4)
-        status = print_call(words + at, text, size);
+        status = print_call(words + at, words[1], text, size);
     free(text);
     return status;
 }

@@ -4,7 +4,7 @@
 usage: tests/library.py [PROGRAM]     crates/vipr/out/vipr without it
 
 `make install-lib` installs it into a folder. tests/library.c, with the archive alone, makes each call on all examples,
-by both profiles, in both forms and with less room than they need, on beginnings of each and on a text of 5 MB; the call
+by both profiles, in both forms and with less room than they need, on beginnings of each and on a text of 20 MB; the call
 that checks on one of 300 MB; and with each of its growths refused. The callers of examples/c, cpp, python and rust check
 all examples with the shared library, and so do those in C, C++ and Rust with the archive. Memcheck and helgrind, if they
 are there, look at some of it. `make uninstall-lib` removes all of it. Prints each difference, and last `library: N texts,
@@ -153,10 +153,10 @@ def look_at_callers(prefix, room):
 
 
 def texts(room):
-    """The files to check, and whether each is whole: each example, its beginnings of some lengths, and a text of 5 MB."""
+    """The files to check, and whether each is whole: each example, its beginnings of some lengths, and a text of 20 MB."""
     large = room / 'large.vipr'
-    large.write_text('VER 1.0 VAR 1 x INT 0 OBJ min 0 CON 1 0 a G 1 1 0 1 RTP range -inf inf SOL 0 DER 180000\n'
-                     + 'd G 1 1 0 1 { lin 1 0 1 } -1\n' * 180_000)
+    large.write_text('VER 1.0 VAR 1 x INT 0 OBJ min 0 CON 1 0 a G 1 1 0 1 RTP range -inf inf SOL 0 DER 720000\n'
+                     + 'd G 1 1 0 1 { lin 1 0 1 } -1\n' * 720_000)
     yield large, False
     for path in sorted((TOP / 'examples').rglob('*.vipr')):
         yield path, True
@@ -195,7 +195,7 @@ def calls(path, whole):
         said, explained = (run([PROGRAM, call, '--profile', profile, path]) for call in ('check', 'explain'))
         yield ['report', profile, 0], (said.returncode, said.stdout, ['answer', *answer(explained.stdout)])
         yield ['explain', profile, 0], (explained.returncode, explained.stdout, [])
-        long = run([PROGRAM, 'explain', '--long', '--profile', profile], Path(path).read_bytes())
+        long = run([PROGRAM, 'explain', '--long', '--profile', profile, path])
         yield ['long', profile, 0], (long.returncode, long.stdout, [])
         for compact in (0, 1) if whole else (0,):
             said = run([PROGRAM, 'tighten', '--profile', profile, *['--compact'] * compact, path])

@@ -1,9 +1,9 @@
 """The large numbers in the code, against the table of docs/ARCHITECTURE.md that says of each why it is there.
 
 A program that gives up behind so many bytes, rows or steps, or that changes its answer there, has a number for it. So each
-literal above 64 is in the table, and so is each shift by a literal: in the sources of the crates outside of contracts,
-comments and strings, and in the Python package. Of a file with more than 20 the table has how many there are, and the least
-and the greatest of them.
+literal above 64 is in the table, and so are each product of two literals that is, each shift by a literal and each power with a
+literal exponent: in the sources of the crates outside of contracts, comments and strings, and in the Python package. Of a file
+with more than 20 the table has how many there are, and the least and the greatest of them.
 """
 import ast
 import re
@@ -17,9 +17,12 @@ PAGE = TOP / 'docs/ARCHITECTURE.md'
 LEFT_OUT = 'vipr_tests', 'vipr_worked'
 WORD = re.compile(r'''//[^\n]*|b?"(?:\\.|[^"\\])*"|b?'(?:\\[^']+|[^'\\])'|#!?\[[^\]\n]*\]''', re.S)
 CLAUSE = re.compile(r'\b(?:requires|ensures)\*?\s*\w*\s*(?=\{)')
-NUMBER = re.compile(r'(?:(<<|>>)\s*)?(?<![\w.])(0x[0-9a-fA-F_]+|0b[01_]+|[0-9][0-9_]*)')
+DIGITS = r'(0x[0-9a-fA-F_]+|0o[0-7_]+|0b[01_]+|[0-9][0-9_]*)'
+# (`it.0` has none, and `..9` has one)
+NUMBER = re.compile(r'(?:(<<|>>)=?\s*)?(?<!\w)(?<![^.]\.)' + DIGITS)
+POWER, PRODUCT = re.compile(r'\bpow\(' + DIGITS), re.compile(rf'(?<![\w.]){DIGITS}\w*\s*\*\s*{DIGITS}')
 ROW = re.compile(r'^\| `([\w/]+\.(?:rt|py))` \| ([^|]*) \| [^|]*\S \|$', re.M)
-RANGE = re.compile(r'(<<|>>|\d+ numbers from)? ?(\d+(?:,\d{3})*)(?: to (\d+(?:,\d{3})*))?')
+RANGE = re.compile(r'(<<|>>|\*\*|\d+ numbers from)? ?(\d+(?:,\d{3})*)(?: to (\d+(?:,\d{3})*))?')
 MOST_LISTED = 20
 
 
@@ -30,16 +33,34 @@ def of_rattle(path):
         text = text[:found.start()] + text[braced(text, found.end()):]
     text = re.sub(r'^ghost .*$', '', text, flags=re.M)
     for shift, digits in NUMBER.findall(text):
-        value = int(digits.replace('_', ''), 0) if not re.fullmatch(r'0[0-9_]+', digits) else int(digits.replace('_', ''))
-        if shift or value > MOST:
-            yield shift, value
+        if shift or value_of(digits) > MOST:
+            yield shift, value_of(digits)
+    yield from (('**', value_of(digits)) for digits in POWER.findall(text))
+    yield from products((value_of(first), value_of(second)) for first, second in PRODUCT.findall(text))
+
+
+def value_of(digits):
+    """The value of a literal, whose type may follow its digits."""
+    digits = digits.replace('_', '')
+    return int(digits, 10 if digits.isdigit() else 0)
+
+
+def products(pairs):
+    """Of pairs of literals the large products of small ones."""
+    return (('', one * other) for one, other in pairs if max(one, other) <= MOST < one * other)
+
+
+SIGNS = {ast.LShift: '<<', ast.RShift: '>>', ast.Pow: '**'}
 
 
 def of_python(path):
     """The same of a module."""
     for node in ast.walk(ast.parse(read(path))):
-        if isinstance(node, ast.BinOp) and isinstance(node.op, (ast.LShift, ast.RShift)) and isinstance(node.right, ast.Constant):
-            yield '<<' if isinstance(node.op, ast.LShift) else '>>', node.right.value
+        second = node.right if isinstance(node, ast.BinOp) else node.value if isinstance(node, ast.AugAssign) else None
+        if isinstance(second, ast.Constant) and type(node.op) in SIGNS:
+            yield SIGNS[type(node.op)], second.value
+        elif isinstance(second, ast.Constant) and isinstance(node.op, ast.Mult) and isinstance(getattr(node, 'left', None), ast.Constant):
+            yield from products([(node.left.value, second.value)] if {type(node.left.value), type(second.value)} == {int} else [])
         elif isinstance(node, ast.Constant) and type(node.value) in (int, float) and node.value > MOST:
             yield '', node.value
 

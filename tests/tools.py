@@ -7,7 +7,7 @@ The toolchain is tests/toolchain.py under the name `rt`, in a folder at the head
 scripts of this, four crates without a text, and scripts of tests/ that do nothing. Whatever fails, is killed or ends in
 half a line, the exit status is another than 0, the crate is named, there is no vipr.sha256, and nothing is checked with or
 installed from what isn't proved. tools/wrong.py counts an edit as refused only if a goal refused it. Each script of tests/
-is run by tests/all.py, or is named there as one that isn't.
+is run by tests/all.py, or is named there as one that isn't. Each number in the code is found by tests/literals.py.
 
 Prints each fault, and last `tools: N checks, F failed`; the exit status is 1 if one failed.
 """
@@ -22,6 +22,7 @@ from pathlib import Path
 
 from texts import TOP, Checks
 import all as gate
+import literals
 
 CHECKS = Checks('tools')
 check = CHECKS.check
@@ -130,7 +131,7 @@ def changes(place):
     def age(path, seconds):
         then = time.time() - seconds
         os.utime(path, (then, then))
-    for file in ('low/src/lib.rt', 'low/specs/Rule.antt', 'vipr_command/proofs/Lemmas.antt'):
+    for file in ('crates/low/src/lib.rt', 'crates/low/specs/Rule.antt', 'crates/vipr_command/proofs/Lemmas.antt', 'crates.txt'):
         place.plan()
         place.run('make', 'build')
         for path in (place.tree / 'crates.txt', *(place.tree / 'crates').rglob('*')):
@@ -138,8 +139,8 @@ def changes(place):
         age(place.program, 100)
         place.plan()
         check(place.run('make', 'check')[0] == 0 and not place.calls(), f'built though nothing changed: {place.calls()}')
-        path = place.tree / 'crates' / file
-        path.write_text('changed\n')
+        path = place.tree / file
+        path.write_text(path.read_text() + '\n' if path.exists() else 'new\n')
         status, out = place.run('make', 'check')
         check(status == 0 and 'lib in low' in place.calls(), f'{file} changed, and nothing is built: {out}')
 
@@ -154,19 +155,39 @@ def tests(place):
     status, out = all_of()
     check((status, last(out)) == (0, f'{7 + count} passed, 0 failed') and place.is_marked(), f'all is well: {out}')
     check(all(f'{script} ran' in out for script, *_ in gate.SCRIPTS), f'a script did not run: {out}')
-    for how, said in (('failed', f'{6 + count} passed, 1 failed'), ('mute', f'{7 + count} passed, 1 failed'),
-                      ('killed', f'{count} passed, 1 failed'), ('half', f'{count} passed, 1 failed')):
+    # (the gate and a script fail at once: each counts for itself)
+    killed = 'os.kill(os.getpid(), signal.SIGKILL)'
+    for how, passed, end in (('failed', 6, 'sys.exit(1)'), ('mute', 7, 'sys.exit(2)'), ('killed', 0, 'sys.exit("a fault")'), ('half', 0, 'raise ValueError'), ('nothing', 7, killed)):
+        if how == 'nothing':
+            place.forget()
         place.plan(f'gate {how}')
-        status, out = all_of()
-        check((status, last(out)) == (1, said) and not place.sum.exists(), f'gate {how}: status {status}, {last(out)}')
-    place.forget()
-    place.plan('gate nothing')
-    status, out = all_of()
-    check((status, last(out)) == (1, f'{7 + count} passed, 1 failed') and not place.sum.exists(), f'no program: {last(out)}')
-    for end in ('sys.exit(1)', 'sys.exit(2)', 'sys.exit("a fault")', 'raise ValueError', 'os.kill(os.getpid(), signal.SIGKILL)'):
-        place.plan()
         status, out = all_of(fuzz=end)
-        check((status, last(out)) == (1, f'{6 + count} passed, 1 failed'), f'a script with {end}: {last(out)}')
+        check((status, last(out)) == (1, f'{passed + count - 1} passed, 2 failed') and not place.sum.exists(), f'gate {how}, and a script with {end}: status {status}, {last(out)}')
+    place.plan()
+    status, out = all_of(fuzz=killed)
+    check((status, last(out)) == (1, f'{6 + count} passed, 1 failed') and place.is_marked(), f'a script with {killed}: {last(out)}')
+
+
+def numbers(place):
+    """A number in the code that is in no table is a fault of tests/house.py, however it is spelled."""
+    path, clause = place.room / 'new', 'pub fn f(a: usize) -> bool\n    ensures it { result ≡ 70 }\n{\n    '
+    for read, front, forms in (
+            (literals.of_rattle, clause, {'a < 65': ('', 65), 'a < 1_000_000': ('', 10**6), 'a < 70u64': ('', 70), 'a < 0x41': ('', 65), 'a < 0o600': ('', 384),
+                                          'a < 0b1000001': ('', 65), '(0..700).contains(&a)': ('', 700), 'a < x.0 + 99': ('', 99), 'a < 1 << 20': ('<<', 20),
+                                          'a >>= 3': ('>>', 3), 'a < 10u64.pow(9)': ('**', 9), 'a < 60 * 60': ('', 3600), 'a < 64': None, 'a < x.99': None,
+                                          'a < "70".len() // 70': None, "a < b'\\x70'": None}),
+            (literals.of_python, 'def f(a):\n    "of 70"\n    ', {'return a < 65': ('', 65), 'return a < 1 << 20': ('<<', 20), 'a <<= 20': ('<<', 20), 'return a < 10**7': ('**', 7),
+                                                               'return a < 60 * 60': ('', 3600), 'return a < -70': ('', 70), 'return a < 1e9': ('', 1e9), 'return a[:64] + "70"': None})):
+        for form, wanted in forms.items():
+            path.write_text(front + form + '\n')
+            check(set(read(path)) == ({wanted} if wanted else set()), f'{form} has {set(read(path))}')
+    rows = literals.in_table()
+    check(rows == literals.in_code() and len(rows) > 30, 'the table of numbers is another one')
+    literals.in_code, code = (lambda: {**rows, 'vipr_c/src/new.rt': {('', 65)}}), literals.in_code
+    check(list(literals.faults()) == ['vipr_c/src/new.rt: the number  65 has no row in the table of docs/ARCHITECTURE.md'], f'a new number: {list(literals.faults())}')
+    literals.in_code = lambda: {file: found for file, found in rows.items() if file != 'vipr_command/src/line.rt'}
+    check(list(literals.faults()) == ['docs/ARCHITECTURE.md: vipr_command/src/line.rt has no number  128'], f'a number that is gone: {list(literals.faults())}')
+    literals.in_code = code
 
 
 def last(out):
@@ -209,6 +230,27 @@ def wrong(place):
         check((status, last(out)) == (1, '97 refused, 0 not, 3 not judged'), f'three edits by {how}: {status}, {last(out)}')
     status, out = tried('no_crate')
     check(status != 0, f'no edit at all: {status}, {out}')
+    whole_runs(place, low)
+
+
+def whole_runs(place, low):
+    """A run over all edits leaves out those that were refused over the same text, and writes what it came to into the page."""
+    def tried(change, *plan):
+        change.write_text(change.read_text() + '\n')
+        place.plan(*plan)
+        status, out = place.python('tools/wrong.py')
+        known = re.search(r'^low: (\d+) of \d+ were refused before$', out, re.M)
+        return status, known and int(known[1]), (place.tree / 'docs/PROOF.md').read_text()
+    source, edit, read_by_none = low / 'src/lib.rt', low / 'wrong/edit00.edit', place.room / 'none'
+    read_by_none.write_text('')
+    for change, plan, known, said in (
+            (source, ['edit edit00 name'], None, f'{EDITS - 1} of {EDITS} were refused, not judged: low/edit00'),
+            (read_by_none, ['edit edit00 proved', 'edit edit01 proved'], EDITS - 1, f'{EDITS - 1} of {EDITS} were refused, and not: low/edit00'),
+            (read_by_none, [], EDITS - 1, f'all {EDITS} were refused, {EDITS - 1} of them by earlier runs over the same sources'),
+            (read_by_none, [], EDITS, f'all {EDITS} were refused, {EDITS} of them by'), (edit, [], EDITS - 1, f'all {EDITS} were refused, {EDITS - 1} of them by'),
+            (source, [], None, f'all {EDITS} were refused.')):
+        status, before, page = tried(change, *plan)
+        check((status, before) == (int('and not' in said), known) and said in page, f'a whole run behind {change.name}, {plan}: {status}, {before} known, not {said}')
 
 
 def libraries(place):
@@ -242,9 +284,15 @@ def plants(place):
               and all((it in out) == (it in left) for it in wanted), f'tests that refuse {known}: {status}, {out}')
         page = (place.tree / 'docs/PLANTS.md').read_text()
         check(all((it in page) == (it in left) for it in wanted), f'tests that refuse {known}: the page has {page}')
-    (place.tree / 'tests/python.py').write_text('raise ValueError\n')
+    (place.tree / 'tests/python.py').write_text('')
     shutil.rmtree(place.tree / 'out')
+    status, out = place.python('tools/plant.py', '--scripts', 'browser', 'python')
+    check((status, last(out)) == (0, 'planted 3, refused 0, survive 0, 3 not tried to the end'), f'no script of a change: {status}, {out}')
+    place.python('tools/plant.py', 'python')
+    (place.tree / 'tests/python.py').write_text('raise ValueError\n')
     status, out = place.python('tools/plant.py', 'python')
+    check((status, last(out)) == (1, 'planted 3, refused 0, survive 3'), f'what survived is tried once more: {status}, {out}')
+    status, out = place.python('tools/plant.py', '--again', 'python')
     check(status == 1 and 'no change planted' in out, f'a test that fails without a change: {status}, {out}')
     args.write_text('fn first(all: &[u8], n: usize) -> bool {\n    if n < 2 {\n        note(n);\n    }\n    all[n] == b\'0\'\n}\n')
     status, out = place.python('tools/plant.py', '--list', 'vipr_command')
@@ -257,6 +305,7 @@ def main():
     with tempfile.TemporaryDirectory(prefix='vipr-tools-') as name:
         place = Place(Path(name))
         scripts()
+        numbers(place)
         build(place)
         make(place)
         changes(place)

@@ -1,22 +1,26 @@
 #!/usr/bin/env python3
 """Plants changes in the code, one at a time, and lists those that no test refuses.
 
-usage: tools/plant.py [--every N] [--jobs N] [--again] [--list] [--write] [--program PROGRAM] AREA ..
+usage: tools/plant.py [--every N] [--jobs N] [--scripts NAME ..] [--again] [--list] [--write] [--program PROGRAM] AREA ..
 An AREA is vipr_command, vipr_explain, vipr_page, vipr_bytes or python.
 
 changes.py finds the changes. Those of the crates are all in one program, which is built without a proof, as `rt try` compiles
 it; a number in its file says which of them is there. Those that don't compile aren't planted. For python/ a module is changed
 in a copy of the repository, whose tests run PROGRAM, or the one that is built here.
 
-Scripts of tests/ run with each, up to the first that ends with another status than 0, prints a fault, or goes on for 20
-minutes; another page than one that tests/long.py compares byte for byte counts as refused by it. Each script first runs with
-no change planted. --every N plants one in N of the changes, always the same; --list prints them, and does nothing more.
+Scripts of tests/ run with each, up to the first that ends with another status than 0, prints a fault, or takes ten times as
+long as without a change, but two minutes at least; another page than one that tests/long.py compares byte for byte counts as
+refused by it. A run of the program may take half a minute. Each script first runs with no change planted. --every N plants one in
+N of the changes, always the same; --scripts runs these scripts alone, as `--scripts answers,output`; --list prints the changes, and
+does nothing more.
 
-What each came to is kept in out/plants, and a run that is cut off goes on there. A change is tried anew if its function changes,
-and with --again if it survived. --write puts what survives into docs/PLANTS.md, with the reasons that stand there. Prints each
-that survives, and last `planted N, refused R, survive S`; the exit status is 1 if one has no reason.
+What each script came to is kept in out/plants, and a run that is cut off goes on there. A change is tried anew if its function
+changes, and with --again if it survived. --write puts what survives into docs/PLANTS.md, with the reasons that stand there. Prints
+each that survives, and last `planted N, refused R, survive S`, and how many not all scripts were run with. The exit status is 1
+if one that survives has no reason.
 """
 import argparse
+import hashlib
 import json
 import os
 import re
@@ -27,6 +31,7 @@ import subprocess
 import sys
 import tempfile
 import threading
+import time
 from collections import Counter, defaultdict
 from concurrent.futures import ThreadPoolExecutor
 from pathlib import Path
@@ -42,9 +47,9 @@ from texts import run  # noqa: E402
 AREAS = ['vipr_command', 'vipr_explain', 'vipr_page', 'vipr_bytes', 'python']
 PAGE, KEPT = TOP / 'docs/PLANTS.md', TOP / 'out/plants'
 MARKS = '<!-- what survives: written by tools/plant.py -->', '<!-- end of what survives -->'
-# the scripts that try a program, the short ones first, and those that try a module of python/, with the parts that do.
-# (tests/archive.py alone tries the others, with what is proved and built)
-SUMS, ALL = 'python sides many_rows turned_claims comparisons commands', 'answers interface output calls conformance kills fuzz hostile large long'.split()
+# the scripts that try a program, those first that refuse most in a short time, and those that try a module of python/, with the
+# parts that do. (tests/archive.py alone tries the others, with what is proved and built)
+SUMS, ALL = 'python sides many_rows turned_claims comparisons commands', 'answers output long calls kills interface conformance fuzz large hostile'.split()
 SCRIPTS = {
     'vipr_command': ALL, 'vipr_bytes': ALL, 'vipr_explain': ['long', 'hostile'], 'vipr_page': ['long', 'hostile'],
     'mps.py': [SUMS], 'compare_mps.py': [SUMS], 'verdict.py': [f'{SUMS} reader check_all'], 'algebra.py': [SUMS, 'browser'], 'files.py': ['python commands'],
@@ -52,7 +57,10 @@ SCRIPTS = {
     'stats.py': ['python figures commands'], 'proof.py': ['python figures sets_of_assumptions pictures', 'browser'], 'html.py': ['browser'],
     'library.py': ['python called inputs commands'], 'writer.py': ['writer'], 'build_manual.py': ['python manual'],
 }
-SECONDS, NO_REASON = 1200, 'not looked at'
+# how long a script may take, and a run of the program in it or for a page
+LEAST, SECONDS_OF_A_RUN, NO_REASON = 120, 30, 'not looked at'
+RUNNER = (f'import os, runpy, sys; sys.path.insert(0, os.path.abspath("tests")); import texts; texts.SECONDS = {SECONDS_OF_A_RUN}; '
+          'sys.argv = sys.argv[1:]; runpy.run_path(sys.argv[0], run_name="__main__")')
 
 
 # ---- a program with all of them
@@ -95,18 +103,48 @@ def build(changes, program):
 # ---- what refuses them
 
 def scripts_for(change):
-    """The scripts that try a change: those of its crate, or of its module."""
+    """The scripts that try a change, with their parts: those of its crate, or of its module."""
     return next(SCRIPTS[it] for it in change.file.split('/')[::-1] if it in SCRIPTS)
 
 
-def refuses(words, folder):
-    """Whether a script ends with another status than 0, prints a fault, or takes too long."""
+class Kept:
+    """What each script came to with each change, so far: `-` for one that is no program."""
+
+    def __init__(self):
+        self.refused, self.passed, self.lock = {}, defaultdict(set), threading.Lock()
+        KEPT.parent.mkdir(exist_ok=True)
+        for line in KEPT.read_text().split('\n')[:-1] if KEPT.is_file() else []:
+            self.take(*line.split(' '))
+
+    def take(self, key, word):
+        if word.startswith('+'):
+            self.passed[key].add(word[1:])
+        else:
+            self.refused[key] = word
+
+    def note(self, key, word):
+        word = word.replace(' ', ',')
+        with self.lock, open(KEPT, 'a', encoding='utf-8') as file:
+            print(f'{key} {word}', file=file)
+            self.take(key, word)
+
+    def left(self, change):
+        """The scripts that weren't run with a change, and none if one refuses it."""
+        return [] if change.key in self.refused else [it for it in scripts_for(change) if it.replace(' ', ',') not in self.passed[change.key]]
+
+    def end(self, change):
+        """The script that refuses a change, `?` if not all were run, and nothing if it survives."""
+        return '?' if self.left(change) else self.refused.get(change.key, '')
+
+
+def refuses(words, folder, seconds):
+    """Whether a script ends with another status than 0, prints a fault, or takes longer than this."""
     room = tempfile.mkdtemp(prefix='vipr-plant-')
     os.chmod(room, 0o755)
-    with subprocess.Popen([sys.executable, *map(str, words)], cwd=folder, stdin=subprocess.DEVNULL, stdout=subprocess.PIPE, text=True,
+    with subprocess.Popen([sys.executable, '-c', RUNNER, *map(str, words)], cwd=folder, stdin=subprocess.DEVNULL, stdout=subprocess.PIPE, text=True,
                           stderr=subprocess.STDOUT, errors='replace', start_new_session=True,
                           env={**os.environ, 'TMPDIR': room, 'PYTHONDONTWRITEBYTECODE': '1'}) as child:
-        clock = threading.Timer(SECONDS, os.killpg, (child.pid, signal.SIGKILL))
+        clock = threading.Timer(seconds, os.killpg, (child.pid, signal.SIGKILL))
         clock.start()
         fault = next((line for line in child.stdout if not line.startswith(f'{Path(words[0]).stem}: ')), None)
         clock.cancel()
@@ -139,30 +177,46 @@ def pages_of(program, kept):
     return json.loads(kept.read_text())
 
 
-def first_that_refuses(change, number, program, pages):
-    """The first script that refuses a change, and nothing if none does."""
+def lay_out(change, number, program, room):
+    """Plants a change: the folder whose scripts are run, and the program for them."""
+    if change.file.startswith('python/'):
+        folder = room / 'tree'
+        folder.mkdir()
+        for path in TOP.iterdir():
+            if path.name in ('python', 'tests'):
+                shutil.copytree(path, folder / path.name, ignore=shutil.ignore_patterns('__pycache__'))
+            elif path.name != '.git':
+                (folder / path.name).symlink_to(path)
+        (folder / change.file).write_bytes(changed_module(change))
+        return folder, program
+    # (by other processes: one that this thread forks meanwhile would hold the file open, and it couldn't be run)
+    planted, program = program, room / 'vipr'
+    run(['cp', planted, program])
+    run(['dd', f'of={program}', 'bs=1', f'seek={planted.read_bytes().index(MARK) + len(MARK)}', 'conv=notrunc'], struct.pack('<I', number))
+    return TOP, program
+
+
+def has_another_page(program, pages):
+    """Whether one of the pages is another one."""
+    return any(run([program, *words], text.encode('latin-1'), timeout=SECONDS_OF_A_RUN).stdout != page.encode('latin-1')
+               for text, page, *words in pages)
+
+
+def tried(change, number, program, pages, scripts, kept, seconds):
+    """Runs these scripts with a change, up to the first that refuses it."""
     with tempfile.TemporaryDirectory(prefix='vipr-plant-') as name:
-        folder, room = TOP, Path(name)
+        room = Path(name)
         room.chmod(0o755)
-        if change.file.startswith('python/'):
-            folder = room / 'tree'
-            folder.mkdir()
-            for path in TOP.iterdir():
-                if path.name in ('python', 'tests'):
-                    shutil.copytree(path, folder / path.name, ignore=shutil.ignore_patterns('__pycache__'))
-                elif path.name != '.git':
-                    (folder / path.name).symlink_to(path)
-            (folder / change.file).write_bytes(changed_module(change))
-        else:
-            # (by other processes: one that this thread forks meanwhile would hold the file open, and it couldn't be run)
-            planted, program = program, room / 'vipr'
-            run(['cp', planted, program])
-            run(['dd', f'of={program}', 'bs=1', f'seek={planted.read_bytes().index(MARK) + len(MARK)}', 'conv=notrunc'], struct.pack('<I', number))
-            for text, page, *words in pages:
-                if run([program, *words], text.encode('latin-1')).stdout != page.encode('latin-1'):
-                    return 'long'
-        runs = map(str.split, scripts_for(change))
-        return next((script for script, *parts in runs if refuses([f'tests/{script}.py', program, *parts], folder)), '')
+        folder, program = lay_out(change, number, program, room)
+        if 'long' in scripts and has_another_page(program, pages):
+            kept.note(change.key, 'long')
+            return
+        for script in scripts:
+            it, *parts = script.split()
+            if refuses([f'tests/{it}.py', program, *parts], folder, seconds[script]):
+                kept.note(change.key, it)
+                return
+            kept.note(change.key, f'+{script}')
 
 
 # ---- the list
@@ -178,19 +232,19 @@ def reasons():
     return {name: why for name, why in rows if why != NO_REASON}
 
 
-def listed(changes, came):
+def listed(changes, kept):
     """The part of the page: how many each script refused, and each change that survives, with its reason."""
     lines = ['| Changed | Planted | Refused | By | Survive | Not tried to the end |', '|---|---|---|---|---|---|']
     groups, known = defaultdict(list), reasons()
     for it in changes:
-        groups['python' if it.file.startswith('python') else it.file.split('/')[1]].append(came.get(it.key, '?'))
+        groups['python' if it.file.startswith('python') else it.file.split('/')[1]].append(kept.end(it))
     for group, scripts in groups.items():
         count = Counter(scripts)
         rest, survive = count.pop('?', 0), count.pop('', 0)
         by = ', '.join(f'`{script}.py` {number}' for script, number in count.most_common())
         lines.append(f'| `{group}` | {len(scripts)} | {sum(count.values())} | {by} | {survive} | {rest} |')
     lines += ['', '| Survives | Why |', '|---|---|']
-    lines += [f'| {shown(it)} | {known.get(shown(it), NO_REASON)} |' for it in changes if came.get(it.key) == '']
+    lines += [f'| {shown(it)} | {known.get(shown(it), NO_REASON)} |' for it in changes if kept.end(it) == '']
     return '\n'.join(lines)
 
 
@@ -199,6 +253,7 @@ def main():
     words.add_argument('areas', nargs='+', choices=AREAS, metavar='AREA', help=', '.join(AREAS))
     words.add_argument('--every', type=int, default=1, metavar='N', help='plant one in N changes')
     words.add_argument('--jobs', type=int, default=2, metavar='N', help='try N at once')
+    words.add_argument('--scripts', type=lambda it: it.split(','), metavar='NAME,..', help='run these scripts alone')
     words.add_argument('--program', type=Path, default=TOP / 'crates/vipr/out/vipr', help='the program for the tests of python/')
     words.add_argument('--again', action='store_true', help='try once more what survived')
     words.add_argument('--list', action='store_true', help='print the changes')
@@ -209,45 +264,62 @@ def main():
     if given.list:
         print(*(f'{it.file}:{it.line}: {it.function}: {it.what}' for it in changes), sep='\n')
         return 0
-    KEPT.parent.mkdir(exist_ok=True)
-    came = dict(line.split(' ') for line in KEPT.read_text().split('\n')[:-1]) if KEPT.is_file() else {}
-    todo = [it for it in changes if it.key not in came or given.again and not came[it.key]]
-    if todo:
-        try_all(todo, came, given)
-    changes = [it for it in changes if came[it.key] != '-']
-    missing = sum(not came[it.key] and shown(it) not in reasons() for it in changes)
+    kept = Kept()
+    if given.again:
+        for it in changes:
+            if kept.end(it) == '':
+                kept.passed.pop(it.key, None)
+    todo = {it: [script for script in kept.left(it) if not given.scripts or script.split()[0] in given.scripts] for it in changes}
+    if any(todo.values()):
+        try_all({it: scripts for it, scripts in todo.items() if scripts}, kept, [it for area in given.areas for it in known[area]], given)
+    changes = [it for it in changes if kept.end(it) != '-']
+    survive = [it for it in changes if kept.end(it) == '']
     if given.write:
-        text = listed([it for area in AREAS for it in known[area] if came.get(it.key) != '-'], came)
+        text = listed([it for area in AREAS for it in known[area] if kept.end(it) != '-'], kept)
         PAGE.write_text(replaced(PAGE.read_text(encoding='utf-8'), MARKS, '\n'.join([MARKS[0], text, MARKS[1]])), encoding='utf-8')
-    survive = sum(not came[it.key] for it in changes)
-    print(f'planted {len(changes)}, refused {len(changes) - survive}, survive {survive}')
-    return int(missing > 0)
+    for it in survive:
+        print(f'{it.file}:{it.line}: {it.function}: {it.what}')
+    rest = sum(kept.end(it) == '?' for it in changes)
+    print(f'planted {len(changes)}, refused {len(changes) - len(survive) - rest}, survive {len(survive)}' + (f', {rest} not tried to the end' if rest else ''))
+    return int(any(shown(it) not in reasons() for it in survive))
 
 
-def try_all(todo, came, given):
-    """Tries changes, and keeps what each came to; those that are no program are not planted."""
-    of_crates, numbers, pages = [it for it in todo if it.file.startswith('crates/')], {}, []
-    planted = KEPT.with_name('planted')
-    if of_crates:
-        numbers = {it.key: number for number, it in build(of_crates, planted).items()}
-        pages = pages_of(planted, KEPT.with_name('pages.json'))
+def program_with(changes):
+    """The program with these changes, their numbers by their keys, and the pages to compare: built, or kept of an earlier run."""
+    sources = [it.read_bytes() for folder in ('crates', 'tools', 'tests') for it in sorted((TOP / folder).rglob('*'))
+               if it.suffix in ('.rt', '.py', '.txt') and 'out' not in it.parts]
+    folder = KEPT.with_name(f'planted-{hashlib.sha256(b"".join([*sources, *(it.key.encode() for it in changes)])).hexdigest()[:12]}')
+    folder.mkdir(exist_ok=True)
+    planted, numbers = folder / 'vipr', folder / 'numbers.json'
+    if not numbers.is_file():
+        numbers.write_text(json.dumps({it.key: number for number, it in build(changes, planted).items()}))
+    return planted, json.loads(numbers.read_text()), pages_of(planted, folder / 'pages.json')
 
-    def tried(it, is_planted=True):
-        is_of_crate = it in of_crates
-        if is_of_crate and it.key not in numbers:
-            return it, '-'
-        return it, first_that_refuses(it if is_planted else it._replace(form=lambda inner, _: inner), numbers[it.key] * is_planted if is_of_crate else 0,
-                                      planted if is_of_crate else given.program, pages if is_of_crate else [])
-    for it in {str(scripts_for(it)): it for it in todo}.values():
-        script = tried(it, False)[1]
-        if script:
-            sys.exit(f'tests/{script}.py fails with no change planted')
-    with ThreadPoolExecutor(given.jobs) as pool, open(KEPT, 'a', encoding='utf-8') as file:
-        for it, script in pool.map(tried, todo):
-            came[it.key] = script
-            print(f'{it.key} {script}', file=file, flush=True)
-            if not script:
-                print(f'{it.file}:{it.line}: {it.function}: {it.what}', flush=True)
+
+def try_all(todo, kept, known, given):
+    """Tries changes, each by its scripts; those that are no program are not planted."""
+    of_crates = [it for it in known if it.file.startswith('crates/')]
+    is_crate = any(it.file.startswith('crates/') for it in todo)
+    planted, numbers, pages = program_with(of_crates) if is_crate else (None, {}, [])
+    for it in todo:
+        if it.file.startswith('crates/') and it.key not in numbers:
+            kept.note(it.key, '-')
+    todo = {it: scripts for it, scripts in todo.items() if kept.left(it)}
+    seconds = {}
+    with tempfile.TemporaryDirectory(prefix='vipr-plant-') as name:
+        Path(name).chmod(0o755)
+        for script, it in {script: it for it, scripts in todo.items() for script in scripts}.items():
+            program, start = planted if it.key in numbers else given.program, time.monotonic()
+            first, *parts = script.split()
+            if refuses([f'tests/{first}.py', program, *parts], TOP, 3600):
+                sys.exit(f'tests/{first}.py fails with no change planted')
+            seconds[script] = max(LEAST, 10 * (time.monotonic() - start))
+            print(f'{script}: {time.monotonic() - start:.0f} seconds with no change planted', flush=True)
+    with ThreadPoolExecutor(given.jobs) as pool:
+        runs = [pool.submit(tried, it, numbers.get(it.key, 0), planted if it.key in numbers else given.program,
+                            pages if it.key in numbers else [], scripts, kept, seconds) for it, scripts in todo.items()]
+        for it in runs:
+            it.result()
 
 
 if __name__ == '__main__':
