@@ -52,12 +52,12 @@ def exported(*words):
     return sorted({row[2].split('@')[0] for row in rows if len(row) == 3 and row[1] != 'A'})
 
 
-def make(folder, version):
-    """Builds both libraries, and gives their files."""
+def make(folder, version, archives):
+    """Makes both libraries of these archives, and gives their files."""
     archive, shared = folder / 'libvipr.a', folder / f'libvipr.so.{version}'
     with tempfile.TemporaryDirectory(prefix='vipr-library-') as room:
         whole, new_archive, new_shared = (Path(room) / name for name in ('vipr.o', 'libvipr.a', 'libvipr.so'))
-        run('ld', '-r', '-o', whole, '--whole-archive', *parts())
+        run('ld', '-r', '-o', whole, '--whole-archive', *archives)
         run('objcopy', '--wildcard', '--keep-global-symbol=vipr_*', whole)
         run('ar', 'rcsD', new_archive, whole)
         run('cc', '-shared', '-o', new_shared, whole, f'-Wl,-soname,libvipr.so.{version.split(".")[0]}',
@@ -83,7 +83,7 @@ def main():
     folder = Path(sys.argv[2]) if len(sys.argv) > 2 else TOP / 'crates/vipr_c/out'
     start = time.monotonic()
     try:
-        make(folder, sys.argv[1])
+        make(folder, sys.argv[1], parts())
     except Failed as fault:
         print(fault)
         return 1

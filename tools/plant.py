@@ -5,7 +5,8 @@ usage: tools/plant.py [--every N] [--jobs N] [--scripts NAME ..] [--again] [--li
 An AREA is vipr_command, vipr_explain, vipr_page, vipr_bytes or python.
 
 changes.py finds the changes. Those of the crates are all in one program, which is built without a proof, as `rt try` compiles
-it; a number in its file says which of them is there. Those that don't compile aren't planted. For python/ a module is changed
+it; a number in its file says which of them is there. Those that don't compile aren't planted, nor are those of functions that
+the program doesn't have. For python/ a module is changed
 in a copy of the repository, whose tests run PROGRAM, or the one that is built here.
 
 Scripts of tests/ run with each, up to the first that ends with another status than 0, prints a fault, or takes ten times as
@@ -89,7 +90,8 @@ def build(changes, program):
                 (room / file).write_text(guarded(text, 0, len(text), rows), encoding='utf-8')
             said = compiled(room, program)
             if not said:
-                return numbered
+                there = {int(it) for it in re.findall(rf'@"{CALL}"\(i32 (\d+)\)', (room / 'module.ll').read_text(encoding='utf-8'))}
+                return {number: it for number, it in numbered.items() if number in there}
             faulty = set()
             for file, line, column in re.findall(r'(\S+?\.rt):(\d+):(\d+): error', said):
                 shown = (room / file).read_text(encoding='utf-8').split('\n')[int(line) - 1]
