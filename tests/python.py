@@ -103,7 +103,7 @@ def installed(room):
         return modules()
     shutil.copytree(TOP / 'python', room / 'source', ignore=shutil.ignore_patterns('__pycache__'))
     said, fault, status = run([sys.executable, '-m', 'pip', 'install', '-q', '--no-index', '--disable-pip-version-check',
-                               '--target', room / 'site', room / 'source'])
+                               '--target', room / 'site', room / 'source'], timeout=600)
     check(status == 0, (said + fault).decode())
     return {name: [sys.executable, room / 'site/bin' / f'vipr-{name}'] for name in NAMES} if status == 0 else modules()
 

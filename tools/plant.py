@@ -144,7 +144,7 @@ def refuses(words, folder, seconds):
     room = tempfile.mkdtemp(prefix='vipr-plant-')
     os.chmod(room, 0o755)
     with subprocess.Popen([sys.executable, '-c', RUNNER, *map(str, words)], cwd=folder, stdin=subprocess.DEVNULL, stdout=subprocess.PIPE, text=True,
-                          stderr=subprocess.STDOUT, errors='replace', start_new_session=True,
+                          stderr=subprocess.STDOUT, errors='replace', preexec_fn=os.setpgrp,
                           env={**os.environ, 'TMPDIR': room, 'PYTHONDONTWRITEBYTECODE': '1'}) as child:
         clock = threading.Timer(seconds, os.killpg, (child.pid, signal.SIGKILL))
         clock.start()
@@ -210,12 +210,9 @@ def tried(change, number, program, pages, scripts, kept, seconds):
         room = Path(name)
         room.chmod(0o755)
         folder, program = lay_out(change, number, program, room)
-        if 'long' in scripts and has_another_page(program, pages):
-            kept.note(change.key, 'long')
-            return
         for script in scripts:
             it, *parts = script.split()
-            if refuses([f'tests/{it}.py', program, *parts], folder, seconds[script]):
+            if it == 'long' and has_another_page(program, pages) or refuses([f'tests/{it}.py', program, *parts], folder, seconds[script]):
                 kept.note(change.key, it)
                 return
             kept.note(change.key, f'+{script}')
@@ -287,22 +284,22 @@ def main():
 
 
 def program_with(changes):
-    """The program with these changes, their numbers by their keys, and the pages to compare: built, or kept of an earlier run."""
-    sources = [it.read_bytes() for folder in ('crates', 'tools', 'tests') for it in sorted((TOP / folder).rglob('*'))
-               if it.suffix in ('.rt', '.py', '.txt') and 'out' not in it.parts]
+    """The program with these changes, and their numbers by their keys: built, or kept of an earlier run."""
+    sources = [it.read_bytes() for pattern in ('crates/*/src/**/*.rt', 'tests/long*', 'tests/page_*') for it in sorted(TOP.glob(pattern))]
     folder = KEPT.with_name(f'planted-{hashlib.sha256(b"".join([*sources, *(it.key.encode() for it in changes)])).hexdigest()[:12]}')
     folder.mkdir(exist_ok=True)
     planted, numbers = folder / 'vipr', folder / 'numbers.json'
     if not numbers.is_file():
         numbers.write_text(json.dumps({it.key: number for number, it in build(changes, planted).items()}))
-    return planted, json.loads(numbers.read_text()), pages_of(planted, folder / 'pages.json')
+    return planted, json.loads(numbers.read_text())
 
 
 def try_all(todo, kept, known, given):
     """Tries changes, each by its scripts; those that are no program are not planted."""
     of_crates = [it for it in known if it.file.startswith('crates/')]
     is_crate = any(it.file.startswith('crates/') for it in todo)
-    planted, numbers, pages = program_with(of_crates) if is_crate else (None, {}, [])
+    planted, numbers = program_with(of_crates) if is_crate else (None, {})
+    pages = pages_of(planted, planted.with_name('pages.json')) if is_crate and any('long' in it for it in todo.values()) else []
     for it in todo:
         if it.file.startswith('crates/') and it.key not in numbers:
             kept.note(it.key, '-')
