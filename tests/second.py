@@ -37,17 +37,20 @@ PROFILES = [], ['--profile', '2']
 AT_ONCE = 100
 # wrong versions of the checker's tests: what it is, and what to replace in Check.v or Read.v by what
 WRONG = {
-    'sign of L in a sum': ('match sense_ (what s) with L => - snd e |', 'match sense_ (what s) with L => snd e |'),
+    'sign of L in a sum': (
+        'let u := fst x * sign (what (snd x)) in',
+        'let u := match sense (what (snd x)) with L => fst x | _ => fst x * sign (what (snd x)) end in'),
     'floor for ceiling': ('(Qceiling (side_ a))) d', '(Qfloor (side_ a))) d'),
     'an assumption kept out of the wrong branch': ('without l1 c1', 'without l2 c1'),
     'cutoff by the worst solution': ('(if better v (f i) then v else f i)', '(if better v (f i) then f i else v)'),
     'a split with a gap': ('Qeq_bool high (low + 1)', 'Qle_bool (low + 1) high'),
     'an equation rounded': (
         '| E => negb (is_whole (side_ a)) || dominates a d', '| E => dominates (with_side a (Qfloor (side_ a))) d'),
-    'a goal with assumptions': ('found t || are_empty (rests s) && goals e a', 'found t || goals e a'),
+    'a goal with assumptions': ('found t || PositiveSet.is_empty (rests s) && goals e a', 'found t || goals e a'),
     'a fractional coefficient rounded': ('(is_zero q || i && is_whole q)', '(is_zero q || i)'),
     'an integer variable left out': (
-        'Some (PositiveSet.add (N.succ_pos j) t)', 'Some (if N.eqb j 0 then t else PositiveSet.add (N.succ_pos j) t)'),
+        '(fun t j => PositiveSet.add (N.succ_pos j) t) (integers p)',
+        '(fun t j => if N.eqb j 0 then t else PositiveSet.add (N.succ_pos j) t) (integers p)'),
     'a dropped reference used': (
         'if live (next t) s then Some s else None | None => None end.', 'Some s | None => None end.'),
 }
