@@ -49,7 +49,7 @@ def many_solutions():
     """A refused solution, a best one and a primal bound behind others."""
     first = 's 1 0 2\n' * 5_000
     yield 'refused', f'{FRONT}RTP range -inf 1 SOL 5001\n{first}bad 1 0 1/2 DER 0'
-    yield 'no primal', f'{FRONT}RTP range -inf 1 SOL 5000\n{first}DER 0'
+    yield 'no primal', f'{FRONT}RTP range -inf 1 SOL 20000\n{4 * first}DER 0'
     yield 'best', f'{FRONT}RTP range -inf 1 SOL 5001\n{first}best 1 0 1 DER 0'
     for best in range(12):
         others = ' '.join(f's{at} 1 0 {1 if at == best else 2}' for at in range(12))
@@ -110,8 +110,9 @@ def advice():
         sum_of_all = listed(count, *(f'{at + 1} 1/{count}' for at in range(count)))
         yield f'{count} assumptions', f'{FRONT}RTP range 3 inf SOL 0 DER {count + 1} {sets} s G 1 OBJ {{ lin {sum_of_all} }} -1'
     for row, stated in (('2 0 1 1 1', '2 0 -1 1 1'), ('2 0 1 1 1', '2 0 -1 1 -1'), ('1 0 1', '1 0 -1'), ('2 0 1 1 2', '1 0 -1')):
-        yield f'turned, {row} and {stated}', (f'VER 1.0 VAR 2 x y INT 0 OBJ min 0 CON 1 0 a G 1 {row} RTP infeas SOL 0 DER 1 '
-                                              f'd L 1 {stated} {{ lin 1 0 1 }} -1')
+        for entries in ('1 0 1', '2 0 1/2 0 1/2'):
+            yield f'turned, {row} and {stated} by {entries}', (f'VER 1.0 VAR 2 x y INT 0 OBJ min 0 CON 1 0 a G 1 {row} RTP infeas SOL 0 '
+                                                               f'DER 1 d L 1 {stated} {{ lin {entries} }} -1')
 
 
 def texts():
