@@ -1,9 +1,7 @@
 -- A text that grows in memory
 use Rattle.std.proofs.Common.{◌≡◌, ℕ, false, List, ◌++◌, [], Result, Ok, Err, IfOk, sym, ap, ◌∙◌}
 use Rattle.std.proofs.lemmas.List.{append-nil}
-use Rattle.vipr_bytes.specs.Grown.{GrowsBy}
-use Rattle.vipr_bytes.specs.Puts.{Puts}
-use Rattle.vipr_bytes.specs.declared.growing.Growing.{Growing}
+use Rattle.vipr_bytes.specs.{Grown.GrowsBy, Puts.Puts, declared.growing.Growing.Growing}
 
 -- unless a growth was refused, it grew by what was put
 pub grown : (old new : Growing) (bytes : List ℕ) → Puts GrowsBy old new bytes → new.failed ≡ false

@@ -2,8 +2,7 @@
 use Rattle.std.proofs.Common.{◌≡◌, ℕ, zero, suc, ◌+◌, ◌-◌, ◌<◌, ◌≤◌, refl, option_map, List, ◌++◌}
 use Rattle.std.proofs.Common.{length, take, drop, Option, Some, None, Ok, IfSome, sym, ap, ◌∙◌}
 use Rattle.std.proofs.Common.{subst, append_assoc, slice_range, arith}
-use Rattle.std.proofs.Math.Seq.{take-add}
-use Rattle.std.proofs.lemmas.List.{take_all, length-drop}
+use Rattle.std.proofs.{Math.Seq.take-add, lemmas.List.take_all, lemmas.List.length-drop}
 use Rattle.vipr_bytes.specs.Output.{Output, Writes, with_first, failure_of}
 
 -- the writer took the first n bytes, and had room for them

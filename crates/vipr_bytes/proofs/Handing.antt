@@ -1,18 +1,15 @@
 -- A text that is handed to a sink piece by piece
-use Rattle.std.proofs.Common.{◌≡◌, ℕ, suc, ◌+◌, ◌-◌, ◌<◌, ◌≤◌, refl, option_map, Bool, true}
-use Rattle.std.proofs.Common.{false, List, [], ◌++◌, length, take, Option, Some}
-use Rattle.std.proofs.Common.{None, Result, Ok, Err, IfSome, IfErr, sym, ap, ◌∙◌, subst}
-use Rattle.std.proofs.Common.{append_assoc, arith}
+use Rattle.std.proofs.Common.{◌≡◌, ℕ, suc, ◌+◌, ◌-◌, ◌<◌, ◌≤◌, refl, option_map, Bool, true, false}
+use Rattle.std.proofs.Common.{List, [], ◌++◌, length, take, Option, Some, None, Result, Ok, Err}
+use Rattle.std.proofs.Common.{IfSome, IfErr, sym, ap, ◌∙◌, subst, append_assoc, arith}
 use Rattle.std.proofs.Math.Seq.{take-append-add}
 use Rattle.std.proofs.lemmas.List.{length-append, take-append-le, append-nil}
-use Rattle.vipr_bytes.specs.Output.{Output, with_first}
 use Rattle.vipr_bytes.specs.Written.{Wrote, with_all, EndsAtFailure}
 use Rattle.vipr_bytes.specs.declared.write.WriteFailed.{WriteFailed}
 use Rattle.vipr_bytes.specs.Hands.{Start, start_of, counted, IsEnd, Flows, Stops, Carries_by, Hands}
-use Rattle.vipr_bytes.specs.Puts.{Puts}
-use Rattle.vipr_bytes.specs.Sent.{Carries, Sends, SendsTo}
 use Rattle.vipr_bytes.specs.declared.sink_buffer.SinkBuffer.{SinkBuffer}
-use Rattle.vipr_bytes.specs.declared.sink_buffer.ToSink.{ToSink}
+use Rattle.vipr_bytes.specs.{Output.Output, Output.with_first, Puts.Puts, Sent.Carries, Sent.Sends}
+use Rattle.vipr_bytes.specs.{Sent.SendsTo, declared.sink_buffer.ToSink.ToSink}
 
 output : (accepted taken' : List ℕ) (room room' : Option ℕ) → accepted ≡ taken' → room ≡ room'
     → (let o : Output = record { accepted = accepted; room = room } in o)

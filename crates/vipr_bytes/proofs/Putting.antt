@@ -1,10 +1,9 @@
 -- A text that is put piece by piece
 use Rattle.std.proofs.Common.{◌≡◌, ℕ, ◌+◌, ◌<◌, ◌≤◌, List, [], ◌∷◌, ◌++◌, length, map, take, get_or}
 use Rattle.std.proofs.Common.{sym, ap, ◌∙◌, subst, append_assoc}
-use Rattle.std.specs.List.{flat_map}
 use Rattle.std.proofs.lemmas.List.{append-nil, take_all, take_more}
-use Rattle.std.proofs.lemmas.List.Folds.{flat_map-map}
-use Rattle.std.proofs.lemmas.Grind.{flat_map-append}
+use Rattle.std.proofs.{lemmas.Grind.flat_map-append, lemmas.List.Folds.flat_map-map}
+use Rattle.std.specs.List.{flat_map}
 use Rattle.vipr_bytes.specs.Puts.{Puts}
 
 module _ {S : Type 0} {carries : S → List ℕ → S → Type 0} where

@@ -1,9 +1,8 @@
 -- What a sink took of a text, whose last bytes are in a buffer
 use Rattle.std.specs.Prelude.{◌≡◌, ℕ, ◌-◌, ◌^◌, ◌<◌, min, Bool, true, false, List, [], ◌++◌}
 use Rattle.std.specs.Prelude.{length, Option, IfSome, IfErr, Result, Ok, Err}
-use Rattle.vipr_bytes.specs.Output.{Output}
-use Rattle.vipr_bytes.specs.Written.{Wrote, EndsAtFailure}
 use Rattle.vipr_bytes.specs.declared.write.WriteFailed.{WriteFailed}
+use Rattle.vipr_bytes.specs.{Output.Output, Written.Wrote, Written.EndsAtFailure}
 
 -- what is known of a sink: its output, and how many writes have failed or accepted nothing
 pub record Start : Type 0 where

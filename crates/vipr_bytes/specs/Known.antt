@@ -1,8 +1,6 @@
 -- Premises on what a source gives
 use Rattle.std.specs.Prelude.{◌≡◌, ◌<◌, ◌^◌, ℕ, false, List, length, Option, IfSome}
-use Rattle.vipr_spec.specs.Input.{Input}
-use Rattle.vipr_spec.specs.Tokens.{tokens}
-use Rattle.vipr_spec.specs.Reading.{Rest}
+use Rattle.vipr_spec.specs.{Input.Input, Reading.Rest, Tokens.tokens}
 
 -- all that there is to read of what a source gives
 abbrev pub text_of : Input → Rest

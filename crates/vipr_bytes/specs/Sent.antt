@@ -1,9 +1,8 @@
 -- A text that is handed to a sink through a buffer
 use Rattle.std.specs.Prelude.{◌≡◌, ℕ, List, ◌++◌, Option}
-use Rattle.vipr_bytes.specs.Output.{Output}
 use Rattle.vipr_bytes.specs.Hands.{Start, start_of, Carries_by}
 use Rattle.vipr_bytes.specs.declared.sink_buffer.SinkBuffer.{SinkBuffer}
-use Rattle.vipr_bytes.specs.declared.sink_buffer.ToSink.{ToSink}
+use Rattle.vipr_bytes.specs.{Output.Output, declared.sink_buffer.ToSink.ToSink}
 
 -- a text from the start on, up to now
 abbrev pub Carries : Start → Start → SinkBuffer → List ℕ → Type 0

@@ -1,7 +1,6 @@
 ghost use Rattle.std.specs.Prelude.{◌≡◌, ℕ, ◌+◌, ◌<◌, ◌≤◌, List, length, Option, Some, None};
 ghost use Rattle.std.specs.Prelude.{Result, IfOk, IfSome};
-ghost use Rattle.std.specs.declared.io.Error.{Error};
-ghost use Rattle.std.specs.Io.KnownBytes.{WriteAppends};
+ghost use Rattle.std.specs.{Io.KnownBytes.WriteAppends, declared.io.Error.Error};
 ghost use Rattle.vipr_bytes.specs.Asked.{PassesOn};
 ghost use Rattle.vipr_bytes.specs.Output.{Output, Writes, output_of, failure_of};
 

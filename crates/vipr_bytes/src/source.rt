@@ -1,11 +1,9 @@
 ghost use Rattle.std.specs.Prelude.{◌≡◌, ℕ, ◌+◌, ◌-◌, ◌^◌, ◌<◌, ◌≤◌, List, length, Option, Some};
 ghost use Rattle.std.specs.Prelude.{None, Result, Ok, false, IfOk, IfSome, IsErr, OnOk};
 ghost use Rattle.std.specs.Prelude.{MatchResult, ◌↔◌};
-ghost use Rattle.std.specs.Io.KnownBytes.{ReadConsumes};
+ghost use Rattle.std.specs.{Io.KnownBytes.ReadConsumes, declared.io.Error.Error};
 ghost use Rattle.vipr_spec.specs.Input.{Input};
-ghost use Rattle.vipr_bytes.specs.Reads.{ReadsBytes};
-ghost use Rattle.vipr_bytes.specs.Asked.{PassesOn};
-ghost use Rattle.std.specs.declared.io.Error.{Error};
+ghost use Rattle.vipr_bytes.specs.{Asked.PassesOn, Reads.ReadsBytes};
 
 use std::io::{self, Read};
 use std::marker::Model;

@@ -1,21 +1,15 @@
 -- Derivations that name earlier constraints alone, one after the other and all at once
 use Rattle.std.proofs.Common.{◌≡◌, ℕ, ◌+◌, ◌-◌, ◌<◌, ◌≤◌, List, [], ◌∷◌, ◌++◌, map, length, get_or}
 use Rattle.std.proofs.Common.{Option, Some, None, arith, refl, sym, ap, subst, ◌∙◌, inl, inr}
-use Rattle.std.proofs.lemmas.Bool.{cases_lt}
 use Rattle.std.proofs.lemmas.List.{get_or-map, length-map, get_or_past}
-use Rattle.std.proofs.Math.ListN.{get_or-append}
-use Rattle.std.proofs.Math.Seq.{get_or-append_right}
-use Rattle.std.specs.Prelude.{◌↔◌}
+use Rattle.std.proofs.{Math.ListN.get_or-append, Math.Seq.get_or-append_right, lemmas.Bool.cases_lt}
+use Rattle.std.specs.{FinMap.empty, Prelude.◌↔◌}
 use Rattle.vipr_spec.specs.Certificate as is
-use Rattle.std.specs.FinMap.{empty}
-use Rattle.vipr_spec.specs.Fraction.{zero_ℚ}
+use Rattle.vipr_spec.specs.{Certificate.NamesEarlier, Fraction.zero_ℚ, Steps.RefersBack}
 use Rattle.vipr_spec.specs.Constraint as linear
-use Rattle.vipr_spec.specs.Certificate.{NamesEarlier}
-use Rattle.vipr_spec.specs.Steps.{RefersBack}
 use Rattle.vipr_spec.proofs.Laws.{reasons_listed}
-use Rattle.vipr_cert.specs.Items.{reason_of, derivation_of}
-use Rattle.vipr_cert.specs.Earlier.{reason_in, NameEarlierFrom}
-use Rattle.vipr_cert.specs.declared.items.Derivation.{Derivation}
+use Rattle.vipr_cert.specs.{Earlier.reason_in, Earlier.NameEarlierFrom, Items.reason_of}
+use Rattle.vipr_cert.specs.{Items.derivation_of, declared.items.Derivation.Derivation}
 
 pub reason_is : (ds : List Derivation) (i : ℕ) (d : Derivation) → i < length ds → d ≡ get_or ds i d
     → reason_in ds i ≡ Some (reason_of d.reason)

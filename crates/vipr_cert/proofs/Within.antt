@@ -1,12 +1,10 @@
 -- Items that keep the limits, as they are tested and as the definitions see them
 use Rattle.std.proofs.Common.{ℕ, ◌<◌, List, [], ◌∷◌, map, All, get_or, sym, ◌∙◌}
-use Rattle.std.specs.Prelude.{◌↔◌, IsTrue}
 use Rattle.std.proofs.lemmas.List.Elements.{All-map, All-nil, All-cons, All-head, All-tail}
 use Rattle.std.proofs.lemmas.List.Elements.{All-contains, All-contains_itself}
+use Rattle.std.proofs.{lemmas.Bool.Decides.Decides-eqb, lemmas.Map.Made.is_member-Decides}
 use Rattle.std.specs.FinSet.{contains, from_list}
-use Rattle.std.specs.Ordering.{nat_cmp}
-use Rattle.std.proofs.lemmas.Bool.Decides.{Decides-eqb}
-use Rattle.std.proofs.lemmas.Map.Made.{is_member-Decides}
+use Rattle.std.specs.{Ordering.nat_cmp, Prelude.◌↔◌, Prelude.IsTrue}
 use Rattle.vipr_linear.proofs.Laws.{member}
 
 pub each_of : {A B : Type 0} (P : A → Type 0) (Q : B → Type 0) (xs : List A) → All P xs

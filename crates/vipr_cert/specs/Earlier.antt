@@ -2,8 +2,7 @@
 use Rattle.std.specs.Prelude.{ℕ, ◌+◌, ◌<◌, List, map, slice_index_or, Option, Some, None}
 use Rattle.vipr_spec.specs.Certificate as is
 use Rattle.vipr_spec.specs.Certificate.{NamesEarlier}
-use Rattle.vipr_cert.specs.Items.{reason_of}
-use Rattle.vipr_cert.specs.declared.items.Derivation.{Derivation}
+use Rattle.vipr_cert.specs.{Items.reason_of, declared.items.Derivation.Derivation}
 
 -- none past the end
 abbrev pub reason_in : List Derivation → ℕ → Option is.Reason

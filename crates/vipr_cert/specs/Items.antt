@@ -1,20 +1,16 @@
 -- The program's certificates as those of the definitions
 use Rattle.std.specs.Prelude.{ℕ, List, ◌∷◌, [], None, map}
 use Rattle.std.specs.FinMap.{empty}
-use Rattle.vipr_spec.specs.Fraction.{zero_ℚ}
+use Rattle.vipr_spec.specs.{Constraint.Ints, Constraint.Row, Constraint.equal, Fraction.zero_ℚ}
 use Rattle.vipr_spec.specs.Certificate as is
-use Rattle.vipr_spec.specs.Constraint.{Ints, Row, equal}
-use Rattle.vipr_linear.specs.Constraint.{constraint_of}
 use Rattle.vipr_linear.specs.declared.constraint.Constraint.{Constraint}
-use Rattle.vipr_linear.specs.declared.row.Solution.{Solution}
-use Rattle.vipr_cert.specs.declared.items.Named.{Named}
-use Rattle.vipr_cert.specs.declared.items.Claim.{Claim}
+use Rattle.vipr_linear.specs.{Constraint.constraint_of, declared.row.Solution.Solution}
 use Rattle.vipr_cert.specs.declared.items.Claim.TheVariants.{Infeas, Range}
-use Rattle.vipr_cert.specs.declared.items.Goal.{Goal}
 use Rattle.vipr_cert.specs.declared.items.Goal.TheVariants.{Min, Max}
-use Rattle.vipr_cert.specs.declared.items.Reason.{Reason}
 use Rattle.vipr_cert.specs.declared.items.Reason.TheVariants.{Asm, Lin, Rnd, Uns, Sol}
 use Rattle.vipr_cert.specs.declared.items.Derivation.{Derivation}
+use Rattle.vipr_cert.specs.{declared.items.Claim.Claim, declared.items.Goal.Goal}
+use Rattle.vipr_cert.specs.{declared.items.Named.Named, declared.items.Reason.Reason}
 
 abbrev pub named_of : {A B : Type 0} → (A → B) → Named A → is.Named B
 named_of view n = record { name = n.name; item = view n.item }

@@ -1,8 +1,7 @@
 -- How claims and names are printed
 use Rattle.std.specs.Prelude.{ℕ, List, ◌++◌, Option, Some, None, codes, encode_utf8_all}
 use Rattle.bstr.specs.Escape.{escaped}
-use Rattle.vipr_spec.specs.Fraction.{ℚ}
-use Rattle.vipr_spec.specs.Number.{number_text}
+use Rattle.vipr_spec.specs.{Fraction.ℚ, Number.number_text}
 use Rattle.vipr_cert.specs.declared.items.Claim.{Claim}
 use Rattle.vipr_cert.specs.declared.items.Claim.TheVariants.{Infeas, Range}
 

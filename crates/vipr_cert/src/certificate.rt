@@ -6,12 +6,10 @@
 ghost use Rattle.std.specs.Prelude.{◌≡◌, ◌↔◌, ◌+◌, ◌<◌, ◌≤◌, IsOk, IfOk, IsTrue, Some, All, map};
 ghost use Rattle.std.specs.Prelude.{length};
 ghost use Rattle.vipr_spec.specs.Certificate.{Certificate as Meant, NamesEarlier};
-ghost use Rattle.vipr_spec.specs.Steps.{RefersBack};
-ghost use Rattle.vipr_spec.specs.Reading.{most_count};
 ghost use Rattle.vipr_spec.specs.Shape.{CertificateShape, CertificateFits, CanWrite};
+ghost use Rattle.vipr_spec.specs.{Reading.most_count, Steps.RefersBack};
 ghost use Rattle.vipr_cert.specs.Items.{certificate_with, solution_of, reason_of, derivation_of};
-ghost use Rattle.vipr_cert.specs.Codes.{certificate_code};
-ghost use Rattle.vipr_cert.specs.Earlier.{NameEarlierFrom};
+ghost use Rattle.vipr_cert.specs.{Codes.certificate_code, Earlier.NameEarlierFrom};
 
 use crate::items::{Derivation, Named, Reason, References};
 use crate::limits;

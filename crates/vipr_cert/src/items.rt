@@ -1,7 +1,6 @@
 //! The parts of certificates.
 ghost use Rattle.std.specs.Prelude.{◌≡◌, ◌≤◌, length};
-ghost use Rattle.vipr_spec.specs.Certificate.{reason_references};
-ghost use Rattle.vipr_spec.specs.Reading.{most_bytes};
+ghost use Rattle.vipr_spec.specs.{Certificate.reason_references, Reading.most_bytes};
 ghost use Rattle.vipr_cert.specs.Items.{reason_of, derivation_of, blank};
 ghost use Rattle.vipr_cert.specs.Reasons.{reason_word, references_of};
 

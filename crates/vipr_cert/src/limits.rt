@@ -1,10 +1,8 @@
 //! Tests of the format's limits, and what the types of the parts promise of their numbers.
 ghost use Rattle.std.specs.Prelude.{◌↔◌, ℕ, ◌<◌, ◌≤◌, All, IfSome, IsTrue, map};
 ghost use Rattle.vipr_spec.specs.Constraint.{IsInteger};
-ghost use Rattle.vipr_spec.specs.Fraction.{IsBounded};
-ghost use Rattle.vipr_spec.specs.Tokens.{IsToken};
-ghost use Rattle.vipr_spec.specs.Reading.{most_count};
 ghost use Rattle.vipr_spec.specs.Shape.{EntryFits, ClaimFits, ReasonShape, ReasonFits};
+ghost use Rattle.vipr_spec.specs.{Fraction.IsBounded, Reading.most_count, Tokens.IsToken};
 ghost use Rattle.vipr_cert.specs.Items.{claim_of, reason_of};
 
 use crate::items::{Claim, Derivation, Named, Reason, References};

@@ -4,8 +4,7 @@
 //! need not be text. A name of at most 30 bytes takes no memory of its own.
 ghost use Rattle.std.specs.Prelude.{◌≡◌, ◌↔◌, ◌≤◌, ℕ, List, ◌∷◌, [], length, take};
 ghost use Rattle.std.specs.Prelude.{IsOk, IfOk, OnOk, OnErr, IsTrue};
-ghost use Rattle.bstr.specs.Owned.{bstring_bytes};
-ghost use Rattle.bstr.specs.Show.{debug_text};
+ghost use Rattle.bstr.specs.{Owned.bstring_bytes, Show.debug_text};
 ghost use Rattle.std.specs.Coded.{coded_ℕ, coded_list};
 ghost use Rattle.vipr_spec.specs.Tokens.{is_white, IsToken};
 ghost use Rattle.vipr_cert.specs.Names.{name_bytes};

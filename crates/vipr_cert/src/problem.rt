@@ -10,8 +10,7 @@ ghost use Rattle.vipr_spec.specs.Shape.{ProblemShape, CanWriteProblem, RowFits, 
 ghost use Rattle.vipr_linear.specs.Constraint.{constraint_of};
 ghost use Rattle.vipr_cert.specs.Items.{problem_with, named_of, direction_of, claim_of};
 ghost use Rattle.vipr_cert.specs.declared.items.Claim.{Claim as Claimed};
-ghost use Rattle.vipr_cert.specs.declared.items.Goal.{Goal as Sense};
-ghost use Rattle.vipr_cert.specs.Codes.{problem_code};
+ghost use Rattle.vipr_cert.specs.{Codes.problem_code, declared.items.Goal.Goal as Sense};
 
 use crate::items::{Claim, Goal, Named};
 use crate::limits;

@@ -4,20 +4,14 @@ use Rattle.std.proofs.Common.{All, Contains, Result, Ok, Err, OnOk, OnErr, IfOk,
 use Rattle.std.proofs.Common.{unwrap_or, arith, refl, sym, ◌∙◌, ap, subst, ◌⊎◌, inl, inr}
 use Rattle.std.proofs.lemmas.List.Sorted.{IsNonDecreasingBy-from_sort, list_any-IsPermutation}
 use Rattle.std.proofs.lemmas.Map.Keys.{IsDistinct-IsPermutation, IsStrictlyIncreasing-from_distinct}
-use Rattle.std.proofs.lemmas.Map.Made.{IsDistinct-keys_filter}
 use Rattle.std.proofs.lemmas.Map.Views.{Contains-from_any, Contains-from_lookup}
 use Rattle.std.proofs.lemmas.Map.Views.{lookup-from_Contains}
 use Rattle.std.proofs.lemmas.List.{get_or-map, get_or_default, length-map}
-use Rattle.std.specs.Cmp.{nat_eq_equiv}
-use Rattle.std.specs.Map.{lookup}
-use Rattle.std.proofs.lemmas.Bool.Decides.{nat_tests}
+use Rattle.std.proofs.{lemmas.Bool.Decides.nat_tests, lemmas.Map.Made.IsDistinct-keys_filter}
 use Rattle.std.specs.FinMap.{find, from_sorted, get-from_sorted}
-use Rattle.std.specs.List.{IsDistinct}
 use Rattle.std.specs.List.Sorted.{IsPermutation, IsSorted, IsStrictlyIncreasing}
-use Rattle.std.specs.Ordering.{nat_cmp}
-use Rattle.vipr_spec.specs.Fraction.{ℚ, zero_ℚ}
-use Rattle.vipr_spec.specs.Constraint.{at}
-use Rattle.vipr_spec.specs.Reading.{is_nonzero}
+use Rattle.std.specs.{Cmp.nat_eq_equiv, List.IsDistinct, Map.lookup, Ordering.nat_cmp}
+use Rattle.vipr_spec.specs.{Constraint.at, Fraction.ℚ, Fraction.zero_ℚ, Reading.is_nonzero}
 use Rattle.vipr_spec.proofs.Laws.{zero_or_not}
 use Rattle.vipr_linear.specs.Row.{RisesFrom, variables_of}
 use Rattle.vipr_linear.specs.Touched.{Touching, Covers, AreTouched}

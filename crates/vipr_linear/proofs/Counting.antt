@@ -4,23 +4,16 @@ use Rattle.std.proofs.Common.{◌≡◌, ◌≢◌, ℕ, ◌+◌, ◌<◌, ◌�
 use Rattle.std.proofs.Common.{arith, refl, sym, ◌∙◌, ap, subst, map, filter, false, true, Bool}
 use Rattle.std.proofs.Common.{nat_eq, not, pos, All, Option, Some, None, unwrap_or, is_some, IsSome}
 use Rattle.std.proofs.Common.{◌⊎◌, inl, inr, ◌||◌}
-use Rattle.std.proofs.lemmas.Bool.{cases_eq}
-use Rattle.std.proofs.lemmas.Bool.Decides.{nat_tests}
 use Rattle.std.proofs.lemmas.List.{length_push, length-map, get_or_default}
-use Rattle.std.proofs.lemmas.List.Folds.{list_any-append}
 use Rattle.std.proofs.lemmas.Map.Keys.{IsDistinct-push, IsDistinct-cons}
 use Rattle.std.proofs.lemmas.Map.Steps.{length-le_from_keys}
-use Rattle.std.proofs.lemmas.Map.Made.{is_some-lookup}
 use Rattle.std.proofs.lemmas.Map.Views.{Contains-from_any, Contains-from_lookup}
-use Rattle.std.specs.Cmp.{nat_eq_equiv}
+use Rattle.std.proofs.{lemmas.Bool.cases_eq, lemmas.Bool.Decides.nat_tests}
+use Rattle.std.proofs.{lemmas.List.Folds.list_any-append, lemmas.Map.Made.is_some-lookup}
 use Rattle.std.specs.List.{IsDistinct, AllByRecursion, list_any}
-use Rattle.std.specs.FinMap.{entries}
-use Rattle.std.specs.Map.{lookup}
-use Rattle.std.specs.Ordering.{int_eq}
-use Rattle.std.specs.Prelude.{◌↔◌}
-use Rattle.vipr_spec.specs.Fraction.{ℚ, zero_ℚ}
-use Rattle.vipr_spec.specs.Reading.{is_nonzero}
+use Rattle.std.specs.{Cmp.nat_eq_equiv, FinMap.entries, Map.lookup, Ordering.int_eq, Prelude.◌↔◌}
 use Rattle.vipr_spec.specs.Constraint.{Row, at}
+use Rattle.vipr_spec.specs.{Fraction.ℚ, Fraction.zero_ℚ, Reading.is_nonzero}
 use Rattle.vipr_spec.proofs.Laws.{zero_numer, zero_or_not}
 use Rattle.vipr_linear.specs.Row.{RisesFrom, variables_of}
 use Rattle.vipr_linear.specs.Touched.{Touching, Covers, CoversNonzero}

@@ -3,24 +3,18 @@ use Rattle.std.proofs.Common.{◌≡◌, ◌≢◌, ℕ, suc, ◌+◌, ◌<◌, 
 use Rattle.std.proofs.Common.{nat_eq, List, [], ◌∷◌, ◌++◌, length, get_or, arith, refl, sym, ◌∙◌}
 use Rattle.std.proofs.Common.{ap, subst, ◌||◌, inl, inr, ◌⊎◌, drop-cons, add-one, ap₂, map, filter}
 use Rattle.std.proofs.Common.{not, pos, replicate, Result, Ok, Err, IsOk, IsErr, All}
-use Rattle.std.specs.Prelude.{◌↔◌, slice_set}
-use Rattle.std.proofs.lemmas.Bool.{cases_eq, cases_lt}
-use Rattle.std.proofs.lemmas.Bool.Decides.{nat_tests}
 use Rattle.std.proofs.lemmas.List.{get_or-set_same, get_or-set_other, get_or_past, get_or_default}
 use Rattle.std.proofs.lemmas.List.{get_or-map, get_or-replicate, length_push, length-set}
 use Rattle.std.proofs.lemmas.List.{length-map, length-replicate, take_all, drop_all, append-nil}
 use Rattle.std.proofs.lemmas.List.{same_lists}
-use Rattle.std.proofs.lemmas.List.Elements.{filter_more}
 use Rattle.std.proofs.lemmas.List.Folds.{list_any-append, list_any_at}
-use Rattle.std.proofs.lemmas.Map.Keys.{IsDistinct-push}
 use Rattle.std.proofs.lemmas.Map.Steps.{length-le_from_distinct_below}
-use Rattle.std.specs.Cmp.{nat_eq_equiv}
-use Rattle.std.specs.List.{IsDistinct, list_any}
-use Rattle.vipr_spec.specs.Fraction.{ℚ, zero_ℚ}
-use Rattle.vipr_spec.specs.Reading.{is_nonzero}
-use Rattle.std.specs.Ordering.{int_eq}
+use Rattle.std.proofs.{lemmas.Bool.cases_eq, lemmas.Bool.cases_lt, lemmas.Bool.Decides.nat_tests}
+use Rattle.std.proofs.{lemmas.List.Elements.filter_more, lemmas.Map.Keys.IsDistinct-push}
+use Rattle.std.specs.Prelude.{◌↔◌, slice_set}
+use Rattle.std.specs.{Cmp.nat_eq_equiv, List.IsDistinct, List.list_any, Ordering.int_eq}
+use Rattle.vipr_spec.specs.{Fraction.ℚ, Fraction.zero_ℚ, MoreEntries.TermFits, Reading.is_nonzero}
 use Rattle.vipr_spec.proofs.Laws.{zero_or_not}
-use Rattle.vipr_spec.specs.MoreEntries.{TermFits}
 use Rattle.vipr_linear.specs.Accumulator.{with_term, with_terms, TermsFitIn}
 use Rattle.vipr_linear.specs.Touched.{Touching, Covers, AreTouched, AreCovered}
 use Rattle.vipr_linear.proofs.Rows.{nothing_distinct}

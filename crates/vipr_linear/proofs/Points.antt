@@ -2,20 +2,17 @@
 use Rattle.std.proofs.Common.{◌≡◌, ◌≢◌, ℕ, zero, suc, ◌+◌, ◌<◌, ◌≤◌, replicate, drop, List, [], ◌∷◌}
 use Rattle.std.proofs.Common.{length, get_or, pos, arith, refl, sym, ◌∙◌, ap, ap₂, subst, subst₂}
 use Rattle.std.proofs.Common.{◌⊎◌, inl, inr}
-use Rattle.std.specs.Prelude.{◌↔◌, slice_set}
+use Rattle.std.specs.{FinMap.entries, Prelude.◌↔◌, Prelude.slice_set}
 use Rattle.std.proofs.lemmas.Bool.{cases_eq, cases_lt}
 use Rattle.std.proofs.lemmas.List.{get_or-set_same, get_or-set_other, get_or-replicate, get_or_past}
 use Rattle.std.proofs.lemmas.List.{length-set, length-replicate, set_past, drop_all}
-use Rattle.std.specs.FinMap.{entries}
 use Rattle.vipr_spec.specs.Fraction.{ℚ, zero_ℚ, ◌+ℚ◌, ◌*ℚ◌, IsWhole, ProductFits, SumFits}
 use Rattle.vipr_spec.specs.Constraint.{Row, Point, at, value, ValueFits, Ints, IsInteger}
 use Rattle.vipr_linear.specs.Row.{RisesFrom}
 use Rattle.vipr_linear.specs.Values.{with_set, point_of, IsLaidOut, AreWhole, IsFirstFractional}
 use Rattle.vipr_linear.proofs.Adding.{coefficient, coefficient_here, coefficient_later}
 use Rattle.vipr_linear.proofs.Adding.{coefficient_below, coefficient_at}
-use Rattle.vipr_linear.proofs.Marks.{next}
-use Rattle.vipr_linear.proofs.Rows.{rises_from}
-use Rattle.vipr_linear.proofs.Searching.{at_place}
+use Rattle.vipr_linear.proofs.{Marks.next, Rows.rises_from, Searching.at_place}
 
 -- ---- places that are set
 pub length-with_set : (xs : List ℚ) (es : List (ℕ × ℚ)) → length (with_set xs es) ≡ length xs

@@ -4,44 +4,34 @@ use Rattle.std.proofs.Common.{false, not, cond, nat_eq, List, [], ◌∷◌, ◌
 use Rattle.std.proofs.Common.{All, Contains, Option, Some, None, IfSome, pos, T, arith, refl, sym}
 use Rattle.std.proofs.Common.{◌∙◌, ap, subst, append_assoc, ◌||◌, ◌&&◌, unwrap_or, inl, inr, ◌⊎◌}
 use Rattle.std.proofs.Common.{rules}
-use Rattle.std.specs.Prelude.{◌↔◌}
-use Rattle.std.proofs.lemmas.Bool.{cases_eq}
 use Rattle.std.proofs.lemmas.Bool.Decides.{nat_tests, Decides-int_eq}
-use Rattle.std.proofs.lemmas.Slice.Eq.{slice_eq-Decides}
-use Rattle.std.specs.Bool.{Decides, ◌==◌}
-use Rattle.std.specs.Cmp.Lexicographic.{pointwise}
 use Rattle.std.proofs.lemmas.List.{get_or-map, length-map, take_more, take-append-drop}
 use Rattle.std.proofs.lemmas.List.Elements.{All-nil, All-cons, All-head, All-contains, All-filter}
 use Rattle.std.proofs.lemmas.List.Elements.{Contains-get_or, filter_passes}
-use Rattle.std.proofs.lemmas.List.Folds.{list_any-append}
 use Rattle.std.proofs.lemmas.List.Sorted.{Contains-permutation, IsPermutation-map}
 use Rattle.std.proofs.lemmas.List.Sorted.{IsPermutation-refl}
 use Rattle.std.proofs.lemmas.Map.Keys.{IsDistinct-push, IsDistinct-from_apart, below_from_sorted}
 use Rattle.std.proofs.lemmas.Map.Keys.{sorted_head, sorted_tail, sorted_from_strictly_increasing}
 use Rattle.std.proofs.lemmas.Map.Keys.{IsDistinct-IsPermutation, IsStrictlyIncreasing-from_distinct}
-use Rattle.std.proofs.lemmas.Map.Made.{IsDistinct-keys_filter}
 use Rattle.std.proofs.lemmas.Map.Views.{Contains-from_any, Contains-from_lookup}
 use Rattle.std.proofs.lemmas.Map.Views.{lookup-from_Contains}
-use Rattle.std.specs.Cmp.{nat_eq_equiv, nat_cmp_total}
-use Rattle.std.specs.declared.cmp.Ordering.TheVariants.{Less}
+use Rattle.std.proofs.{lemmas.Bool.cases_eq, lemmas.List.Folds.list_any-append}
+use Rattle.std.proofs.{lemmas.Map.Made.IsDistinct-keys_filter, lemmas.Slice.Eq.slice_eq-Decides}
 use Rattle.std.specs.FinMap.{entries, from_sorted, find, is_sorted, get-from_sorted}
 use Rattle.std.specs.FinMap.{get-from_entries, entries-from_sorted, entries_sorted}
 use Rattle.std.specs.FinMap.{same_entries_map, same_map, nat_cmp-IsAntisymmetric}
-use Rattle.std.specs.FinMap.Entries.{below_all}
 use Rattle.std.specs.List.{IsDistinct, AllByRecursion, list_any}
 use Rattle.std.specs.List.Sorted.{IsPermutation, IsNonDecreasing, IsNonDecreasingBy}
 use Rattle.std.specs.List.Sorted.{IsStrictlyIncreasing, IsStrictlySortedBy}
-use Rattle.std.specs.Map.{lookup}
-use Rattle.std.specs.BTreeMap.{is_at}
 use Rattle.std.specs.Ordering.{nat_cmp, int_eq, eq_by_cmp}
+use Rattle.std.specs.{BTreeMap.is_at, Bool.Decides, Bool.◌==◌, Cmp.nat_eq_equiv, Cmp.nat_cmp_total}
+use Rattle.std.specs.{Cmp.Lexicographic.pointwise, FinMap.Entries.below_all, Map.lookup}
+use Rattle.std.specs.{Prelude.◌↔◌, declared.cmp.Ordering.TheVariants.Less}
 use Rattle.vipr_spec.specs.Fraction.{ℚ, zero_ℚ, IsBounded}
-use Rattle.vipr_spec.specs.FractionOrder.{eq_ℚ}
-use Rattle.vipr_spec.specs.Shape.{RowFits}
-use Rattle.vipr_spec.specs.Constraint.{Row, at}
-use Rattle.vipr_spec.specs.Reading.{is_nonzero, row_of}
+use Rattle.vipr_spec.specs.Constraint.{Row, at, HasNoZeros}
+use Rattle.vipr_spec.specs.{FractionOrder.eq_ℚ, Reading.is_nonzero, Reading.row_of, Shape.RowFits}
 use Rattle.vipr_spec.proofs.Laws.{eq_is, same_rows, zero_from_numer, not_zero}
 use Rattle.vipr_linear.specs.Row.{RisesFrom, AreEntries, variables_of, IsFirstRepeated}
-use Rattle.vipr_spec.specs.Constraint.{HasNoZeros}
 
 -- ---- zero
 pub zero_test : (x : ℚ) → not (int_eq x.numer (pos 0)) ≡ false → x ≡ zero_ℚ

@@ -1,14 +1,11 @@
 -- What a binary search among a row's entries finds
 use Rattle.std.proofs.Common.{◌≡◌, ◌≢◌, ℕ, zero, suc, ◌+◌, ◌<◌, ◌≤◌, List, [], ◌∷◌, length, get_or}
 use Rattle.std.proofs.Common.{unwrap_or, arith, refl, sym, ◌∙◌, ap, inl, inr}
-use Rattle.std.proofs.lemmas.Bool.{cases_lt}
-use Rattle.std.proofs.lemmas.Bool.Decides.{nat_tests}
+use Rattle.std.proofs.{lemmas.Bool.cases_lt, lemmas.Bool.Decides.nat_tests}
 use Rattle.std.specs.declared.cmp.Ordering.TheVariants.{Less, Equal, Greater}
-use Rattle.std.specs.FinMap.{from_sorted, get-from_sorted}
-use Rattle.std.specs.List.Sorted.{IsNonDecreasingBy, IsPartitionPoint}
-use Rattle.std.specs.Ordering.{nat_cmp, ordering_index}
-use Rattle.vipr_spec.specs.Fraction.{ℚ, zero_ℚ}
-use Rattle.vipr_spec.specs.Constraint.{at}
+use Rattle.std.specs.{FinMap.from_sorted, FinMap.get-from_sorted, List.Sorted.IsNonDecreasingBy}
+use Rattle.std.specs.{List.Sorted.IsPartitionPoint, Ordering.nat_cmp, Ordering.ordering_index}
+use Rattle.vipr_spec.specs.{Constraint.at, Fraction.ℚ, Fraction.zero_ℚ}
 use Rattle.vipr_linear.specs.Row.{RisesFrom}
 use Rattle.vipr_linear.proofs.Adding.{coefficient, coefficient_here, coefficient_later}
 use Rattle.vipr_linear.proofs.Rows.{rises_sorted}

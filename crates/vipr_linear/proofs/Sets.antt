@@ -2,24 +2,20 @@
 use Rattle.std.proofs.Common.{◌≡◌, ℕ, ◌<◌, ◌≤◌, true, false, ◌||◌, nat_eq, List, [], ◌∷◌, length}
 use Rattle.std.proofs.Common.{get_or, Result, Ok, Err, is_ok, MatchResult, sym, ap, ◌∙◌, arith, ◌⊎◌}
 use Rattle.std.proofs.Common.{inl, inr}
-use Rattle.std.proofs.lemmas.Bool.{cases_lt}
 use Rattle.std.proofs.lemmas.Bool.Decides.{nat_tests, same_from_decides, Decides-eqb}
-use Rattle.std.proofs.lemmas.List.Elements.{All-from_get_or}
-use Rattle.std.proofs.lemmas.List.Filters.{dedup_is}
 use Rattle.std.proofs.lemmas.List.Folds.{list_any_at, list_any_none}
 use Rattle.std.proofs.lemmas.List.Kept.{Contains-dedup_nat, Contains-from_dedup}
 use Rattle.std.proofs.lemmas.List.Sorted.{searched, Contains-permutation, IsPermutation-sym}
 use Rattle.std.proofs.lemmas.Map.Keys.{below_from_sorted, sorted_from_strictly_increasing}
 use Rattle.std.proofs.lemmas.Map.Keys.{IsStrictlyIncreasing-dedup}
-use Rattle.std.proofs.lemmas.Map.Made.{is_member-Decides}
-use Rattle.std.specs.Cmp.{nat_cmp_total, unsigned_tied}
+use Rattle.std.proofs.{lemmas.Bool.cases_lt, lemmas.List.Elements.All-from_get_or}
+use Rattle.std.proofs.{lemmas.List.Filters.dedup_is, lemmas.Map.Made.is_member-Decides}
 use Rattle.std.specs.FinSet.{contains, from_list, same_set, nat_cmp-IsAntisymmetric, contains-empty}
 use Rattle.std.specs.FinSet.{contains-insert}
-use Rattle.std.specs.List.{list_any, dedup}
-use Rattle.std.specs.List.Retain.{IsFiltered, DiffersFromLast}
 use Rattle.std.specs.List.Sorted.{IsPermutation, IsSorted, IsStrictlyIncreasing}
 use Rattle.std.specs.List.Sorted.{IsBinarySearchResult}
-use Rattle.std.specs.Ordering.{nat_cmp}
+use Rattle.std.specs.{Cmp.nat_cmp_total, Cmp.unsigned_tied, List.list_any, List.dedup}
+use Rattle.std.specs.{List.Retain.IsFiltered, List.Retain.DiffersFromLast, Ordering.nat_cmp}
 
 -- whether a list's set has a number
 pub member : (ks : List ℕ) (q : ℕ)

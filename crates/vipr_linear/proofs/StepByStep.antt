@@ -2,11 +2,10 @@
 use Rattle.std.proofs.Common.{◌≡◌, ℕ, ◌<◌, ◌≤◌, List, [], ◌∷◌, ◌++◌, length, get_or, replicate}
 use Rattle.std.proofs.Common.{Option, Some, None, IsSome, is_some, unwrap_or, arith, refl, sym, ◌∙◌}
 use Rattle.std.proofs.Common.{ap, ap₂, subst, ◌⊎◌, inl, inr}
-use Rattle.std.specs.Prelude.{◌↔◌}
 use Rattle.std.proofs.lemmas.List.{get_or-replicate, get_or_past, length-replicate}
-use Rattle.std.proofs.lemmas.List.Elements.{All-nil}
 use Rattle.std.proofs.lemmas.List.FromFn.{get_or-map-range_with_len, length-map-range_with_len}
-use Rattle.std.proofs.lemmas.Bool.{cases_lt}
+use Rattle.std.proofs.{lemmas.Bool.cases_lt, lemmas.List.Elements.All-nil}
+use Rattle.std.specs.Prelude.{◌↔◌}
 use Rattle.vipr_spec.specs.Fraction.{ℚ, zero_ℚ, ◌+ℚ◌, ◌*ℚ◌, IsBounded, ProductFits}
 use Rattle.vipr_spec.specs.Constraint.{Sense, equal, Row, at, Entry, HasSense, sum_of, SumOfFits}
 use Rattle.vipr_spec.specs.Constraint.{NamesBelow}

@@ -2,16 +2,13 @@
 use Rattle.std.proofs.Common.{◌≡◌, ◌≢◌, ℕ, ◌+◌, ◌<◌, ◌≤◌, true, false, List, [], ◌∷◌, length}
 use Rattle.std.proofs.Common.{get_or, drop, Result, Ok, Err, IfOk, arith, refl, sym, ◌∙◌, ap, ap₂}
 use Rattle.std.proofs.Common.{subst, subst₂, ◌⊎◌, inl, inr, add-one}
-use Rattle.std.specs.Prelude.{◌↔◌}
-use Rattle.std.proofs.lemmas.Bool.{cases_eq, cases_lt}
-use Rattle.std.proofs.lemmas.List.{drop_all}
-use Rattle.std.specs.FinMap.{entries}
+use Rattle.std.proofs.{lemmas.Bool.cases_eq, lemmas.Bool.cases_lt, lemmas.List.drop_all}
+use Rattle.std.specs.{FinMap.entries, Prelude.◌↔◌}
 use Rattle.vipr_spec.specs.Fraction.{ℚ, zero_ℚ, ◌+ℚ◌, ◌*ℚ◌, IsBounded, ProductFits, SumFits}
 use Rattle.vipr_spec.specs.Constraint.{Row, Point, at, value, ValueFits, NamesBelow}
 use Rattle.vipr_spec.specs.MoreEntries.{TermFits}
 use Rattle.vipr_spec.proofs.Laws.{value_gap, zero_bounded, sum_bounded, nothing_more}
-use Rattle.vipr_linear.specs.Row.{RisesFrom}
-use Rattle.vipr_linear.specs.Values.{with_values, ValuesFit}
+use Rattle.vipr_linear.specs.{Row.RisesFrom, Values.with_values, Values.ValuesFit}
 use Rattle.vipr_linear.proofs.Adding.{coefficient, coefficient_here, coefficient_later}
 use Rattle.vipr_linear.proofs.Adding.{coefficient_below, coefficient_at}
 use Rattle.vipr_linear.proofs.Marks.{next}

@@ -6,9 +6,8 @@ use Rattle.std.specs.Coded.{Coded, code_by, coded_ℕ, coded×, coded_list, code
 use Rattle.std.proofs.Common.{refl}
 use Rattle.vipr_spec.specs.Fraction.{ℚ, coded_ℚ, zero_ℚ, ◌+ℚ◌, ◌*ℚ◌}
 use Rattle.vipr_spec.specs.Constraint.{Sense, at_most, equal, at_least, Row, at, Entry, sum_over}
-use Rattle.vipr_spec.specs.Constraint.{HasSense, SumOfFits, Condition}
+use Rattle.vipr_spec.specs.Constraint.{HasSense, SumOfFits, Condition, HasNoZeros}
 use Rattle.vipr_spec.specs.MoreEntries.{sense_of_multiple, sense_of_both, TermFits}
-use Rattle.vipr_spec.specs.Constraint.{HasNoZeros}
 
 -- the partial sum of each variable and of the right-hand sides, the sense of the sum so far, and
 -- whether an error came

@@ -1,9 +1,7 @@
 -- What a sum becomes by rounding
 use Rattle.std.specs.Prelude.{◌≡◌, ◌<◌, ℕ, ℤ, Bool, false, nat_eq, List, length, slice_index_or}
 use Rattle.std.specs.Prelude.{Option, IfSome}
-use Rattle.std.specs.FinSet.{from_list}
-use Rattle.std.specs.List.{list_any}
-use Rattle.std.specs.List.Sorted.{IsStrictlyIncreasing}
+use Rattle.std.specs.{FinSet.from_list, List.list_any, List.Sorted.IsStrictlyIncreasing}
 use Rattle.vipr_spec.specs.Fraction.{whole, IsWhole}
 use Rattle.vipr_spec.specs.Constraint.{Row as Entries, at, Condition, equal, RoundsTo}
 use Rattle.vipr_spec.specs.Constraint.{IsWholeRow, Dominates}

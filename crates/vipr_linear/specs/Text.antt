@@ -1,9 +1,7 @@
 -- How rows and constraints are printed: as in a certificate's canonical text, without a name
 use Rattle.std.specs.Prelude.{ℕ, List, ◌++◌, length, flat_map, codes, decimal}
 use Rattle.std.specs.FinMap.{entries}
-use Rattle.vipr_spec.specs.Fraction.{ℚ}
-use Rattle.vipr_spec.specs.Number.{number_text}
-use Rattle.vipr_spec.specs.Constraint.{Row}
+use Rattle.vipr_spec.specs.{Constraint.Row, Fraction.ℚ, Number.number_text}
 use Rattle.vipr_linear.specs.declared.constraint.Constraint.{Constraint}
 use Rattle.vipr_linear.specs.declared.constraint.Sense.{Sense}
 use Rattle.vipr_linear.specs.declared.constraint.Sense.TheVariants.{E, L, G}

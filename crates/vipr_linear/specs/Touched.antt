@@ -1,11 +1,8 @@
 -- Which places were touched: a mark at each, and their list
 use Rattle.std.specs.Prelude.{◌≡◌, ◌≢◌, ℕ, ◌≤◌, Bool, true, false, nat_eq, List, length}
 use Rattle.std.specs.Prelude.{slice_index_or, Contains, filter, map}
-use Rattle.std.specs.FinMap.{from_sorted}
-use Rattle.vipr_spec.specs.Constraint.{at}
-use Rattle.std.specs.List.{IsDistinct, list_any}
-use Rattle.vipr_spec.specs.Fraction.{ℚ, zero_ℚ}
-use Rattle.vipr_spec.specs.Reading.{is_nonzero}
+use Rattle.std.specs.{FinMap.from_sorted, List.IsDistinct, List.list_any}
+use Rattle.vipr_spec.specs.{Constraint.at, Fraction.ℚ, Fraction.zero_ℚ, Reading.is_nonzero}
 
 -- the list has the marked places, each once
 pub record Touching (marks : List Bool) (touched : List ℕ) : Type 0 where

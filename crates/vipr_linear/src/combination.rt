@@ -8,11 +8,10 @@
 ghost use Rattle.std.specs.Prelude.{◌≡◌, ◌≢◌, ◌↔◌, ◌⊎◌, ℕ, true, false, length};
 ghost use Rattle.std.specs.Prelude.{IsTrue, IsOk, IsSome, IsNone, IfOk, IfErr, OnOk, OnErr};
 ghost use Rattle.std.specs.Prelude.{MatchOption, Some, None};
-ghost use Rattle.vipr_spec.specs.Fraction.{◌+ℚ◌, ◌*ℚ◌};
 ghost use Rattle.vipr_spec.specs.Constraint.{Point, at, NamesBelow, value, ValueFits, Compares};
 ghost use Rattle.vipr_spec.specs.Constraint.{IsAbsurd, Dominates, IsWholeRow, DominatesRounded};
+ghost use Rattle.vipr_spec.specs.{Fraction.◌+ℚ◌, Fraction.◌*ℚ◌, MoreEntries.TermFits};
 ghost use Rattle.vipr_spec.specs.MoreEntries as combined;
-ghost use Rattle.vipr_spec.specs.MoreEntries.{TermFits};
 ghost use Rattle.vipr_linear.specs.Accumulator.{with_row, RowAdditionFits, CanAdd, AdditionFits};
 ghost use Rattle.vipr_linear.specs.Accumulator.{HoldsSum, IsSpent, joined_with, with_entry};
 ghost use Rattle.vipr_linear.specs.Accumulator.{nothing_added, summed_condition, held_condition};

@@ -3,8 +3,7 @@
 //! [`Ints`] keeps the variables in rising order, each once. It answers whether a variable is in the
 //! set, and lists them all.
 ghost use Rattle.std.specs.Prelude.{◌≡◌, ◌↔◌, IsTrue, IfOk};
-ghost use Rattle.std.specs.FinSet.{from_list};
-ghost use Rattle.std.specs.List.Sorted.{IsStrictlyIncreasing};
+ghost use Rattle.std.specs.{FinSet.from_list, List.Sorted.IsStrictlyIncreasing};
 ghost use Rattle.vipr_spec.specs.Constraint.{at, IsInteger, IsWholeRow};
 ghost use Rattle.vipr_linear.specs.Rounding.{MarksEach};
 

@@ -1,17 +1,14 @@
 //! A sum at each place, with the list of the touched places.
 //!
 //! What goes over the sums takes time for the touched places alone.
-ghost use Rattle.std.specs.Prelude.{◌≡◌, ◌≢◌, ◌↔◌, ◌<◌, ℕ, false, true, replicate, All};
-ghost use Rattle.std.specs.Prelude.{IsTrue, IsOk, IfOk, OnOk, OnErr, length};
-ghost use Rattle.std.specs.Prelude.{slice_index_or, slice_set};
+ghost use Rattle.std.specs.Prelude.{◌≡◌, ◌≢◌, ◌↔◌, ◌<◌, ℕ, false, true, replicate, All, IsTrue};
+ghost use Rattle.std.specs.Prelude.{IsOk, IfOk, OnOk, OnErr, length, slice_index_or, slice_set};
 ghost use Rattle.vipr_spec.specs.Fraction.{zero_ℚ, IsBounded};
-ghost use Rattle.vipr_spec.specs.Constraint.{at};
-ghost use Rattle.vipr_spec.specs.MoreEntries.{TermFits};
+ghost use Rattle.vipr_spec.specs.{Constraint.at, MoreEntries.TermFits};
 ghost use Rattle.vipr_linear.specs.Accumulator.{with_term, with_terms, TermsFitIn};
-ghost use Rattle.vipr_linear.specs.Values.{with_set};
-ghost use Rattle.vipr_linear.specs.Row.{AreEntries};
 ghost use Rattle.vipr_linear.specs.Touched.{Touching, CoversNonzero, HasRowEntries};
 ghost use Rattle.vipr_linear.specs.Touched.{nonzero_entries};
+ghost use Rattle.vipr_linear.specs.{Row.AreEntries, Values.with_set};
 
 use crate::row::Row;
 use std::alloc::{AllocError, Global};

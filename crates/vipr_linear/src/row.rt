@@ -3,17 +3,14 @@
 //! A [`Row`] lists its variables in rising order with their coefficients, none of which is 0. In
 //! contracts it is a finite map from variables to coefficients, so rows with the same coefficients
 //! are equal however they were made. A row can share its entries with its clones.
-ghost use Rattle.std.specs.Prelude.{All, ◌≡◌, ◌↔◌, ◌<◌, nat_eq, IsTrue, IfOk};
-ghost use Rattle.std.specs.Prelude.{OnOk, MatchOption, filter, ℕ, ◌∷◌, []};
-ghost use Rattle.std.specs.List.{IsDistinct};
+ghost use Rattle.std.specs.Prelude.{All, ◌≡◌, ◌↔◌, ◌<◌, nat_eq, IsTrue, IfOk, OnOk, MatchOption};
+ghost use Rattle.std.specs.Prelude.{filter, ℕ, ◌∷◌, []};
 ghost use Rattle.std.specs.List.Sorted.{IsPermutation, IsNonDecreasingBy, IsStrictlyIncreasing};
-ghost use Rattle.std.specs.FinMap.{entries, from_sorted};
+ghost use Rattle.std.specs.{FinMap.entries, FinMap.from_sorted, List.IsDistinct};
 ghost use Rattle.vipr_spec.specs.Fraction.{zero_ℚ, IsBounded};
-ghost use Rattle.vipr_spec.specs.Constraint.{at, NamesBelow};
-ghost use Rattle.vipr_spec.specs.Reading.{is_nonzero, row_of};
-ghost use Rattle.vipr_spec.specs.Shape.{RowFits};
+ghost use Rattle.vipr_spec.specs.Constraint.{at, NamesBelow, HasNoZeros};
+ghost use Rattle.vipr_spec.specs.{Reading.is_nonzero, Reading.row_of, Shape.RowFits};
 ghost use Rattle.vipr_linear.specs.Row.{RisesFrom, AreEntries, variables_of, IsFirstRepeated};
-ghost use Rattle.vipr_spec.specs.Constraint.{HasNoZeros};
 
 use crate::row_entries::RowEntries;
 use std::alloc::{AllocError, Global};

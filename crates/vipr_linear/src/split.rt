@@ -2,8 +2,7 @@
 ghost use Rattle.std.specs.Prelude.{◌≡◌, ◌↔◌, ◌≤◌, ℤ, pos, ◌+ℤ◌, ◌≤ℤ◌, unsigned_abs, IsTrue};
 ghost use Rattle.vipr_spec.specs.Fraction.{most, whole};
 ghost use Rattle.vipr_spec.specs.Constraint.{one, two, IsCut, IsSplit, LeavesNone};
-ghost use Rattle.vipr_linear.specs.Constraint.{condition_of};
-ghost use Rattle.vipr_linear.specs.Split.{BoundsBothSides};
+ghost use Rattle.vipr_linear.specs.{Constraint.condition_of, Split.BoundsBothSides};
 
 use crate::constraint::{Constraint, Sense};
 use crate::ints::Ints;

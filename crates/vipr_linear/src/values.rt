@@ -3,10 +3,9 @@ ghost use Rattle.std.specs.Prelude.{◌≡◌, ◌↔◌, ℕ, IsTrue, IsOk, IfO
 ghost use Rattle.std.specs.FinMap.{entries};
 ghost use Rattle.vipr_spec.specs.Fraction.{zero_ℚ};
 ghost use Rattle.vipr_spec.specs.Constraint.{at, value, ValueFits, IsTrueAt, NamesBelow};
-ghost use Rattle.vipr_linear.specs.Constraint.{condition_of};
-ghost use Rattle.vipr_linear.specs.Row.{RisesFrom};
 ghost use Rattle.vipr_linear.specs.Values.{with_values, ValuesFit, point_of, AreWhole};
 ghost use Rattle.vipr_linear.specs.Values.{IsFirstFractional};
+ghost use Rattle.vipr_linear.specs.{Constraint.condition_of, Row.RisesFrom};
 
 use crate::constraint::{Constraint, compares};
 use crate::ints::Ints;

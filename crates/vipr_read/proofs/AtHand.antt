@@ -1,12 +1,8 @@
 -- What was read by a cursor, if the parser goes on where it came
 use Rattle.std.proofs.Common.{◌≡◌, ℕ, ◌-◌, length, Option, Some, Result, Ok, sym, ◌∙◌}
-use Rattle.vipr_spec.specs.Constraint.{Row}
-use Rattle.vipr_spec.specs.Certificate.{Derivation}
-use Rattle.vipr_spec.specs.Reading.{Rest}
-use Rattle.vipr_scan.specs.Hand.{Hand, rest_behind}
-use Rattle.vipr_scan.specs.declared.error.ScanError.{ScanError}
-use Rattle.vipr_read.specs.Parsing.{Parsing}
-use Rattle.vipr_read.specs.Deriving.{ReadsDerivation}
+use Rattle.vipr_spec.specs.{Certificate.Derivation, Constraint.Row, Reading.Rest}
+use Rattle.vipr_scan.specs.{Hand.Hand, Hand.rest_behind, declared.error.ScanError.ScanError}
+use Rattle.vipr_read.specs.{Deriving.ReadsDerivation, Parsing.Parsing}
 
 pub carried : (objective : Row) (step : Derivation) (old old' new' new : Parsing)
     (result : Result (Unit {0}) ScanError) → old'.rest ≡ old.rest → old'.variables ≡ old.variables

@@ -2,18 +2,15 @@
 use Rattle.std.proofs.Common.{◌≡◌, ◌⊎◌, false, List, ℕ, Option, Some, None, Result, Ok, Err, IfOk}
 use Rattle.std.proofs.Common.{inl, inr, refl, ap, subst, ◌∙◌}
 use Rattle.vipr_spec.specs.Certificate.{Certificate}
-use Rattle.vipr_spec.specs.Input.{Input}
 use Rattle.vipr_spec.specs.Reading.{Rest, Fault, ◌>>=◌, problem_read, certificate_read}
-use Rattle.vipr_spec.specs.Grammar.{Spells}
-use Rattle.vipr_spec.specs.GrammarLaws.{whole_text}
+use Rattle.vipr_spec.specs.{Grammar.Spells, GrammarLaws.whole_text, Input.Input}
 use Rattle.vipr_spec.proofs.Laws.{reads_texts}
 use Rattle.vipr_bytes.specs.Known.{text_of, IfKnown, IfWhole}
 use Rattle.vipr_read.proofs.Binding.{bind_assoc}
 use Rattle.vipr_read.specs.Whole.{IsRead, items_behind}
-use Rattle.vipr_scan.specs.Faults.{IsFaultOf}
-use Rattle.vipr_scan.specs.declared.error.ScanError.{ScanError}
-use Rattle.vipr_scan.specs.declared.error.ScanError.TheVariants as stop
 use Rattle.vipr_scan.specs.declared.error.TextError.{TextError}
+use Rattle.vipr_scan.specs.{Faults.IsFaultOf, declared.error.ScanError.ScanError}
+use Rattle.vipr_scan.specs.declared.error.ScanError.TheVariants as stop
 use Rattle.vipr_scan.specs.declared.error.TextError.TheVariants as error
 
 pub known_by : (o : Option Input) (P Q : Input → Type 0) → ((i : Input) → P i → Q i) → IfKnown o P

@@ -2,8 +2,7 @@
 use Rattle.std.specs.Prelude.{◌≡◌, Result, OnOk}
 use Rattle.vipr_spec.specs.Certificate.{Problem, Derivation, variables}
 use Rattle.vipr_spec.specs.Constraint.{Row, at, NamesBelow}
-use Rattle.vipr_spec.specs.Reading.{derivation_read}
-use Rattle.vipr_spec.specs.Shape.{DerivationShape, DerivationFits}
+use Rattle.vipr_spec.specs.{Reading.derivation_read, Shape.DerivationShape, Shape.DerivationFits}
 use Rattle.vipr_scan.specs.declared.error.ScanError.{ScanError}
 use Rattle.vipr_read.specs.Parsing.{Parsing, Parses, Retains}
 

@@ -3,13 +3,11 @@
 use Rattle.std.specs.Prelude.{◌≡◌, ℕ, ◌+◌, ◌<◌, ◌≤◌, Bool, false, List, nat_eq, length, All}
 use Rattle.std.specs.Prelude.{slice_index_or}
 use Rattle.std.specs.List.{IsDistinct}
-use Rattle.vipr_spec.specs.Fraction.{ℚ}
-use Rattle.vipr_spec.specs.Tokens.{IsToken}
 use Rattle.vipr_spec.specs.Constraint.{Row, at, Constraint, NamesBelow}
 use Rattle.vipr_spec.specs.Certificate.{Name, Named, Problem, variables, Reason, Derivation}
-use Rattle.vipr_spec.specs.Reading.{most_count}
 use Rattle.vipr_spec.specs.Shape.{ConstraintShape, SolutionShape, ReasonShape, DerivationShape}
 use Rattle.vipr_spec.specs.Shape.{RowFits, ConstraintFits, EntryFits, ReasonFits, DerivationFits}
+use Rattle.vipr_spec.specs.{Fraction.ℚ, Reading.most_count, Tokens.IsToken}
 use Rattle.vipr_linear.specs.Row.{variables_of}
 
 -- this variable has a mark, which isn't set

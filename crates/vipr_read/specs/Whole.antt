@@ -3,9 +3,8 @@ use Rattle.std.specs.Prelude.{◌≡◌, ℕ, List, Result, Ok, Err}
 use Rattle.vipr_spec.specs.Certificate.{Problem, Derivation, Certificate}
 use Rattle.vipr_spec.specs.Reading.{Rest, Fault, ◌>>=◌, read_each, solution_read, derivations_read}
 use Rattle.vipr_spec.specs.Reading.{derivation_read, end_read}
-use Rattle.vipr_scan.specs.Faults.{IsFaultOf, Fails}
-use Rattle.vipr_scan.specs.declared.error.ScanError.{ScanError}
 use Rattle.vipr_scan.specs.declared.error.TextError.{TextError}
+use Rattle.vipr_scan.specs.{Faults.IsFaultOf, Faults.Fails, declared.error.ScanError.ScanError}
 
 -- the value that the reading gives, as a contract sees it, or its fault
 abbrev pub IsParsed : {X Y : Type 0} → (X → Y) → Result X ScanError → Result Y Fault → Type 0

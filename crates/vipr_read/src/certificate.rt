@@ -4,9 +4,7 @@
 //! A check needs one item at a time, and reads them by [`crate::CertReader`].
 ghost use Rattle.std.specs.Prelude.{◌≡◌, ◌≢◌, ◌⊎◌, Ok, Err, IfOk, IfErr, IsSome, map};
 ghost use Rattle.vipr_spec.specs.Certificate.{Certificate as CertificateMeant, variables};
-ghost use Rattle.vipr_spec.specs.Grammar.{Spells};
-ghost use Rattle.vipr_spec.specs.Reading.{certificate_read};
-ghost use Rattle.vipr_spec.specs.Shape.{CanWrite};
+ghost use Rattle.vipr_spec.specs.{Grammar.Spells, Reading.certificate_read, Shape.CanWrite};
 ghost use Rattle.vipr_cert.specs.Items.{certificate_with, derivation_of};
 ghost use Rattle.vipr_bytes.specs.Known.{text_of, IfKnown, IfWhole};
 ghost use Rattle.vipr_scan.specs.Giving.{rest_of};

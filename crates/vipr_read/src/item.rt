@@ -6,8 +6,7 @@ ghost use Rattle.vipr_spec.specs.Certificate.{Named as NamedMeant, Derivation as
 ghost use Rattle.vipr_spec.specs.Reading.{Rest, Read, read_each, solution_read, derivation_read};
 ghost use Rattle.vipr_spec.specs.Shape.{RowFits, SolutionShape, DerivationShape, DerivationFits};
 ghost use Rattle.vipr_cert.specs.Items.{solution_of, derivation_of};
-ghost use Rattle.vipr_read.specs.Parsing.{Parses, Retains};
-ghost use Rattle.vipr_read.specs.Limits.{CanWriteRow};
+ghost use Rattle.vipr_read.specs.{Limits.CanWriteRow, Parsing.Parses, Parsing.Retains};
 
 use crate::parser::Parser;
 use crate::repeat::push_among;

@@ -13,8 +13,7 @@ ghost use Rattle.vipr_cert.specs.Items.{solution_of, derivation_of};
 ghost use Rattle.vipr_scan.specs.Giving.{rest_of};
 ghost use Rattle.vipr_read.specs.Items.{Items, Knows, Remembers, HasNone, HasEnded, Moves};
 ghost use Rattle.vipr_read.specs.Items.{NextItem, GivesFrom, item_in};
-ghost use Rattle.vipr_read.specs.ItemsCode.{items_code};
-ghost use Rattle.vipr_read.specs.Limits.{CanWriteRow};
+ghost use Rattle.vipr_read.specs.{ItemsCode.items_code, Limits.CanWriteRow};
 
 use crate::item::{ItemKind, Listed};
 use crate::parser::{Parser, likely_bytes};

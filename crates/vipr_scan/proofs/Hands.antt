@@ -1,19 +1,13 @@
 -- What a part of the bytes at hand leaves
-use Rattle.std.proofs.Common.{◌≡◌, ℕ, ◌+◌, ◌-◌, ◌^◌, ◌<◌, ◌≤◌, min, false, List, length}
-use Rattle.std.proofs.Common.{take, drop, Option, Ok, refl, sym, ap, ◌∙◌, arith}
-use Rattle.std.proofs.Common.{slice_range}
+use Rattle.std.proofs.Common.{◌≡◌, ℕ, ◌+◌, ◌-◌, ◌^◌, ◌<◌, ◌≤◌, min, false, List, length, take, drop}
+use Rattle.std.proofs.Common.{Option, Ok, refl, sym, ap, ◌∙◌, arith, slice_range}
 use Rattle.std.proofs.lemmas.List.{length-drop, drop-drop}
-use Rattle.vipr_spec.specs.Input.{Input}
-use Rattle.vipr_spec.specs.Tokens.{Token}
-use Rattle.vipr_spec.specs.Reading.{token_read}
-use Rattle.vipr_scan.specs.Cursor.{IsGapAt}
-use Rattle.vipr_scan.specs.Giving.{Scans}
+use Rattle.vipr_spec.specs.{Input.Input, Reading.token_read, Tokens.Token}
 use Rattle.vipr_scan.specs.Hand.{Hand, at_hand, hand_of, offset_behind, rest_behind}
-use Rattle.vipr_scan.specs.Meaning.{IsInFront}
 use Rattle.vipr_scan.specs.View.{TokenView, unread, source_left}
-use Rattle.vipr_scan.specs.declared.window.Window.{Window}
-use Rattle.vipr_scan.specs.declared.place.Position.{Position}
 use Rattle.vipr_scan.specs.declared.place.Position.TheVariants.{Front, Comment, Past}
+use Rattle.vipr_scan.specs.{Cursor.IsGapAt, Giving.Scans, Meaning.IsInFront}
+use Rattle.vipr_scan.specs.{declared.place.Position.Position, declared.window.Window.Window}
 use Rattle.vipr_scan.proofs.State.{left_at, narrowed, part_short, passed_answer, passed_left}
 use Rattle.vipr_scan.proofs.Wanted.{short_known}
 

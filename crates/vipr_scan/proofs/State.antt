@@ -2,21 +2,17 @@
 use Rattle.std.proofs.Common.{◌≡◌, ℕ, ◌+◌, ◌-◌, ◌^◌, ◌<◌, ◌≤◌, min, Bool, true, List, [], ◌∷◌, ◌++◌}
 use Rattle.std.proofs.Common.{length, take, drop, get_or, Option, Some, None, Result, Ok, Err}
 use Rattle.std.proofs.Common.{OnErr, IfSome, refl, sym, ap, ◌∙◌, arith, slice_range, nat_lt}
-use Rattle.std.proofs.Common.{if◌then◌else◌, option_and_then}
-use Rattle.std.specs.Option.{option_map}
-use Rattle.std.proofs.Common.{inl, inr, false, nat_eq}
+use Rattle.std.proofs.Common.{if◌then◌else◌, option_and_then, inl, inr, false, nat_eq}
 use Rattle.std.proofs.lemmas.List.{get_or-take, get_or_append_left, take-append-le, length-take-le}
 use Rattle.std.proofs.lemmas.List.{take_all, length-append, length-take, take-take, length-drop}
 use Rattle.std.proofs.lemmas.List.{drop-append-le, nil_from_length, drop-drop, drop-take, drop_more}
 use Rattle.std.proofs.lemmas.Bool.{ltb-true, lt-ltb, le-ltb, cases_lt, cases_eq, eq-eqb, ne_eqb}
-use Rattle.vipr_spec.specs.Input.{Input}
+use Rattle.std.specs.Option.{option_map}
 use Rattle.vipr_spec.specs.Tokens.{IsToken, is_white, tokens_from, tokens_after_front, run}
-use Rattle.vipr_scan.specs.Places.{tokens_in}
-use Rattle.vipr_spec.specs.Reading.{Rest}
+use Rattle.vipr_spec.specs.{Input.Input, Reading.Rest}
 use Rattle.vipr_scan.specs.View.{prepend, left_of, Keeps, IsOver, next_answer, next_left}
-use Rattle.vipr_scan.specs.Meaning.{IsInFront}
-use Rattle.vipr_scan.specs.declared.place.Position.{Position}
 use Rattle.vipr_scan.specs.declared.place.Position.TheVariants.{Front, Comment, Past}
+use Rattle.vipr_scan.specs.{Meaning.IsInFront, Places.tokens_in, declared.place.Position.Position}
 use Rattle.vipr_spec.proofs.Laws.{token_cut, token_whole, token_long, run_from}
 
 -- what is left of an input

@@ -1,14 +1,11 @@
 -- What an answer of the reader of tokens says of the token that is wanted
 use Rattle.std.proofs.Common.{◌≡◌, ◌≤◌, Bool, true, false, List, [], ◌∷◌, length, nat_lt, Option}
 use Rattle.std.proofs.Common.{Some, None, Result, Ok, IfOk, IfSome, IsSome, refl, sym, ap, ◌∙◌}
-use Rattle.std.proofs.lemmas.List.{take_all}
-use Rattle.std.proofs.lemmas.Bool.{ltb-false}
-use Rattle.vipr_spec.specs.Tokens.{Token}
-use Rattle.vipr_spec.specs.Reading.{Rest, token_read, first_token}
-use Rattle.vipr_scan.specs.Giving.{rest_of, IsBehind}
+use Rattle.std.proofs.{lemmas.Bool.ltb-false, lemmas.List.take_all}
+use Rattle.vipr_spec.specs.{Reading.Rest, Reading.token_read, Reading.first_token, Tokens.Token}
 use Rattle.vipr_scan.specs.View.{TokenView, next_answer, first_answer, view_of_read, next_left}
 use Rattle.vipr_scan.specs.View.{stops}
-use Rattle.vipr_scan.specs.declared.error.ScanError.{ScanError}
+use Rattle.vipr_scan.specs.{Giving.rest_of, Giving.IsBehind, declared.error.ScanError.ScanError}
 
 -- what was seen, as a token
 abbrev pub token_seen : TokenView → Token

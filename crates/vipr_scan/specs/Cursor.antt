@@ -1,12 +1,9 @@
 -- Where a cursor is among the bytes at hand
 use Rattle.std.specs.Prelude.{◌≡◌, ℕ, ◌+◌, ◌-◌, ◌≤◌, List, ◌++◌, Bool, drop, take, length, Option}
-use Rattle.vipr_spec.specs.Input.{Input}
-use Rattle.vipr_spec.specs.Tokens.{Token}
-use Rattle.vipr_spec.specs.Reading.{Rest}
+use Rattle.vipr_spec.specs.{Input.Input, Reading.Rest, Tokens.Token}
 use Rattle.vipr_scan.specs.Hand.{Hand, at_hand, hand_of, offset_behind, rest_behind}
-use Rattle.vipr_scan.specs.Places.{tokens_in}
 use Rattle.vipr_scan.specs.declared.place.Position.TheVariants.{Past}
-use Rattle.vipr_scan.specs.declared.cursor.Cursor.{Cursor}
+use Rattle.vipr_scan.specs.{Places.tokens_in, declared.cursor.Cursor.Cursor}
 
 abbrev pub hand_at : {R : Type 0} → (R → Option Input) → Cursor R → Hand
 hand_at input c = hand_of input c.window.now

@@ -1,9 +1,8 @@
 -- An error against what the reading of the tokens left gives
 use Rattle.std.specs.Prelude.{◌≡◌, ⊤, Result, Err}
 use Rattle.vipr_spec.specs.Reading.{Fault, refused, unread}
-use Rattle.vipr_scan.specs.declared.error.ScanError.{ScanError}
+use Rattle.vipr_scan.specs.{declared.error.ScanError.ScanError, declared.error.TextError.TextError}
 use Rattle.vipr_scan.specs.declared.error.ScanError.TheVariants as stop
-use Rattle.vipr_scan.specs.declared.error.TextError.{TextError}
 use Rattle.vipr_scan.specs.declared.error.TextError.TheVariants as error
 
 -- the fault of the reading, unless memory ran out

@@ -2,8 +2,7 @@
 use Rattle.std.specs.Prelude.{◌≡◌, ℕ, false, List, [], Option, Some, None, Result, Ok, Err}
 use Rattle.std.specs.Prelude.{IsSome, IfSome, IfOk}
 use Rattle.vipr_spec.specs.Reading.{Rest, Fault, Read, token_read, token_of}
-use Rattle.vipr_scan.specs.Faults.{IsFaultOf}
-use Rattle.vipr_scan.specs.declared.error.ScanError.{ScanError}
+use Rattle.vipr_scan.specs.{Faults.IsFaultOf, declared.error.ScanError.ScanError}
 
 -- the rest, if it is known
 abbrev pub rest_of : Option Rest → Rest

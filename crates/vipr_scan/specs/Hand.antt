@@ -2,11 +2,9 @@
 use Rattle.std.specs.Prelude.{ℕ, ◌+◌, ◌-◌, ◌^◌, min, List, drop, Option, slice_range}
 use Rattle.std.specs.Prelude.{option_and_then}
 use Rattle.std.specs.Option.{option_map}
-use Rattle.vipr_spec.specs.Input.{Input}
-use Rattle.vipr_spec.specs.Reading.{Rest}
+use Rattle.vipr_spec.specs.{Input.Input, Reading.Rest}
 use Rattle.vipr_scan.specs.View.{unread, source_left, left_of, prepend}
-use Rattle.vipr_scan.specs.declared.place.Position.{Position}
-use Rattle.vipr_scan.specs.declared.window.Window.{Window}
+use Rattle.vipr_scan.specs.{declared.place.Position.Position, declared.window.Window.Window}
 
 -- the bytes in which a token may begin, and all that decides what is left
 pub record Hand : Type 0 where

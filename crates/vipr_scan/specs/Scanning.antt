@@ -1,10 +1,8 @@
 -- What a scanner has left, and what of it is at hand
 use Rattle.std.specs.Prelude.{Option}
-use Rattle.vipr_spec.specs.Reading.{Rest}
-use Rattle.vipr_spec.specs.Input.{Input}
-use Rattle.vipr_scan.specs.Hand.{Hand, hand_of}
-use Rattle.vipr_scan.specs.View.{rest_of_window}
+use Rattle.vipr_spec.specs.{Input.Input, Reading.Rest}
 use Rattle.vipr_scan.specs.declared.window.Window.{Window}
+use Rattle.vipr_scan.specs.{Hand.Hand, Hand.hand_of, View.rest_of_window}
 
 pub record Scanning : Type 0 where
   pub rest : Option Rest

@@ -1,14 +1,10 @@
 -- What the public reader of tokens answers, and what it has left after that
 use Rattle.std.specs.Prelude.{◌≡◌, Bool, true, false, Option, Some, None, Result, Ok, Err, IsSome}
-use Rattle.vipr_spec.specs.Input.{Input}
-use Rattle.vipr_spec.specs.Reading.{Rest}
-use Rattle.vipr_scan.specs.Giving.{rest_of}
-use Rattle.vipr_scan.specs.Faults.{error_of}
+use Rattle.vipr_spec.specs.{Input.Input, Reading.Rest}
 use Rattle.vipr_scan.specs.View.{TokenView, rest_of_window, next_answer, next_left}
-use Rattle.vipr_scan.specs.declared.error.ScanError.{ScanError}
 use Rattle.vipr_scan.specs.declared.error.TextError.{TextError}
-use Rattle.vipr_scan.specs.declared.tokens.Token.{Token}
-use Rattle.vipr_scan.specs.declared.tokens.Reader.{Reader}
+use Rattle.vipr_scan.specs.{Faults.error_of, Giving.rest_of, declared.error.ScanError.ScanError}
+use Rattle.vipr_scan.specs.{declared.tokens.Reader.Reader, declared.tokens.Token.Token}
 
 -- whether an error or a token that was too long came, and the rest, if it is known
 pub record Reading : Type 0 where

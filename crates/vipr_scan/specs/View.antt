@@ -4,17 +4,13 @@ use Rattle.std.specs.Prelude.{◌++◌, length, take, drop, Option, Some, None, 
 use Rattle.std.specs.Prelude.{slice_range, ◌-◌, min, ◌≢◌, IfOk, IfErr}
 use Rattle.std.specs.Prelude.{slice_index, IfSome, if◌then◌else◌, option_and_then}
 use Rattle.std.specs.Option.{option_map}
-use Rattle.vipr_spec.specs.Input.{Input}
 use Rattle.vipr_spec.specs.Tokens.{Token, IsToken, is_white}
-use Rattle.vipr_spec.specs.Reading.{Rest, token_read}
-use Rattle.vipr_scan.specs.Giving.{Scans, IsBehind}
+use Rattle.vipr_spec.specs.{Input.Input, Reading.Rest, Reading.token_read}
 use Rattle.vipr_scan.specs.declared.place.Position.TheVariants.{Past}
-use Rattle.vipr_scan.specs.declared.window.Window.{Window}
-use Rattle.vipr_scan.specs.declared.place.Position.{Position}
-use Rattle.vipr_scan.specs.Places.{tokens_in}
-use Rattle.vipr_scan.specs.declared.error.ScanError.{ScanError}
+use Rattle.vipr_scan.specs.{Giving.Scans, Giving.IsBehind, Places.tokens_in}
+use Rattle.vipr_scan.specs.{declared.error.ScanError.ScanError, declared.place.Position.Position}
+use Rattle.vipr_scan.specs.{declared.window.Found.Found, declared.window.Window.Window}
 use Rattle.vipr_scan.specs.declared.error.ScanError.TheVariants as stop
-use Rattle.vipr_scan.specs.declared.window.Found.{Found}
 
 -- the bytes that were read and not yet consumed
 abbrev pub unread : {R : Type 0} → Window R → List ℕ

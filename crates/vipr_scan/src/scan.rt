@@ -1,7 +1,6 @@
 ghost use Rattle.std.specs.Prelude.{◌≡◌, Option, IfOk, OnOk};
 ghost use Rattle.vipr_spec.specs.Reading.{Rest, token_of};
-ghost use Rattle.vipr_scan.specs.Giving.{Scans};
-ghost use Rattle.vipr_scan.specs.Hand.{Hand};
+ghost use Rattle.vipr_scan.specs.{Giving.Scans, Hand.Hand};
 
 use crate::error::ScanError;
 use crate::kind::TokenKind;

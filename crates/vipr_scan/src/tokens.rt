@@ -1,13 +1,11 @@
-ghost use Rattle.std.specs.Prelude.{◌≡◌, ◌⊎◌, ◌↔◌, true, false, IfOk};
-ghost use Rattle.std.specs.Prelude.{IfSome, IfErr, IsErrOf, IsSome, Some};
-ghost use Rattle.std.specs.Borrow.{sem};
-ghost use Rattle.std.specs.Io.BufRead.{Rests};
+ghost use Rattle.std.specs.Prelude.{◌≡◌, ◌⊎◌, ◌↔◌, true, false, IfOk, IfSome, IfErr, IsErrOf};
+ghost use Rattle.std.specs.Prelude.{IsSome, Some};
+ghost use Rattle.std.specs.{Borrow.sem, Io.BufRead.Rests};
 ghost use Rattle.vipr_bytes.specs.Known.{IfKnown, text_of};
 ghost use Rattle.vipr_spec.specs.Tokens.{IsToken};
-ghost use Rattle.vipr_scan.specs.Giving.{rest_of};
-ghost use Rattle.vipr_scan.specs.View.{view_of_answer};
 ghost use Rattle.vipr_scan.specs.Tokens.{view_of_token, ends_reading, public_answer, Follows};
 ghost use Rattle.vipr_scan.specs.contracts.tokens.Tokens.{the_row};
+ghost use Rattle.vipr_scan.specs.{Giving.rest_of, View.view_of_answer};
 
 use crate::error::TextError;
 use crate::window::{Found, Window};

@@ -1,6 +1,5 @@
-ghost use Rattle.std.specs.Prelude.{◌≡◌, ◌+◌, ◌-◌, ◌<◌, ◌≤◌, min, true, false};
-ghost use Rattle.std.specs.Prelude.{length, drop, Option, Some, None, Ok};
-ghost use Rattle.std.specs.Prelude.{Err, IfOk, IfSome, IfErr, take, OnOk};
+ghost use Rattle.std.specs.Prelude.{◌≡◌, ◌+◌, ◌-◌, ◌<◌, ◌≤◌, min, true, false, length, drop};
+ghost use Rattle.std.specs.Prelude.{Option, Some, None, Ok, Err, IfOk, IfSome, IfErr, take, OnOk};
 ghost use Rattle.std.specs.Prelude.{OnErr, slice_range, ◌≢◌};
 ghost use Rattle.vipr_bytes.specs.Known.{IfKnown, text_of};
 ghost use Rattle.vipr_scan.specs.declared.place.Position.TheVariants.{Past};

@@ -1,5 +1,4 @@
-use Rattle.std.proofs.Common.{arith}
-use Rattle.std.proofs.lemmas.List.{length-drop}
+use Rattle.std.proofs.{Common.arith, lemmas.List.length-drop}
 use Rattle.vipr_bytes.proofs.Handed.{more_handed, none_failed}
 use Rattle.vipr_bytes.proofs.write.write_bytes.Goals as goal
 

@@ -1,7 +1,5 @@
-use Rattle.std.proofs.Common.{refl, sym, ◌∙◌}
-use Rattle.std.proofs.lemmas.Bool.{false≢true}
-use Rattle.vipr_cert.proofs.Viewing.{all_seen, fails_at}
-use Rattle.vipr_cert.proofs.Within.{each_of, each_from}
+use Rattle.std.proofs.{Common.refl, Common.sym, Common.◌∙◌, lemmas.Bool.false≢true}
+use Rattle.vipr_cert.proofs.{Viewing.all_seen, Viewing.fails_at, Within.each_of, Within.each_from}
 use Rattle.vipr_cert.proofs.limits.are_within.Goals as goal
 
 pub returns-then-not-is_within : goal.returns-then-not-is_within

@@ -1,8 +1,6 @@
-use Rattle.std.proofs.Common.{◌∙◌, refl}
-use Rattle.std.proofs.lemmas.Bool.{false≢true}
+use Rattle.std.proofs.{Common.◌∙◌, Common.refl, lemmas.Bool.false≢true}
 use Rattle.vipr_linear.proofs.Adding.{below, row_terms, row_terms_fit}
-use Rattle.vipr_linear.proofs.Collecting.{on_ok}
-use Rattle.vipr_linear.proofs.Marks.{not_both}
+use Rattle.vipr_linear.proofs.{Collecting.on_ok, Marks.not_both}
 use Rattle.vipr_linear.proofs.combination.add_constraint.Goals as goal
 
 pub add_terms-requires : goal.add_terms-requires

@@ -1,6 +1,5 @@
 use Rattle.std.proofs.Common.{◌≡◌, ◌≤◌, take, get_or, map, filter, length}
-use Rattle.vipr_spec.specs.Fraction.{zero_ℚ}
-use Rattle.vipr_spec.specs.Reading.{is_nonzero}
+use Rattle.vipr_spec.specs.{Fraction.zero_ℚ, Reading.is_nonzero}
 use Rattle.vipr_linear.proofs.places.count_nonzero.Given as goal
 
 abbrev pub invariant-loop-place : goal.invariant-loop-place

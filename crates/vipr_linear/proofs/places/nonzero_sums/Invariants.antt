@@ -1,6 +1,5 @@
 use Rattle.std.proofs.Common.{◌≡◌, ℕ, take, get_or, map, filter, All}
-use Rattle.vipr_spec.specs.Fraction.{ℚ, zero_ℚ, IsBounded}
-use Rattle.vipr_spec.specs.Reading.{is_nonzero}
+use Rattle.vipr_spec.specs.{Fraction.ℚ, Fraction.zero_ℚ, Fraction.IsBounded, Reading.is_nonzero}
 use Rattle.vipr_linear.proofs.places.nonzero_sums.Given as goal
 
 abbrev pub invariant-loop-variable : goal.invariant-loop-variable

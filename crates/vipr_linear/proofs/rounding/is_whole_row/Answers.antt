@@ -1,9 +1,6 @@
 use Rattle.std.proofs.Common.{◌∙◌, ℕ, All, refl, sym, subst}
-use Rattle.std.proofs.lemmas.Bool.{false≢true}
-use Rattle.std.proofs.lemmas.List.{take_all}
-use Rattle.std.proofs.lemmas.List.Elements.{All-more}
-use Rattle.vipr_spec.specs.Fraction.{ℚ, IsWhole}
-use Rattle.vipr_spec.specs.Constraint.{IsInteger}
+use Rattle.std.proofs.{lemmas.Bool.false≢true, lemmas.List.take_all, lemmas.List.Elements.All-more}
+use Rattle.vipr_spec.specs.{Constraint.IsInteger, Fraction.ℚ, Fraction.IsWhole}
 use Rattle.vipr_linear.proofs.Adding.{row_each}
 use Rattle.vipr_linear.proofs.rounding.is_whole_row.Goals as goal
 

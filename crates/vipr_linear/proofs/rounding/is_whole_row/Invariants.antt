@@ -1,6 +1,5 @@
 use Rattle.std.proofs.Common.{All, take}
-use Rattle.vipr_spec.specs.Fraction.{IsWhole}
-use Rattle.vipr_spec.specs.Constraint.{IsInteger}
+use Rattle.vipr_spec.specs.{Constraint.IsInteger, Fraction.IsWhole}
 use Rattle.vipr_linear.proofs.rounding.is_whole_row.Given as goal
 
 abbrev pub invariant-loop-variable : goal.invariant-loop-variable

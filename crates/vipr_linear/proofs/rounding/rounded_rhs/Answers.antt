@@ -1,6 +1,5 @@
 use Rattle.std.proofs.Common.{◌≡◌, ◌≤◌, ℤ, arith, to_z, of_z}
-use Rattle.std.specs.Prelude.{unsigned_abs}
-use Rattle.std.specs.Int.{w128}
+use Rattle.std.specs.{Int.w128, Prelude.unsigned_abs}
 use Rattle.std.proofs.lemmas.Int.{to_z-of_z, fits_signed_from_abs}
 use Rattle.vipr_spec.specs.Fraction.{most}
 use Rattle.vipr_linear.proofs.rounding.rounded_rhs.Goals as goal

@@ -1,7 +1,5 @@
-use Rattle.std.proofs.Common.{ℕ, rules}
-use Rattle.std.proofs.lemmas.Fn.{filter_same, All-from_retain}
-use Rattle.vipr_spec.specs.Fraction.{ℚ, IsBounded}
-use Rattle.vipr_spec.specs.Reading.{is_nonzero}
+use Rattle.std.proofs.{Common.ℕ, Common.rules, lemmas.Fn.filter_same, lemmas.Fn.All-from_retain}
+use Rattle.vipr_spec.specs.{Fraction.ℚ, Fraction.IsBounded, Reading.is_nonzero}
 use Rattle.vipr_linear.proofs.row.drop_zeros.Goals as goal
 
 pub returns-clause-kept : goal.returns-clause-kept

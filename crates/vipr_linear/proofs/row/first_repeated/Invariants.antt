@@ -1,7 +1,5 @@
 use Rattle.std.proofs.Common.{ℕ, ◌≡◌, take, nat_eq}
-use Rattle.std.specs.List.{IsDistinct, list_any}
-use Rattle.std.specs.Ordering.{nat_cmp}
-use Rattle.std.specs.BTreeSet.{contains}
+use Rattle.std.specs.{BTreeSet.contains, List.IsDistinct, List.list_any, Ordering.nat_cmp}
 use Rattle.vipr_linear.specs.Row.{variables_of}
 use Rattle.vipr_linear.proofs.row.first_repeated.Given as goal
 

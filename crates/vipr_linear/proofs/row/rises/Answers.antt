@@ -1,5 +1,4 @@
-use Rattle.std.proofs.Common.{arith}
-use Rattle.std.proofs.lemmas.Bool.{false≢true}
+use Rattle.std.proofs.{Common.arith, lemmas.Bool.false≢true}
 use Rattle.vipr_linear.proofs.Rows.{rises_more, falls_at}
 use Rattle.vipr_linear.proofs.row.rises.Goals as goal
 

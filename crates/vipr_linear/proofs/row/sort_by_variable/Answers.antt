@@ -1,5 +1,4 @@
-use Rattle.std.proofs.Common.{rules}
-use Rattle.std.proofs.lemmas.List.Sorted.{IsNonDecreasingBy-from_sort_by_key}
+use Rattle.std.proofs.{Common.rules, lemmas.List.Sorted.IsNonDecreasingBy-from_sort_by_key}
 use Rattle.vipr_linear.proofs.row.sort_by_variable.Goals as goal
 
 pub returns-clause-sorted : goal.returns-clause-sorted

@@ -1,7 +1,6 @@
 use Rattle.std.proofs.Common.{◌≡◌, ◌∙◌, sym, arith, to_z, of_z}
-use Rattle.std.proofs.lemmas.Bool.{false≢true}
+use Rattle.std.proofs.{lemmas.Bool.false≢true, lemmas.Int.ints}
 use Rattle.std.specs.Int.{w128}
-use Rattle.std.proofs.lemmas.Int.{ints}
 use Rattle.vipr_linear.proofs.Roundings.{next_known}
 use Rattle.vipr_linear.proofs.split.is_next.Goals as goal
 use Rattle.vipr_linear.proofs.split.is_next.Goals.{then-is_whole, else-is_whole}

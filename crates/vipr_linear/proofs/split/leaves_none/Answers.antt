@@ -1,6 +1,5 @@
-use Rattle.std.proofs.Common.{◌≡◌, arith, to_z, of_z}
+use Rattle.std.proofs.{Common.◌≡◌, Common.arith, Common.to_z, Common.of_z, lemmas.Int.ints}
 use Rattle.std.specs.Int.{w128}
-use Rattle.std.proofs.lemmas.Int.{ints}
 use Rattle.vipr_linear.proofs.Roundings.{none_left}
 use Rattle.vipr_linear.proofs.split.leaves_none.Goals as goal
 

@@ -1,5 +1,4 @@
-use Rattle.std.proofs.Common.{◌∙◌, sym, inl, inr}
-use Rattle.std.proofs.lemmas.Bool.{false≢true}
+use Rattle.std.proofs.{Common.◌∙◌, Common.sym, Common.inl, Common.inr, lemmas.Bool.false≢true}
 use Rattle.vipr_linear.proofs.Points.{all_left, none_left_whole, one_less, first_found}
 use Rattle.vipr_linear.proofs.values.first_fractional.Goals as goal
 use Rattle.vipr_linear.proofs.values.first_fractional.Goals.{else-not-is_whole-via-then-not-is_whole+else-contains}

@@ -1,10 +1,8 @@
 use Rattle.std.proofs.Common.{◌∙◌, sym, refl, subst, ap}
-use Rattle.vipr_spec.specs.Fraction.{zero_ℚ}
-use Rattle.vipr_spec.specs.Constraint.{at}
+use Rattle.vipr_spec.specs.{Constraint.at, Fraction.zero_ℚ}
 use Rattle.vipr_linear.specs.Values.{with_values, ValuesFit}
-use Rattle.vipr_linear.proofs.Marks.{not_both}
-use Rattle.vipr_linear.proofs.Valuing.{product_refused, sum_refused, fits_on, value_on, all_fit}
-use Rattle.vipr_linear.proofs.Valuing.{no_more}
+use Rattle.vipr_linear.proofs.{Marks.not_both, Valuing.product_refused, Valuing.sum_refused}
+use Rattle.vipr_linear.proofs.{Valuing.fits_on, Valuing.value_on, Valuing.all_fit, Valuing.no_more}
 use Rattle.vipr_linear.proofs.values.sum_of_values.Goals as goal
 
 pub returns-in_err-product-clause-fits : goal.returns-in_err-product-clause-fits

@@ -1,7 +1,6 @@
 use Rattle.std.proofs.Common.{◌≡◌, drop}
 use Rattle.std.specs.Prelude.{◌↔◌}
-use Rattle.vipr_spec.specs.Fraction.{zero_ℚ}
-use Rattle.vipr_spec.specs.Constraint.{at}
+use Rattle.vipr_spec.specs.{Constraint.at, Fraction.zero_ℚ}
 use Rattle.vipr_linear.specs.Values.{with_values, ValuesFit}
 use Rattle.vipr_linear.proofs.values.sum_of_values.Given as goal
 

@@ -1,8 +1,7 @@
 use Rattle.std.proofs.Common.{◌≡◌, drop}
 use Rattle.std.specs.Prelude.{◌↔◌}
 use Rattle.vipr_spec.specs.Fraction.{zero_ℚ}
-use Rattle.vipr_linear.specs.Values.{point_of}
-use Rattle.vipr_linear.specs.Values.{with_values, ValuesFit}
+use Rattle.vipr_linear.specs.Values.{point_of, with_values, ValuesFit}
 use Rattle.vipr_linear.proofs.values.value_in.Given as goal
 
 abbrev pub invariant-loop-variable : goal.invariant-loop-variable

@@ -1,8 +1,6 @@
 use Rattle.std.proofs.Common.{rules, Result, IfOk, Ok, Err, ◌≡◌, ◌⊎◌}
 use Rattle.vipr_bytes.specs.Known.{text_of, IfKnown}
-use Rattle.vipr_spec.specs.Reading.{certificate_read}
-use Rattle.vipr_spec.specs.Certificate.{Certificate}
-use Rattle.vipr_spec.specs.Grammar.{Spells}
+use Rattle.vipr_spec.specs.{Certificate.Certificate, Grammar.Spells, Reading.certificate_read}
 use Rattle.vipr_scan.specs.declared.error.TextError.{TextError}
 use Rattle.vipr_scan.specs.declared.error.TextError.TheVariants.{Memory}
 use Rattle.vipr_read.specs.Whole.{IsRead}

@@ -1,12 +1,10 @@
 use Rattle.std.proofs.Common.{◌∷◌, [], length-append, arith, ◌∙◌, map, sym, subst}
 use Rattle.std.proofs.lemmas.Result.{err_from_is_err_and}
-use Rattle.std.proofs.lemmas.List.{map_push}
-use Rattle.std.proofs.lemmas.List.Elements.{All-push}
+use Rattle.std.proofs.{lemmas.List.map_push, lemmas.List.Elements.All-push}
 use Rattle.vipr_spec.specs.Reading.{read_each}
 use Rattle.vipr_scan.specs.Giving.{rest_of}
 use Rattle.vipr_read.specs.Limits.{CanWriteRow}
-use Rattle.vipr_read.proofs.Repeating.{goes_on, ends, is_done}
-use Rattle.vipr_read.proofs.Keeping.{kept_on}
+use Rattle.vipr_read.proofs.{Keeping.kept_on, Repeating.goes_on, Repeating.ends, Repeating.is_done}
 use Rattle.vipr_read.proofs.item.all.Goals as goal
 
 pub parse-requires : goal.parse-requires

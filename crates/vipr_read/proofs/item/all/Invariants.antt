@@ -1,6 +1,5 @@
 use Rattle.std.proofs.Common.{◌≡◌, ◌-◌, length, map}
-use Rattle.std.specs.Option.{IsSome}
-use Rattle.std.specs.List.{All}
+use Rattle.std.specs.{List.All, Option.IsSome}
 use Rattle.vipr_spec.specs.Certificate.{Problem, variables as variables_in}
 use Rattle.vipr_spec.specs.Reading.{read_each}
 use Rattle.vipr_scan.specs.Giving.{rest_of}

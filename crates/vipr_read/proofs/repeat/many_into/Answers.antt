@@ -1,7 +1,6 @@
 use Rattle.std.proofs.Common.{◌≡◌, ◌-◌, ◌∷◌, [], length-append, arith, map, refl}
-use Rattle.std.proofs.lemmas.Result.{err_from_is_err_and}
-use Rattle.std.proofs.lemmas.List.{map_push}
 use Rattle.std.proofs.lemmas.List.Elements.{All-nil, All-push}
+use Rattle.std.proofs.{lemmas.List.map_push, lemmas.Result.err_from_is_err_and}
 use Rattle.vipr_spec.specs.Reading.{read_each}
 use Rattle.vipr_scan.specs.Giving.{rest_of}
 use Rattle.vipr_read.proofs.Repeating.{goes_on, ends, is_done, begins}

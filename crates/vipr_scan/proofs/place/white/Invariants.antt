@@ -1,6 +1,5 @@
 use Rattle.std.proofs.Common.{◌≡◌, ℕ, ◌+◌, Bool, List, ◌++◌, drop}
-use Rattle.vipr_scan.specs.Places.{tokens_in}
-use Rattle.vipr_scan.specs.declared.place.Position.TheVariants.{Past}
+use Rattle.vipr_scan.specs.{Places.tokens_in, declared.place.Position.TheVariants.Past}
 use Rattle.vipr_scan.proofs.place.white.Given as goal
 
 abbrev pub invariant-loop-i : goal.invariant-loop-i

@@ -3,8 +3,7 @@ use Rattle.std.proofs.lemmas.List.{length-map}
 use Rattle.std.specs.Prelude.{◌↔◌, IsTrue}
 use Rattle.vipr_spec.specs.Certificate.{Problem}
 use Rattle.vipr_linear.specs.Constraint.{constraint_of}
-use Rattle.vipr_cert.specs.Items.{named_of}
-use Rattle.vipr_cert.specs.Earlier.{NameEarlierFrom}
+use Rattle.vipr_cert.specs.{Earlier.NameEarlierFrom, Items.named_of}
 use Rattle.vipr_cert.proofs.Backwards.{back}
 use Rattle.vipr_cert.proofs.certificate.Certificate.refers_back.Goals as goal
 

@@ -1,7 +1,5 @@
-use Rattle.std.proofs.Common.{rules, ◌≤◌, ◌∙◌, sym}
-use Rattle.std.proofs.lemmas.Bool.{false≢true}
-use Rattle.vipr_spec.specs.Reading.{most_count}
-use Rattle.vipr_spec.specs.Shape.{ClaimFits}
+use Rattle.std.proofs.{Common.rules, Common.◌≤◌, Common.◌∙◌, Common.sym, lemmas.Bool.false≢true}
+use Rattle.vipr_spec.specs.{Reading.most_count, Shape.ClaimFits}
 use Rattle.vipr_cert.specs.Items.{claim_of}
 use Rattle.vipr_cert.proofs.problem.Problem.new.Goals as goal
 

@@ -1,6 +1,5 @@
 use Rattle.std.proofs.Common.{◌∙◌, ap, length, replicate, false}
-use Rattle.vipr_spec.specs.Constraint.{equal}
-use Rattle.vipr_spec.specs.Fraction.{zero_ℚ}
+use Rattle.vipr_spec.specs.{Constraint.equal, Fraction.zero_ℚ}
 use Rattle.vipr_linear.specs.Accumulator.{Accumulator}
 use Rattle.vipr_linear.proofs.combination.Combination.clear.Goals as goal
 

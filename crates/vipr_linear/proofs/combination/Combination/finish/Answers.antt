@@ -1,6 +1,5 @@
 use Rattle.std.proofs.Common.{◌∙◌, ap, sym, subst, get_or}
-use Rattle.vipr_spec.specs.Fraction.{zero_ℚ}
-use Rattle.vipr_spec.specs.Constraint.{at, HasNoZeros}
+use Rattle.vipr_spec.specs.{Constraint.at, Constraint.HasNoZeros, Fraction.zero_ℚ}
 use Rattle.vipr_linear.specs.Accumulator.{Accumulator}
 use Rattle.vipr_linear.proofs.Rows.{no_zeros}
 use Rattle.vipr_linear.proofs.combination.Combination.finish.Goals as goal

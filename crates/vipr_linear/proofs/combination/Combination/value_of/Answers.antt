@@ -1,7 +1,6 @@
 use Rattle.std.proofs.Common.{◌≡◌, ◌∙◌, ap, subst, sym}
 use Rattle.vipr_spec.specs.Constraint.{at}
-use Rattle.vipr_linear.specs.Accumulator.{Accumulator}
-use Rattle.vipr_linear.specs.Values.{point_of, IsLaidOut}
+use Rattle.vipr_linear.specs.{Accumulator.Accumulator, Values.point_of, Values.IsLaidOut}
 use Rattle.vipr_linear.proofs.Points.{laid_value, laid_fits}
 use Rattle.vipr_linear.proofs.Valuing.{row_value, row_fits, if_ok}
 use Rattle.vipr_linear.proofs.combination.Combination.value_of.Goals as goal

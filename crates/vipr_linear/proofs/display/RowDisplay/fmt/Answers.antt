@@ -1,6 +1,5 @@
 use Rattle.std.proofs.Common.{◌++◌, length, ap, ◌∙◌, rules}
-use Rattle.std.proofs.Output.{has_written_append, has_written_of_eq}
-use Rattle.std.proofs.lemmas.List.{take_all}
+use Rattle.std.proofs.{Output.has_written_append, Output.has_written_of_eq, lemmas.List.take_all}
 use Rattle.std.specs.Fmt.{decimal}
 use Rattle.vipr_linear.specs.Text.{entries_text}
 use Rattle.vipr_linear.proofs.Printing.{behind_more}

@@ -1,9 +1,7 @@
-use Rattle.std.proofs.Common.{arith, ◌≡◌, ◌∙◌, sym, ap, ap₂, subst, get_or, slice_set}
-use Rattle.std.proofs.Common.{IsOk}
-use Rattle.std.specs.Prelude.{◌↔◌}
+use Rattle.std.proofs.Common.{arith, ◌≡◌, ◌∙◌, sym, ap, ap₂, subst, get_or, slice_set, IsOk}
 use Rattle.std.proofs.lemmas.List.{get_or_default, set-get_or}
-use Rattle.vipr_spec.specs.Fraction.{zero_ℚ, ◌+ℚ◌, ◌*ℚ◌}
-use Rattle.vipr_spec.specs.MoreEntries.{TermFits}
+use Rattle.std.specs.Prelude.{◌↔◌}
+use Rattle.vipr_spec.specs.{Fraction.zero_ℚ, Fraction.◌+ℚ◌, Fraction.◌*ℚ◌, MoreEntries.TermFits}
 use Rattle.vipr_linear.proofs.Marks.{also_within, covered_set}
 use Rattle.vipr_linear.proofs.Collecting.{on_ok_then, on_err_then}
 use Rattle.vipr_linear.proofs.places.Places.add_term.Goals as goal

@@ -1,6 +1,5 @@
 use Rattle.std.proofs.Common.{arith, ap, ◌≡◌, ◌+◌, ◌∙◌, sym, subst, refl, drop, length}
-use Rattle.std.proofs.lemmas.Bool.{false≢true}
-use Rattle.std.proofs.lemmas.List.{length-set}
+use Rattle.std.proofs.{lemmas.Bool.false≢true, lemmas.List.length-set}
 use Rattle.vipr_linear.specs.Accumulator.{with_term, with_terms, TermsFitIn}
 use Rattle.vipr_linear.proofs.Marks.{item_within, not_both, next_fits, next_sums, all_fit, no_more}
 use Rattle.vipr_linear.proofs.places.Places.add_terms.Goals as goal

@@ -2,9 +2,8 @@ use Rattle.std.proofs.Common.{◌∙◌, sym, ap, subst, get_or}
 use Rattle.std.proofs.lemmas.Bool.{false≢true}
 use Rattle.vipr_spec.specs.Fraction.{zero_ℚ}
 use Rattle.vipr_linear.specs.Touched.{Covers}
-use Rattle.vipr_linear.proofs.Rows.{exact}
-use Rattle.vipr_linear.proofs.Collecting.{touched_within}
 use Rattle.vipr_linear.proofs.Counting.{row_counted, same_test}
+use Rattle.vipr_linear.proofs.{Collecting.touched_within, Rows.exact}
 use Rattle.vipr_linear.proofs.places.Places.are_row.Goals as goal
 
 pub count_nonzero-requires : goal.count_nonzero-requires

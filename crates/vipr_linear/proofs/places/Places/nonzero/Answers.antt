@@ -1,8 +1,6 @@
 use Rattle.std.proofs.Common.{◌≡◌, ◌∙◌, sym, ap, ap₂, subst, get_or, map, filter, All}
 use Rattle.std.specs.FinMap.{from_sorted}
-use Rattle.vipr_spec.specs.Constraint.{at}
-use Rattle.vipr_spec.specs.Fraction.{zero_ℚ, IsBounded}
-use Rattle.vipr_spec.specs.Reading.{is_nonzero}
+use Rattle.vipr_spec.specs.{Constraint.at, Fraction.zero_ℚ, Fraction.IsBounded, Reading.is_nonzero}
 use Rattle.vipr_linear.specs.Row.{AreEntries, RisesFrom}
 use Rattle.vipr_linear.specs.Touched.{AreCovered, HasRowEntries}
 use Rattle.vipr_linear.proofs.Marks.{pick}

@@ -1,7 +1,5 @@
 use Rattle.std.proofs.Common.{arith, ◌≡◌, ap, length}
-use Rattle.vipr_linear.proofs.Marks.{all_zero}
-use Rattle.vipr_linear.proofs.Adding.{zeros}
-use Rattle.vipr_linear.proofs.Collecting.{touched_within}
+use Rattle.vipr_linear.proofs.{Adding.zeros, Collecting.touched_within, Marks.all_zero}
 use Rattle.vipr_linear.proofs.places.Places.reset.Goals as goal
 
 pub index_mut-requires : goal.index_mut-requires

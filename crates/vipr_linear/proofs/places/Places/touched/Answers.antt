@@ -1,7 +1,6 @@
 use Rattle.std.proofs.Common.{◌<◌, All, length, subst}
 use Rattle.vipr_linear.specs.Touched.{CoversNonzero}
-use Rattle.vipr_linear.proofs.Collecting.{touched_within}
-use Rattle.vipr_linear.proofs.Counting.{covered_places}
+use Rattle.vipr_linear.proofs.{Collecting.touched_within, Counting.covered_places}
 use Rattle.vipr_linear.proofs.places.Places.touched.Goals as goal
 
 pub returns-clause-within : goal.returns-clause-within

@@ -1,7 +1,6 @@
 use Rattle.std.proofs.Common.{ℕ, ◌∙◌, ap, sym, rules}
-use Rattle.vipr_spec.specs.Fraction.{ℚ}
+use Rattle.vipr_spec.specs.{Constraint.at, Fraction.ℚ}
 use Rattle.std.proofs.lemmas.List.Sorted.{answers_always}
-use Rattle.vipr_spec.specs.Constraint.{at}
 use Rattle.vipr_linear.proofs.Searching.{searchable, found_at, not_found}
 use Rattle.vipr_linear.specs.Row.{kept_items}
 use Rattle.vipr_linear.proofs.row.Row.coefficient.Goals as goal

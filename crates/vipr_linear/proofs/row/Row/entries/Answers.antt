@@ -1,9 +1,7 @@
 use Rattle.std.proofs.Common.{ap, ◌∙◌, sym, subst}
-use Rattle.std.specs.FinMap.{entries, entries-from_sorted}
-use Rattle.std.specs.Ordering.{nat_cmp}
+use Rattle.std.specs.{FinMap.entries, FinMap.entries-from_sorted, Ordering.nat_cmp}
 use Rattle.vipr_linear.proofs.Rows.{rises_sorted, no_zeros, entries_fit}
-use Rattle.vipr_spec.specs.Constraint.{HasNoZeros}
-use Rattle.vipr_spec.specs.Shape.{RowFits}
+use Rattle.vipr_spec.specs.{Constraint.HasNoZeros, Shape.RowFits}
 use Rattle.vipr_linear.specs.Row.{kept_items}
 use Rattle.vipr_linear.proofs.row.Row.entries.Goals as goal
 

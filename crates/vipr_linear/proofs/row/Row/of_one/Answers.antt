@@ -1,6 +1,5 @@
 use Rattle.std.proofs.Common.{arith, ◌≡◌, false, not, [], ap, sym, ◌∙◌}
-use Rattle.std.specs.FinMap.{from_sorted}
-use Rattle.std.specs.Ordering.{nat_cmp}
+use Rattle.std.specs.{FinMap.from_sorted, Ordering.nat_cmp}
 use Rattle.vipr_spec.specs.Reading.{is_nonzero}
 use Rattle.vipr_linear.proofs.Rows.{one_seen, one_passes, one_fails, one_kept, entries_fit}
 use Rattle.vipr_linear.proofs.row.Row.of_one.Goals as goal

@@ -1,6 +1,5 @@
 use Rattle.std.proofs.Common.{not, ap, sym, ◌∙◌}
-use Rattle.std.specs.FinMap.{from_sorted}
-use Rattle.std.specs.Ordering.{nat_cmp}
+use Rattle.std.specs.{FinMap.from_sorted, Ordering.nat_cmp}
 use Rattle.vipr_linear.proofs.Rows.{one_seen, one_passes, one_kept, entries_fit}
 use Rattle.vipr_linear.proofs.row.Row.set_one.Goals as goal
 

@@ -1,7 +1,6 @@
 use Rattle.std.proofs.lemmas.Result.{err_from_is_err_and}
 use Rattle.vipr_spec.specs.Reading.{derivation_read}
-use Rattle.vipr_read.proofs.Keeping.{kept_on}
-use Rattle.vipr_read.proofs.Whole.{fails_first}
+use Rattle.vipr_read.proofs.{Keeping.kept_on, Whole.fails_first}
 use Rattle.vipr_read.proofs.parser.Parser.derivation_into.Goals as goal
 
 pub returns-in_err-stated_into-clause-read : goal.returns-in_err-stated_into-clause-read

@@ -2,8 +2,7 @@ use Rattle.std.proofs.Common.{rules, ◌≡◌, length, refl}
 use Rattle.std.proofs.lemmas.Result.{err_from_is_err_and}
 use Rattle.vipr_scan.specs.Giving.{rest_of}
 use Rattle.vipr_read.specs.Sections.{variables_read}
-use Rattle.vipr_read.proofs.Sections.{problem_parts}
-use Rattle.vipr_read.proofs.Whole.{fails_first}
+use Rattle.vipr_read.proofs.{Sections.problem_parts, Whole.fails_first}
 use Rattle.vipr_read.proofs.parser.Parser.problem.Goals as goal
 
 pub returns-in_err-names-clause-read : goal.returns-in_err-names-clause-read

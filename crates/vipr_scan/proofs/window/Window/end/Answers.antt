@@ -1,14 +1,10 @@
 use Rattle.std.proofs.Common.{◌≡◌, Err, sym, subst}
 use Rattle.std.proofs.lemmas.Result.{err_from_is_err_and}
-use Rattle.vipr_spec.specs.Reading.{Rest}
-use Rattle.vipr_scan.specs.View.{rest_of_window, view_of_found, next_answer}
-use Rattle.vipr_scan.specs.Faults.{IsFaultOf}
-use Rattle.vipr_scan.specs.declared.error.ScanError.{ScanError}
-use Rattle.vipr_spec.specs.Reading.{end_read}
-use Rattle.vipr_scan.proofs.State.{some_weaker}
+use Rattle.vipr_spec.specs.Reading.{Rest, end_read}
+use Rattle.vipr_scan.specs.View.{rest_of_window, view_of_found, next_answer, view_of_answer}
+use Rattle.vipr_scan.specs.{Faults.IsFaultOf, declared.error.ScanError.ScanError}
 use Rattle.vipr_scan.proofs.Ending.{ended, trailing, failed}
-use Rattle.vipr_scan.proofs.Wanted.{behind_of}
-use Rattle.vipr_scan.specs.View.{view_of_answer}
+use Rattle.vipr_scan.proofs.{State.some_weaker, Wanted.behind_of}
 use Rattle.vipr_scan.proofs.window.Window.end.Goals as goal
 
 pub returns-in_err-advance-clause-read : goal.returns-in_err-advance-clause-read

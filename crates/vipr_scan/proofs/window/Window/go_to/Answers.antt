@@ -1,8 +1,6 @@
 use Rattle.std.proofs.Common.{◌≡◌, ℕ, ◌-◌, ◌≤◌, length, ap, arith}
-use Rattle.vipr_scan.specs.Hand.{at_hand}
-use Rattle.vipr_scan.specs.View.{source_left}
-use Rattle.vipr_scan.proofs.State.{part_short}
-use Rattle.vipr_scan.proofs.Hands.{ready_within, gone}
+use Rattle.vipr_scan.specs.{Hand.at_hand, View.source_left}
+use Rattle.vipr_scan.proofs.{Hands.ready_within, Hands.gone, State.part_short}
 use Rattle.vipr_scan.proofs.window.Window.go_to.Goals as goal
 
 pub returns : goal.returns
