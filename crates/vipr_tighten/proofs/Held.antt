@@ -20,12 +20,12 @@ use Rattle.vipr_spec.proofs.Laws.{reason_placed}
 use Rattle.vipr_spec.proofs.Laws.{lasts_listed, count_cons, count_from}
 use Rattle.vipr_write.specs.StepReasons.{kept_reason_of}
 use Rattle.vipr_write.specs.Steps.{step_of}
+use Rattle.vipr_write.specs.declared.statements.Statement.{Statement}
 use Rattle.vipr_write.specs.declared.statements.Step.{Step}
-use Rattle.vipr_tighten.specs.Passes.{StandFor}
+use Rattle.vipr_tighten.specs.Passes.{AreDerivationsOf}
 use Rattle.vipr_tighten.specs.Dropping.{dropped_after, is_held_after, is_held_until}
 use Rattle.vipr_tighten.specs.Dropping.{is_dropped_after}
 use Rattle.vipr_tighten.proofs.Alike.{map_alike, peak_alike}
-use Rattle.vipr_tighten.proofs.Marking.{no_statement}
 
 abbrev pub drop_at : Certificate → ℕ → Option ℕ
 drop_at c i = dropped_after i (reason_at c i) (last_at c i)
@@ -139,7 +139,7 @@ module _ (c : Certificate) (m : ℕ) (is_first : length c.problem.constraints �
       turned ∙ sym (ap (fold max 0) (map-range_with_len_more (count_held c) m p (m + p) refl) ∙ fold-append max 0 (map (count_held c) (range_with_len m p)) (count_held c (m + p) ∷ []))
 
   -- where the derivation at this place is dropped
-  pub drop_here : {S : Type 0} (view : S → Named Constraint) (ss : List (Step S)) → map (step_of view) ss ≡ c.derivations → p < length ss → (s : Step S) → s ≡ slice_index_or ss p s → drop_at c (m + p) ≡ dropped_after (m + p) (Some (kept_reason_of s.reason)) s.last
+  pub drop_here : (view : Statement → Named Constraint) (ss : List Step) → map (step_of view) ss ≡ c.derivations → p < length ss → (s : Step) → s ≡ slice_index_or ss p s → drop_at c (m + p) ≡ dropped_after (m + p) (Some (kept_reason_of s.reason)) s.last
   drop_here view ss same h s is = ap₂ (dropped_after (m + p)) reason last
     where
       there : step_of view s ≡ slice_index_or c.derivations p (step_of view s)
@@ -189,8 +189,12 @@ peak_whole c m n a b = sym (ap₂ (λ i j. fold max 0 (map (count_held c) (range
 
 -- ---- of steps
 
+-- a reading that says nothing
+abbrev pub no_statement : Statement → Named Constraint
+no_statement s = record { name = []; item = record { row = empty; sense = equal; bound = zero_ℚ } }
+
 -- a certificate of which nothing is known but its steps, and how many constraints precede them
-abbrev pub certificate_of : {S : Type 0} → ℕ → List (Step S) → Certificate
+abbrev pub certificate_of : ℕ → List Step → Certificate
 certificate_of first steps = record {
   problem = record {
     names = [];
@@ -205,11 +209,11 @@ certificate_of first steps = record {
   derivations = map (step_of no_statement) steps;
 }
 
-module _ {S : Type 0} (first : ℕ) (steps : List (Step S)) where
+module _ (first : ℕ) (steps : List Step) where
   pub first_of : length (certificate_of first steps).problem.constraints ≡ first
   first_of = length-replicate first (record { name = []; item = record { row = empty; sense = equal; bound = zero_ℚ } })
 
-  pub peak_of : (view : S → Named Constraint) (c : Certificate) → StandFor steps view first c → peak (certificate_of first steps) ≡ peak c
+  pub peak_of : (view : Statement → Named Constraint) (c : Certificate) → AreDerivationsOf c first (map (step_of view) steps) → peak (certificate_of first steps) ≡ peak c
   peak_of view c stand = peak_alike (certificate_of first steps) c (record {
     given = first_of ∙ sym stand.first_is;
     reasons = map_alike (step_of no_statement) (step_of view) (λ (x : Derivation). Some x.reason) (λ s. refl) steps ∙ ap (map (λ (x : Derivation). Some x.reason)) stand.those;

@@ -4,7 +4,8 @@ use Rattle.std.proofs.Common.{IfSome, Ok, Err, arith, refl, sym, ap, ◌∙◌, 
 use Rattle.std.specs.Prelude.{MatchOption}
 use Rattle.std.proofs.lemmas.List.{length-map}
 use Rattle.vipr_spec.specs.Constraint.{Profile, Constraint}
-use Rattle.vipr_spec.specs.Certificate.{Named, Problem, Certificate, IsGoal, NeedsGoal, count, peak}
+use Rattle.vipr_spec.specs.Certificate.{Named, Problem, Derivation, Certificate, IsGoal, NeedsGoal}
+use Rattle.vipr_spec.specs.Certificate.{count, peak}
 use Rattle.vipr_spec.specs.Grammar.{SpellsOnly}
 use Rattle.vipr_spec.specs.Reading.{most_count}
 use Rattle.vipr_spec.specs.Tightened.{tightened_certificate}
@@ -25,11 +26,11 @@ use Rattle.vipr_tighten.specs.declared.proof_reader.KeptProof.{KeptProof}
 use Rattle.vipr_tighten.specs.declared.outcome.Outcome.TheVariants.{Tightened}
 use Rattle.vipr_tighten.specs.declared.outcome.TightenFault.TheVariants.{Write}
 use Rattle.vipr_tighten.specs.Keeping.{IsKeptOf}
-use Rattle.vipr_tighten.specs.Passes.{StepsNameEarlier, StandFor}
+use Rattle.vipr_tighten.specs.Passes.{AreDerivationsOf, CanTighten}
 use Rattle.vipr_tighten.specs.Tightens.{TightensText, kind_of}
 use Rattle.vipr_tighten.proofs.KeptTexts.{with_texts, texts_back, texts_count, texts_tightened}
-use Rattle.vipr_tighten.proofs.KeptTexts.{texts_tightened_count, texts_peak, steps_earlier}
-use Rattle.vipr_tighten.proofs.KeptTexts.{stand_count}
+use Rattle.vipr_tighten.proofs.KeptTexts.{texts_tightened_count, texts_peak}
+use Rattle.vipr_tighten.proofs.Renumbering.{count_of}
 use Rattle.vipr_tighten.proofs.Outcomes.{fewer_kept, written_whole, written_part}
 
 goal_before : (P : Profile) (c : Certificate) (goal : Option ℕ)
@@ -56,11 +57,14 @@ module _ (P : Profile) (F : Form) (c : Certificate) (k : KeptProof) (is : IsKept
   first_is : length c.problem.constraints ≡ first
   first_is = ap (λ (q : Problem). length q.constraints) is.steps.problem ∙ is_first
 
-  stand : StandFor k.steps.items (statement_in k.statements) first texts
+  abbrev all_steps : List Derivation
+  all_steps = map (step_of (statement_in k.statements)) k.steps.items
+
+  stand : AreDerivationsOf texts first all_steps
   stand = record { first_is = first_is; those = is.steps.those }
 
   counted : count c ≡ first + length k.steps.items
-  counted = sym (texts_count k.statements.form k.statements.objective c) ∙ stand_count (statement_in k.statements) texts first k.steps.items stand
+  counted = sym (texts_count k.statements.form k.statements.objective c) ∙ count_of texts first all_steps stand ∙ ap (λ n. first + n) (length-map k.steps.items (step_of (statement_in k.statements)))
 
   pub few_steps : first + length k.steps.items ≤ most_count
   few_steps =
@@ -68,19 +72,19 @@ module _ (P : Profile) (F : Form) (c : Certificate) (k : KeptProof) (is : IsKept
       let few = is.steps.writes.shape.few_derivations in
       omega arith
 
-  pub earlier_steps : StepsNameEarlier first k.steps.items
-  earlier_steps = steps_earlier (statement_in k.statements) texts first k.steps.items (texts_back k.statements.form k.statements.objective c (back_of_proof P c is.proof)) stand
-
-  pub goal_among : IfSome k.report.goal (λ g. g < first + length k.steps.items)
-  goal_among = below k.report.goal (count c) (first + length k.steps.items) counted (goal_before P c k.report.goal is.reports.goal)
+  can : CanTighten texts k.report.goal
+  can = record {
+    back = texts_back k.statements.form k.statements.objective c (back_of_proof P c is.proof);
+    named = below k.report.goal (count c) (count texts) (sym (texts_count k.statements.form k.statements.objective c)) (goal_before P c k.report.goal is.reports.goal);
+  }
 
   -- these steps are kept of it for the goal
-  module _ (kept : List (Step Statement)) (all : (view : Statement → Named Constraint) (d : Certificate) → StandFor k.steps.items view first d → map (step_of view) kept ≡ (tightened_certificate d k.report.goal).derivations) where
+  module _ (kept : List Step) (all : (view : Statement → Named Constraint) (d : Certificate) → AreDerivationsOf d first (map (step_of view) k.steps.items) → CanTighten d k.report.goal → map (step_of view) kept ≡ (tightened_certificate d k.report.goal).derivations) where
     abbrev tightened : Certificate
     tightened = tightened_certificate c k.report.goal
 
-    tight_stand : StandFor kept (statement_in k.statements) first (tightened_certificate texts k.report.goal)
-    tight_stand = record { first_is = first_is; those = all (statement_in k.statements) texts stand }
+    tight_stand : AreDerivationsOf (tightened_certificate texts k.report.goal) first (map (step_of (statement_in k.statements)) kept)
+    tight_stand = record { first_is = first_is; those = all (statement_in k.statements) texts stand can }
 
     pub tight_steps : AreStepsOf tightened k.problem k.solutions.bytes.items k.statements kept
     tight_steps = record {
@@ -93,7 +97,7 @@ module _ (P : Profile) (F : Form) (c : Certificate) (k : KeptProof) (is : IsKept
     }
 
     tight_counted : count tightened ≡ first + length kept
-    tight_counted = sym (texts_tightened_count k.statements.form k.statements.objective c k.report.goal) ∙ stand_count (statement_in k.statements) (tightened_certificate texts k.report.goal) first kept tight_stand
+    tight_counted = sym (texts_tightened_count k.statements.form k.statements.objective c k.report.goal) ∙ count_of (tightened_certificate texts k.report.goal) first (map (step_of (statement_in k.statements)) kept) tight_stand ∙ ap (λ n. first + n) (length-map kept (step_of (statement_in k.statements)))
 
     tight_size : length kept ≡ length tightened.derivations
     tight_size =
@@ -115,7 +119,7 @@ module _ (P : Profile) (F : Form) (c : Certificate) (k : KeptProof) (is : IsKept
         omega arith
 
     module _ (spells : (G : Form) → SpellsOnly (text_in G tightened) tightened) (old new : Option Output) where
-      pub tightens_whole : (n after : ℕ) → n ≡ length kept → ((view : Statement → Named Constraint) (d : Certificate) → StandFor kept view first d → after ≡ peak d)
+      pub tightens_whole : (n after : ℕ) → n ≡ length kept → ((view : Statement → Named Constraint) (d : Certificate) → AreDerivationsOf d first (map (step_of view) kept) → after ≡ peak d)
           → IfSome old (λ o. Wrote o new (text_in k.statements.form tightened) (Ok tt)) → TightensText P F (kind_of c) old new (Ok (Tightened n (k.report.derived - n) k.report.peak after))
       tightens_whole n after e is_peak w =
           let few = tight_fewer in

@@ -12,7 +12,6 @@ use Rattle.vipr_spec.specs.Tightened.{kept_derivations, tightened_certificate}
 use Rattle.vipr_write.specs.Steps.{as_text}
 use Rattle.vipr_write.specs.declared.form.Form.{Form}
 use Rattle.vipr_tighten.proofs.Alike.{AreAlike, map_kept, back_alike, peak_alike}
-pub use Rattle.vipr_tighten.proofs.Renumbering.{steps_earlier, stand_count}
 
 abbrev pub with_texts : Form → Row → Certificate → Certificate
 with_texts form objective c =

@@ -9,14 +9,11 @@ use Rattle.std.proofs.lemmas.List.{length-map, length-replicate}
 use Rattle.std.proofs.lemmas.List.Folds.{list_any_more}
 use Rattle.std.specs.FinMap.{empty}
 use Rattle.vipr_spec.specs.Fraction.{ℚ, zero_ℚ}
-use Rattle.vipr_spec.specs.Constraint.{Constraint, equal}
+use Rattle.vipr_spec.specs.Constraint.{equal}
 use Rattle.vipr_spec.specs.Reading.{is_nonzero}
-use Rattle.vipr_spec.specs.Certificate.{Named, asm, Derivation}
+use Rattle.vipr_spec.specs.Certificate.{asm, Derivation}
 use Rattle.vipr_spec.specs.Tightened.{refers_to, is_the_goal, is_marked}
 use Rattle.vipr_spec.proofs.Laws.{marked_down}
-use Rattle.vipr_write.specs.StepReasons.{kept_reason_of}
-use Rattle.vipr_write.specs.Steps.{step_of}
-use Rattle.vipr_write.specs.declared.statements.Step.{Step}
 use Rattle.vipr_tighten.specs.Passes.{has_mark, MarksAlso, AreMarks}
 
 -- ---- tests, one after the other
@@ -97,74 +94,65 @@ module _ (goal : Option ℕ) (first : ℕ) (ds : List Derivation) where
       let same : first + 0 ≡ first = omega arith in
       record { size = m.size; each = λ k h. m.each k h ∙ ap (λ n. is_marked goal n ds (first + k)) same }
 
--- ---- of steps
-
--- a reading that says nothing
-abbrev pub no_statement : {S : Type 0} → S → Named Constraint
-no_statement s = record { name = []; item = record { row = empty; sense = equal; bound = zero_ℚ } }
+-- ---- as they are read
 
 -- at the start, with no mark but the goal's
-module _ {S : Type 0} (view : S → Named Constraint) (goal : Option ℕ) (first : ℕ) (ss : List (Step S)) (clear : List Bool) (is : clear ≡ replicate (length ss) false) where
-  count : length (map (step_of view) ss) ≡ length ss
-  count = length-map ss (step_of view)
+module _ {D : Type 0} (derived : D → Derivation) (goal : Option ℕ) (first : ℕ) (xs : List D) (clear : List Bool) (is : clear ≡ replicate (length xs) false) where
+  count : length (map derived xs) ≡ length xs
+  count = length-map xs derived
 
-  size : length clear ≡ length ss
-  size = ap length is ∙ length-replicate (length ss) false
+  size : length clear ≡ length xs
+  size = ap length is ∙ length-replicate (length xs) false
 
-  unmarked : (k : ℕ) → k < length ss → has_mark clear k ≡ false
-  unmarked k h = ap (λ l. has_mark l k) is ∙ get_or-replicate (length ss) k false false h
+  unmarked : (k : ℕ) → k < length xs → has_mark clear k ≡ false
+  unmarked k h = ap (λ l. has_mark l k) is ∙ get_or-replicate (length xs) k false false h
 
-  from_end : (marks : List Bool) → length marks ≡ length clear → ((k : ℕ) → k < length ss → has_mark marks k ≡ is_the_goal goal (first + k)) → AreMarksFrom goal first (map (step_of view) ss) (length ss) marks
+  from_end : (marks : List Bool) → length marks ≡ length clear → ((k : ℕ) → k < length xs → has_mark marks k ≡ is_the_goal goal (first + k)) → AreMarksFrom goal first (map derived xs) (length xs) marks
   from_end marks same each =
       let c = count in let s = size in
-      subst (λ n. AreMarksFrom goal first (map (step_of view) ss) n marks) count
-      (marks_begin goal first (map (step_of view) ss) marks (omega arith) (λ k h. each k (omega arith)))
+      subst (λ n. AreMarksFrom goal first (map derived xs) n marks) count
+      (marks_begin goal first (map derived xs) marks (omega arith) (λ k h. each k (omega arith)))
 
-  pub begin_none : goal ≡ None → AreMarksFrom goal first (map (step_of view) ss) (length ss) clear
+  pub begin_none : goal ≡ None → AreMarksFrom goal first (map derived xs) (length xs) clear
   begin_none none = from_end clear refl (λ k h. unmarked k h ∙ ap (λ g. is_the_goal g (first + k)) (sym none))
 
-  pub begin_goal : (index : ℕ) → goal ≡ Some index → (marks : List Bool) → length marks ≡ length clear → MarksAlso first (λ i. nat_eq i index) clear marks → AreMarksFrom goal first (map (step_of view) ss) (length ss) marks
+  pub begin_goal : (index : ℕ) → goal ≡ Some index → (marks : List Bool) → length marks ≡ length clear → MarksAlso first (λ i. nat_eq i index) clear marks → AreMarksFrom goal first (map derived xs) (length xs) marks
   begin_goal index some marks same also =
       from_end marks same (λ k h. let s = size in also k (omega arith) ∙ ap (λ b. b || nat_eq (first + k) index) (unmarked k h) ∙ ap (λ g. is_the_goal g (first + k)) (sym some))
 
-step_seen : {S : Type 0} (view : S → Named Constraint) (ss : List (Step S)) (j : ℕ) (s : Step S)
-    → j < length ss → s ≡ get_or ss j s
-    → slice_index_or (map (step_of view) ss) j (step_of view s) ≡ step_of view s
-step_seen view ss j s h is = get_or-map (step_of view) ss j s (step_of view s) h ∙ ap (step_of view) (sym is)
+module _ {D : Type 0} (derived : D → Derivation) (goal : Option ℕ) (first : ℕ) (xs : List D) (j : ℕ) (h : j < length xs) (marks : List Bool) (so_far : AreMarksFrom goal first (map derived xs) (j + 1) marks) where
+  inside : j < length (map derived xs)
+  inside = let s = length-map xs derived in omega arith
 
-module _ {S : Type 0} (view : S → Named Constraint) (goal : Option ℕ) (first : ℕ) (ss : List (Step S)) (j : ℕ) (h : j < length ss) (marks : List Bool) (so_far : AreMarksFrom goal first (map (step_of view) ss) (j + 1) marks) where
-  inside : j < length (map (step_of view) ss)
-  inside = let s = length-map ss (step_of view) in omega arith
+  pub next_marked : (x : D) → x ≡ get_or xs j x → (new : List Bool) → length new ≡ length marks → has_mark marks j ≡ true → MarksAlso first (refers_to (derived x).reason) marks new → AreMarksFrom goal first (map derived xs) j new
+  next_marked x is new size marked also =
+      marks_more goal first (map derived xs) j (derived x) inside marks so_far new size marked
+      (subst (λ (d : Derivation). MarksAlso first (refers_to d.reason) marks new) (sym (get_or-map derived xs j x (derived x) h ∙ ap derived (sym is))) also)
 
-  pub next_marked : (s : Step S) → s ≡ get_or ss j s → (new : List Bool) → length new ≡ length marks → has_mark marks j ≡ true → MarksAlso first (refers_to (kept_reason_of s.reason)) marks new → AreMarksFrom goal first (map (step_of view) ss) j new
-  next_marked s is new size marked also =
-      marks_more goal first (map (step_of view) ss) j (step_of view s) inside marks so_far new size marked
-      (subst (λ (x : Derivation). MarksAlso first (refers_to x.reason) marks new) (sym (step_seen view ss j s h is)) also)
-
-  pub next_unmarked : has_mark marks j ≡ false → AreMarksFrom goal first (map (step_of view) ss) j marks
-  next_unmarked unmarked = marks_stay goal first (map (step_of view) ss) j none inside marks so_far unmarked
+  pub next_unmarked : has_mark marks j ≡ false → AreMarksFrom goal first (map derived xs) j marks
+  next_unmarked unmarked = marks_stay goal first (map derived xs) j none inside marks so_far unmarked
     where
       none : Derivation
       none = record { name = []; stated = record { row = empty; sense = equal; bound = zero_ℚ }; reason = asm; last = None }
 
 -- the marks so far, as those behind the place before i
-pub record Turn {S : Type 0} (view : S → Named Constraint) (goal : Option ℕ) (first : ℕ)
-    (ss : List (Step S)) (i : ℕ) (marks : List Bool) : Type 0 where
-  pub within : i - 1 < length ss
+pub record Turn {D : Type 0} (derived : D → Derivation) (goal : Option ℕ) (first : ℕ)
+    (xs : List D) (i : ℕ) (marks : List Bool) : Type 0 where
+  pub within : i - 1 < length xs
   pub marked : i - 1 < length marks
-  pub so_far : AreMarksFrom goal first (map (step_of view) ss) ((i - 1) + 1) marks
+  pub so_far : AreMarksFrom goal first (map derived xs) ((i - 1) + 1) marks
 
-pub this_turn : {S : Type 0} (view : S → Named Constraint) (goal : Option ℕ) (first : ℕ)
-    (ss : List (Step S)) (i : ℕ) (marks : List Bool) → i ≤ length ss → 0 < i
-    → AreMarksFrom goal first (map (step_of view) ss) i marks → Turn view goal first ss i marks
-this_turn view goal first ss i marks a b m =
-    let t : length (map (step_of view) ss) ≡ length ss = length-map ss (step_of view) in
-    let size : length marks ≡ length (map (step_of view) ss) = m.size in
+pub this_turn : {D : Type 0} (derived : D → Derivation) (goal : Option ℕ) (first : ℕ)
+    (xs : List D) (i : ℕ) (marks : List Bool) → i ≤ length xs → 0 < i
+    → AreMarksFrom goal first (map derived xs) i marks → Turn derived goal first xs i marks
+this_turn derived goal first xs i marks a b m =
+    let t : length (map derived xs) ≡ length xs = length-map xs derived in
+    let size : length marks ≡ length (map derived xs) = m.size in
     let step : i ≡ (i - 1) + 1 = omega arith in
     record {
       within = omega arith;
       marked = omega arith;
-      so_far = subst (λ n. AreMarksFrom goal first (map (step_of view) ss) n marks) step m;
+      so_far = subst (λ n. AreMarksFrom goal first (map derived xs) n marks) step m;
     }
 
 -- what was read there

@@ -1,17 +1,13 @@
 -- A list whose element at a place is moved behind its first `kept`
 use Rattle.std.proofs.Common.{◌≡◌, ℕ, ◌+◌, ◌-◌, ◌<◌, ◌≤◌, List, [], ◌∷◌, ◌++◌, take, drop, map}
-use Rattle.std.proofs.Common.{length, get_or, None, arith, refl, sym, ◌∙◌, ap, subst, length-append}
+use Rattle.std.proofs.Common.{length, get_or, None, arith, refl, sym, ◌∙◌, ap, ap₂, length-append}
 use Rattle.std.proofs.Math.ListN.{set, length-set}
 use Rattle.std.proofs.Math.Seq.{get_or-append_right, take-append-add}
 use Rattle.std.proofs.lemmas.List.{get_or-take, get_or-drop, get_or-set_other, get_or_read_under}
-use Rattle.std.proofs.lemmas.List.{length-drop, length-take-le, same_lists}
+use Rattle.std.proofs.lemmas.List.{length-drop, length-take-le, map_push, same_lists}
 use Rattle.std.specs.List.{SwappedAt}
-use Rattle.vipr_spec.specs.Constraint.{Constraint}
-use Rattle.vipr_spec.specs.Certificate.{Named}
+use Rattle.vipr_spec.specs.Certificate.{Derivation}
 use Rattle.vipr_spec.specs.Tightened.{refers_to, referred_by, with_new_indices}
-use Rattle.vipr_write.specs.StepReasons.{kept_reason_of}
-use Rattle.vipr_write.specs.Steps.{step_of}
-use Rattle.vipr_write.specs.declared.statements.Step.{Step}
 use Rattle.vipr_tighten.specs.Passes.{index_by, TakesOver}
 
 with_first : {A : Type 0} (moved : A) (l : List A) → 0 < length l → set l 0 moved ≡ moved ∷ drop 1 l
@@ -65,24 +61,20 @@ module _ {A : Type 0} (old now : List A) (kept place : ℕ) (behind : kept ≤ p
         ∙ swapped.2 (place + 1 + k) d (omega arith) (omega arith)
         ∙ sym (get_or-drop (place + 1) old k d))
 
--- what is written of a step that is taken over
-pub accepted_over : {S : Type 0} (view : S → Named Constraint) (first : ℕ) (table : List ℕ)
-    (old now : List (Step S)) (kept place : ℕ) → kept ≤ place → place < length old
-    → length now ≡ length old → SwappedAt old now kept place → (was moved : Step S)
-    → was ≡ get_or (drop kept now) 0 was → step_of view moved
-    ≡ record (with_new_indices (index_by first table) (step_of view was)) { last = None }
-    → (changed : List (Step S)) → length changed ≡ kept → map (step_of view) changed ≡ referred_by
-    (refers_to (kept_reason_of moved.reason)) (first + kept) first (map (step_of view) (take kept now))
-    → TakesOver view first table kept place old (changed ++ set (drop kept now) 0 moved)
-accepted_over {S} view first table old now kept place behind there size swapped was moved is_was d changed as_long r = record {
-  size = after_size old now kept place behind there size swapped changed moved as_long;
-  left = after_left old now kept place behind there size swapped changed moved as_long;
-  moved_item = λ x e.
-      let same : was ≡ x = found old now kept place behind there size swapped was is_was ∙ sym (get_or_read_under old place (length old) x was e there refl) in (
-        changed,
-        moved,
-        after_front old now kept place behind there size swapped changed moved as_long,
-        subst (λ (y : Step S). step_of view moved ≡ record (with_new_indices (index_by first table) (step_of view y)) { last = None }) same d,
-        subst (λ l. map (step_of view) changed ≡ referred_by (refers_to (kept_reason_of moved.reason)) (first + kept) first (map (step_of view) l)) (front_same old now kept place behind there size swapped) r,
-      );
-}
+-- what is kept then
+pub taken_over : {D : Type 0} (derived : D → Derivation) (first : ℕ) (table : List ℕ)
+    (old now : List D) (kept place : ℕ) → kept ≤ place → place < length old
+    → length now ≡ length old → SwappedAt old now kept place → (was moved : D)
+    → was ≡ get_or (drop kept now) 0 was → derived moved
+    ≡ record (with_new_indices (index_by first table) (derived was)) { last = None }
+    → (changed : List D) → length changed ≡ kept → map derived changed ≡ referred_by
+    (refers_to (derived moved).reason) (first + kept) first (map derived (take kept now))
+    → (x : D) → x ≡ get_or old place x
+    → TakesOver (with_new_indices (index_by first table) (derived x)) (first + kept) first
+    (map derived (take kept old)) (map derived (take (kept + 1) (changed ++ set (drop kept now) 0 moved)))
+taken_over derived first table old now kept place behind there size swapped was moved is_was d changed as_long r x e =
+    let same : was ≡ x = found old now kept place behind there size swapped was is_was ∙ sym (get_or_read_under old place (length old) x was e there refl) in
+    let is : derived moved ≡ record (with_new_indices (index_by first table) (derived x)) { last = None } =
+    d ∙ ap (λ y. record (with_new_indices (index_by first table) (derived y)) { last = None }) same in
+    ap (map derived) (after_front old now kept place behind there size swapped changed moved as_long) ∙ map_push derived changed moved
+    ∙ ap₂ (λ l y. l ++ y ∷ []) (r ∙ ap₂ (λ (y : Derivation) l. referred_by (refers_to y.reason) (first + kept) first (map derived l)) is (front_same old now kept place behind there size swapped)) is

@@ -9,12 +9,9 @@ use Rattle.std.proofs.lemmas.Bool.{ne_eqb}
 use Rattle.std.proofs.lemmas.List.Folds.{list_any_more}
 use Rattle.std.proofs.lemmas.List.{length-map}
 use Rattle.vipr_spec.specs.Fraction.{ℚ}
-use Rattle.vipr_spec.specs.Constraint.{Constraint}
 use Rattle.vipr_spec.specs.Reading.{is_nonzero}
-use Rattle.vipr_spec.specs.Certificate.{Named, Derivation}
+use Rattle.vipr_spec.specs.Certificate.{Derivation}
 use Rattle.vipr_spec.specs.Tightened.{referred_by}
-use Rattle.vipr_write.specs.Steps.{step_of}
-use Rattle.vipr_write.specs.declared.statements.Step.{Step}
 
 -- ---- tests
 
@@ -42,49 +39,49 @@ referred_none p last k (d ∷ ds) none =
 
 -- ---- one index
 
-pub referred_at : {S : Type 0} (view : S → Named Constraint) (last k : ℕ) (ss : List (Step S))
-    (place index : ℕ) (x : Step S) → index ≡ k + place → place < length ss → x ≡ get_or ss place x
-    → map (step_of view) (set ss place (record x { last = Some last }))
-    ≡ referred_by (λ i. nat_eq i index) last k (map (step_of view) ss)
-referred_at view last k [] place index x e h is = absurd (omega arith)
-referred_at {S} view last k (s ∷ ss) zero index x e h is =
-    ap₂ (λ o l. record (step_of view x) { last = o } ∷ l)
-    (ap (λ b. cond b (Some last) s.last) (sym (eq-eqb k index (omega arith))))
-    (sym (referred_none (λ i. nat_eq i index) last (suc k) (map (step_of view) ss) (λ i a b. ne_eqb i index (λ same. omega arith))))
-    ∙ ap (λ (y : Step S). record (step_of view y) { last = cond (nat_eq k index) (Some last) s.last } ∷ referred_by (λ i. nat_eq i index) last (suc k) (map (step_of view) ss)) is
-referred_at view last k (s ∷ ss) (suc place) index x e h is =
-    ap₂ (λ o l. record (step_of view s) { last = o } ∷ l)
-    (ap (λ b. cond b (Some last) s.last) (sym (ne_eqb k index (λ same. omega arith))))
-    (referred_at view last (suc k) ss place index x (omega arith) (omega arith) is)
+pub referred_at : {D : Type 0} (derived : D → Derivation) (last k : ℕ) (xs : List D)
+    (place index : ℕ) (x new : D) → index ≡ k + place → place < length xs → x ≡ get_or xs place x
+    → derived new ≡ record (derived x) { last = Some last }
+    → map derived (set xs place new)
+    ≡ referred_by (λ i. nat_eq i index) last k (map derived xs)
+referred_at derived last k [] place index x new e h is set_is = absurd (omega arith)
+referred_at derived last k (y ∷ xs) zero index x new e h is set_is =
+    ap₂ (λ d l. d ∷ l)
+    (set_is ∙ ap (λ z. record (derived z) { last = Some last }) is ∙ ap (λ b. record (derived y) { last = cond b (Some last) (derived y).last }) (sym (eq-eqb k index (omega arith))))
+    (sym (referred_none (λ i. nat_eq i index) last (suc k) (map derived xs) (λ i a b. ne_eqb i index (λ same. omega arith))))
+referred_at derived last k (y ∷ xs) (suc place) index x new e h is set_is =
+    ap₂ (λ o l. record (derived y) { last = o } ∷ l)
+    (ap (λ b. cond b (Some last) (derived y).last) (sym (ne_eqb k index (λ same. omega arith))))
+    (referred_at derived last (suc k) xs place index x new (omega arith) (omega arith) is set_is)
 
 -- before the first one, and past the last one
-pub referred_outside : {S : Type 0} (view : S → Named Constraint) (last k : ℕ) (ss : List (Step S))
-    (index : ℕ) → ((i : ℕ) → k ≤ i → i < k + length ss → ¬ (i ≡ index))
-    → map (step_of view) ss ≡ referred_by (λ i. nat_eq i index) last k (map (step_of view) ss)
-referred_outside view last k ss index out =
-    let size : length (map (step_of view) ss) ≡ length ss = length-map ss (step_of view) in
-    sym (referred_none (λ i. nat_eq i index) last k (map (step_of view) ss) (λ i a b. ne_eqb i index (out i a (omega arith))))
+pub referred_outside : {D : Type 0} (derived : D → Derivation) (last k : ℕ) (xs : List D)
+    (index : ℕ) → ((i : ℕ) → k ≤ i → i < k + length xs → ¬ (i ≡ index))
+    → map derived xs ≡ referred_by (λ i. nat_eq i index) last k (map derived xs)
+referred_outside derived last k xs index out =
+    let size : length (map derived xs) ≡ length xs = length-map xs derived in
+    sym (referred_none (λ i. nat_eq i index) last k (map derived xs) (λ i a b. ne_eqb i index (out i a (omega arith))))
 
 -- ---- entry by entry
 
 abbrev names : ℕ → ℕ × ℚ → Bool
 names i e = nat_eq i e.0 && is_nonzero e
 
-module _ {S : Type 0} (view : S → Named Constraint) (last k : ℕ) (es : List (ℕ × ℚ)) (n : ℕ) (e : ℕ × ℚ) (h : n < length es) (is : e ≡ get_or es n e) (old mid : List (Step S))
-    (so_far : map (step_of view) mid ≡ referred_by (λ i. list_any (names i) (take n es)) last k (map (step_of view) old)) where
-  more : (new : List (Step S)) → map (step_of view) new ≡ referred_by (λ i. names i e) last k (map (step_of view) mid) → map (step_of view) new ≡ referred_by (λ i. list_any (names i) (take (n + 1) es)) last k (map (step_of view) old)
+module _ (last k : ℕ) (es : List (ℕ × ℚ)) (n : ℕ) (e : ℕ × ℚ) (h : n < length es) (is : e ≡ get_or es n e) (old mid : List Derivation)
+    (so_far : mid ≡ referred_by (λ i. list_any (names i) (take n es)) last k old) where
+  more : (new : List Derivation) → new ≡ referred_by (λ i. names i e) last k mid → new ≡ referred_by (λ i. list_any (names i) (take (n + 1) es)) last k old
   more new this =
       this ∙ ap (referred_by (λ i. names i e) last k) so_far
-      ∙ referred_both (λ i. list_any (names i) (take n es)) (λ i. names i e) last k (map (step_of view) old)
-      ∙ referred_alike (λ i. list_any (names i) (take n es) || names i e) (λ i. list_any (names i) (take (n + 1) es)) last k (map (step_of view) old)
+      ∙ referred_both (λ i. list_any (names i) (take n es)) (λ i. names i e) last k old
+      ∙ referred_alike (λ i. list_any (names i) (take n es) || names i e) (λ i. list_any (names i) (take (n + 1) es)) last k old
       (λ i. ap (λ x. list_any (names i) (take n es) || names i x) is ∙ sym (list_any_more (names i) es n e h))
 
-  pub entry_referred : (new : List (Step S)) → is_nonzero e ≡ true → map (step_of view) new ≡ referred_by (λ i. nat_eq i e.0) last k (map (step_of view) mid)
-      → map (step_of view) new ≡ referred_by (λ i. list_any (names i) (take (n + 1) es)) last k (map (step_of view) old)
-  entry_referred new t this = more new (this ∙ referred_alike (λ i. nat_eq i e.0) (λ i. names i e) last k (map (step_of view) mid) (λ i. sym (and-true (nat_eq i e.0)) ∙ ap (λ u. nat_eq i e.0 && u) (sym t)))
+  pub entry_referred : (new : List Derivation) → is_nonzero e ≡ true → new ≡ referred_by (λ i. nat_eq i e.0) last k mid
+      → new ≡ referred_by (λ i. list_any (names i) (take (n + 1) es)) last k old
+  entry_referred new t this = more new (this ∙ referred_alike (λ i. nat_eq i e.0) (λ i. names i e) last k mid (λ i. sym (and-true (nat_eq i e.0)) ∙ ap (λ u. nat_eq i e.0 && u) (sym t)))
 
-  pub entry_skipped : is_nonzero e ≡ false → map (step_of view) mid ≡ referred_by (λ i. list_any (names i) (take (n + 1) es)) last k (map (step_of view) old)
-  entry_skipped t = more mid (sym (referred_none (λ i. names i e) last k (map (step_of view) mid) (λ i a b. ap (λ u. nat_eq i e.0 && u) t ∙ and-false (nat_eq i e.0))))
+  pub entry_skipped : is_nonzero e ≡ false → mid ≡ referred_by (λ i. list_any (names i) (take (n + 1) es)) last k old
+  entry_skipped t = more mid (sym (referred_none (λ i. names i e) last k mid (λ i a b. ap (λ u. nat_eq i e.0 && u) t ∙ and-false (nat_eq i e.0))))
 
 pub none_referred : (last k : ℕ) (ds : List Derivation) → ds ≡ referred_by (λ i. false) last k ds
 none_referred last k ds = sym (referred_none (λ i. false) last k ds (λ i a b. refl))

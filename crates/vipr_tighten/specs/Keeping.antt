@@ -20,7 +20,6 @@ use Rattle.vipr_check.specs.declared.verdict.Report.{Report}
 use Rattle.vipr_check.specs.declared.no_proof.NoProof.{NoProof}
 use Rattle.vipr_check.specs.Reasons.{SaysWhy}
 use Rattle.vipr_write.specs.declared.form.Form.{Form}
-use Rattle.vipr_write.specs.declared.statements.Statement.{Statement}
 use Rattle.vipr_write.specs.declared.statements.Statements.{Statements}
 use Rattle.vipr_write.specs.declared.statements.Step.{Step}
 use Rattle.vipr_write.specs.Canonical.{solutions_lines, lines_text}
@@ -130,7 +129,7 @@ pub record IsFor (F : Form) (p : Problem) (t : Statements) : Type 0 where
   pub objective : t.objective ≡ p.objective
 
 -- these steps are kept of the derivations ds, which are over n variables and can be written
-pub record KeepsSteps (n : ℕ) (t : Statements) (steps : List (Step Statement))
+pub record KeepsSteps (n : ℕ) (t : Statements) (steps : List Step)
     (ds : List Derivation) : Type 0 where
   pub kept : AreKept t steps ds
   pub shapes : All (DerivationShape n) ds

@@ -1,34 +1,20 @@
--- Steps as derivations, of which the first has the index `first`, and the tables of the two
--- passes over them
+-- Derivations, of which the first has the index `first`, and the tables of the two passes over them
 use Rattle.std.specs.Prelude.{◌≡◌, ℕ, ◌+◌, ◌-◌, ◌<◌, ◌||◌, Bool, false, nat_lt, if◌then◌else◌}
-use Rattle.std.specs.Prelude.{List, [], ◌∷◌, ◌++◌, length, map, take, drop, slice_index_or}
+use Rattle.std.specs.Prelude.{List, [], ◌∷◌, ◌++◌, length, map, slice_index_or}
 use Rattle.std.specs.Prelude.{Option, Some, None, IfSome}
 use Rattle.vipr_spec.specs.Constraint.{Constraint}
-use Rattle.vipr_spec.specs.Certificate.{Named, Reason, Derivation, Certificate, NamesEarlier}
-use Rattle.vipr_spec.specs.Certificate.{count}
-use Rattle.vipr_spec.specs.Shape.{CanWrite}
+use Rattle.vipr_spec.specs.Certificate.{Named, Derivation, Certificate, NamesEarlier, count}
 use Rattle.vipr_spec.specs.Steps.{RefersBack}
-use Rattle.vipr_spec.specs.Tightened.{is_marked, refers_to, referred_by, with_new_indices}
-use Rattle.vipr_write.specs.StepReasons.{kept_reason_of}
-use Rattle.vipr_write.specs.Steps.{step_of}
-use Rattle.vipr_write.specs.declared.statements.Step.{Step}
+use Rattle.vipr_spec.specs.Tightened.{is_marked, refers_to, referred_by}
 
--- ---- the steps
+-- ---- the derivations
 
--- a constraint with its name, as a view of what is kept of a step gives it
+-- a constraint with its name, as a view of what is kept of a derivation gives it
 abbrev pub NamedConstraint : Type 0
 NamedConstraint = Named Constraint
 
--- The steps are the derivations of the certificate c, of which the first has the index `first`,
--- if `view` reads the names and the constraints that are kept of them.
-pub record StandFor {S : Type 0} (steps : List (Step S)) (view : S → NamedConstraint) (first : ℕ)
-    (c : Certificate) : Type 0 where
-  pub first_is : length c.problem.constraints ≡ first
-  pub those : map (step_of view) steps ≡ c.derivations
-
--- it can be written, refers back, and has the goal
+-- it refers back, and has the goal
 pub record CanTighten (c : Certificate) (goal : Option ℕ) : Type 0 where
-  pub writes : CanWrite c
   pub back : RefersBack c
   pub named : IfSome goal (λ g. g < count c)
 
@@ -37,14 +23,10 @@ pub record AreDerivationsOf (c : Certificate) (first : ℕ) (ds : List Derivatio
   pub first_is : length c.problem.constraints ≡ first
   pub those : ds ≡ c.derivations
 
--- the reasons; none past the end
-abbrev pub step_reason : {S : Type 0} → List (Step S) → ℕ → Option Reason
-step_reason steps k = slice_index_or (map (λ s. Some (kept_reason_of s.reason)) steps) k None
-
 -- each names earlier constraints alone
-abbrev pub StepsNameEarlier : {S : Type 0} → ℕ → List (Step S) → Type 0
-StepsNameEarlier first steps =
-    (k : ℕ) → k < length steps → NamesEarlier (first + k) (step_reason steps k)
+abbrev pub NameEarlier : ℕ → List Derivation → Type 0
+NameEarlier first ds = (k : ℕ)
+    → NamesEarlier (first + k) (slice_index_or (map (λ (d : Derivation). Some d.reason) ds) k None)
 
 -- ---- the tables
 
@@ -71,16 +53,7 @@ kept_by first marks i = nat_lt i first || has_mark marks (i - first)
 abbrev pub index_by : ℕ → List ℕ → ℕ → ℕ
 index_by first table i = if nat_lt i first then i else slice_index_or table (i - first) 0
 
--- What the place holds moves behind the first `kept`, under its new indices and with no
--- last reference yet, and is now the last one that refers to those before it. What follows the
--- place stays.
-pub record TakesOver {S : Type 0} (view : S → NamedConstraint) (first : ℕ) (table : List ℕ)
-    (kept place : ℕ) (old new : List (Step S)) : Type 0 where
-  pub size : length new ≡ length old
-  pub left : drop (place + 1) new ≡ drop (place + 1) old
-  pub moved_item : (x : Step S) → x ≡ slice_index_or old place x
-      → (changed : List (Step S)) × (moved : Step S) × (take (kept + 1) new ≡ changed ++ moved ∷ [])
-      × (step_of view moved
-      ≡ record (with_new_indices (index_by first table) (step_of view x)) { last = None })
-      × (map (step_of view) changed ≡ referred_by (refers_to (kept_reason_of moved.reason))
-      (first + kept) first (map (step_of view) (take kept old)))
+-- the derivation d is kept behind the others, as the last one that refers to them
+abbrev pub TakesOver : Derivation → ℕ → ℕ → List Derivation → List Derivation → Type 0
+TakesOver d index first old new =
+    new ≡ referred_by (refers_to d.reason) index first old ++ record d { last = None } ∷ []

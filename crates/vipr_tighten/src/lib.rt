@@ -7,6 +7,7 @@
 #![tactic(auto)]
 
 mod certificate;
+mod derived;
 mod display;
 mod needed;
 mod outcome;

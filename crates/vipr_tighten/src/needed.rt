@@ -1,26 +1,26 @@
 //! What the goal needs: one pass from the end.
-ghost use Rattle.std.specs.Prelude.{◌&&◌, nat_eq, map, IfOk};
+ghost use Rattle.std.specs.Prelude.{◌≡◌, ◌&&◌, nat_eq, length, map, IfOk};
 ghost use Rattle.std.specs.List.{list_any};
 ghost use Rattle.vipr_spec.specs.Reading.{is_nonzero};
-ghost use Rattle.vipr_spec.specs.Tightened.{include, refers_to};
-ghost use Rattle.vipr_cert.specs.Reasons.{references_of};
-ghost use Rattle.vipr_write.specs.Steps.{step_of};
-ghost use Rattle.vipr_write.specs.StepReasons.{kept_reason_of};
-ghost use Rattle.vipr_tighten.specs.Passes.{NamedConstraint, MarksAlso, AreMarks};
+ghost use Rattle.vipr_spec.specs.Tightened.{include};
+ghost use Rattle.vipr_write.specs.StepReasons.{kept_references_of};
+ghost use Rattle.vipr_tighten.specs.Passes.{MarksAlso, AreMarks};
 
+use crate::derived::Tightenable;
 use std::alloc::{AllocError, Global};
 use vipr_cert::References;
-use vipr_write::{Step, StepReason, StepReferences, SumEntry};
+use vipr_write::{StepReferences, SumEntry};
 
-/// For each step whether the goal needs it. The first step has the index `first`.
-pub(crate) fn needed<S>(
+/// For each derivation whether the goal needs it. The first one has the index `first`.
+pub(crate) fn needed<D: Tightenable>(
     alloc: Global,
-    steps: &[Step<S>],
+    steps: &[D],
     first: usize,
     goal: Option<u32>,
 ) -> Result<Vec<bool>, AllocError>
-    ensures { IfOk result (λ marks. (view : S → NamedConstraint)
-        → AreMarks goal first (map (step_of view) steps.now) marks.items) }
+    ensures size { IfOk result (λ marks. length marks.items ≡ length steps.now) }
+    ensures marks { IfOk result (λ marks. (view : D.View)
+        → AreMarks goal first (map (D.derived view) steps.now) marks.items) }
 {
     let mut marks = vec![in alloc; false; steps.len()]?;
     if let Some(index) = goal {
@@ -28,35 +28,26 @@ pub(crate) fn needed<S>(
     }
     for i in (0..steps.len()).rev() {
         if marks[i] {
-            mark_reason(&mut marks, first, &steps[i].reason);
+            mark_references(&mut marks, first, steps[i].references());
         }
     }
     Ok(marks)
 }
 
-// Marks what the reason of a step refers to.
-fn mark_reason(marks: &mut [bool], first: usize, reason: &StepReason)
-    ensures { MarksAlso first (refers_to (kept_reason_of reason.now)) marks.old marks.new }
-{
-    match reason.references() {
-        StepReferences::Whole(references) => mark_references(marks, first, references),
-        StepReferences::Short(entries) => mark_entries(marks, first, entries),
-    }
-}
-
 // Marks what a reason refers to that names these.
-fn mark_references(marks: &mut [bool], first: usize, references: References<'_>)
-    ensures { MarksAlso first (include (references_of references.entry)) marks.old marks.new }
+fn mark_references(marks: &mut [bool], first: usize, references: StepReferences<'_>)
+    ensures { MarksAlso first (include (kept_references_of references.entry)) marks.old marks.new }
 {
     match references {
-        References::Nothing => {}
-        References::Entries(entries) => mark_entries(marks, first, entries),
-        References::Branches { i1, l1, i2, l2 } => {
+        StepReferences::Whole(References::Nothing) => {}
+        StepReferences::Whole(References::Entries(entries)) => mark_entries(marks, first, entries),
+        StepReferences::Whole(References::Branches { i1, l1, i2, l2 }) => {
             mark(marks, first, i1);
             mark(marks, first, l1);
             mark(marks, first, i2);
             mark(marks, first, l2);
         }
+        StepReferences::Short(entries) => mark_entries(marks, first, entries),
     }
 }
 

@@ -1,21 +1,23 @@
 //! How many derived constraints have to be held.
 ghost use Rattle.std.specs.Prelude.{◌≡◌, ◌+◌, ◌<◌, ◌≤◌, ◌^◌, ℕ, cond, nat_eq, length, Some, IfOk};
-ghost use Rattle.std.specs.Prelude.{slice_index_or};
+ghost use Rattle.std.specs.Prelude.{map, slice_index_or};
 ghost use Rattle.vipr_spec.specs.Certificate.{Certificate as CertificateMeant, peak};
 ghost use Rattle.vipr_spec.specs.Reading.{most_count};
+ghost use Rattle.vipr_write.specs.Steps.{step_of};
 ghost use Rattle.vipr_write.specs.StepReasons.{kept_reason_of};
+ghost use Rattle.vipr_write.specs.declared.statements.Statement.{Statement as StatementMeant};
 ghost use Rattle.vipr_tighten.specs.Dropping.{dropped_after};
-ghost use Rattle.vipr_tighten.specs.Passes.{NamedConstraint, StandFor};
+ghost use Rattle.vipr_tighten.specs.Passes.{NamedConstraint, AreDerivationsOf};
 
 use std::alloc::{AllocError, Global};
 use vipr_write::Step;
 
 /// The largest number of derived constraints that have to be held at a time. The first step has
 /// the index `first`.
-pub(crate) fn peak<S>(alloc: Global, first: usize, steps: &[Step<S>]) -> Result<usize, AllocError>
+pub(crate) fn peak(alloc: Global, first: usize, steps: &[Step]) -> Result<usize, AllocError>
     requires { first + length steps.now ≤ most_count }
-    ensures { IfOk result (λ n. (view : S → NamedConstraint) (c : CertificateMeant)
-        → StandFor steps.now view first c → n ≡ peak c) }
+    ensures { IfOk result (λ n. (view : StatementMeant → NamedConstraint) (c : CertificateMeant)
+        → AreDerivationsOf c first (map (step_of view) steps.now) → n ≡ peak c) }
 {
     let mut dropped = vec![in alloc; 0u32; steps.len()]?;
     let mut held = 0;
@@ -31,7 +33,7 @@ pub(crate) fn peak<S>(alloc: Global, first: usize, steps: &[Step<S>]) -> Result<
 }
 
 // After the derivation of which index constraint `index` is dropped, none where it never is.
-fn dropped_after<S>(step: &Step<S>, index: usize) -> Option<usize>
+fn dropped_after(step: &Step, index: usize) -> Option<usize>
     requires { index < 2 ^ 32 }
     ensures { result ≡ dropped_after index (Some (kept_reason_of step.now.reason)) step.now.last }
 {

@@ -26,7 +26,7 @@ use vipr_cert::{Derivation, Problem};
 use vipr_check::{Checker, NoProof, Report, Table};
 use vipr_read::{CertReader, Derivations, Solutions};
 use vipr_rules::Profile;
-use vipr_write::{Form, Statement, Statements, Step, put_heading, put_solution};
+use vipr_write::{Form, Statements, Step, put_heading, put_solution};
 
 /// A proof. Its solutions are kept as text, and so are the names and the constraints of its
 /// derivations.
@@ -35,7 +35,7 @@ pub(crate) struct KeptProof {
     pub(crate) problem: Problem,
     pub(crate) solutions: Growing,
     pub(crate) statements: Statements,
-    pub(crate) steps: Vec<Step<Statement>>,
+    pub(crate) steps: Vec<Step>,
     pub(crate) report: Report,
 }
 
@@ -124,7 +124,7 @@ fn read_items<R: Source + Drop>(
     form: Form,
     mut solutions: Solutions<R>,
     listed: &mut Growing,
-    steps: &mut Vec<Step<Statement>>,
+    steps: &mut Vec<Step>,
 ) -> Result<(Statements, Report), NoProof>
     requires among { (P : ProfileMeant) × (p : ProblemMeant)
         × IsAmong P p [] checker.old solutions }
@@ -219,7 +219,7 @@ fn read_derived<R: Source>(
     statements: &mut Statements,
     derivations: &mut Derivations<R>,
     step: &mut Derivation,
-    steps: &mut Vec<Step<Statement>>,
+    steps: &mut Vec<Step>,
 ) -> Result<Report, NoProof>
     requires at { (P : ProfileMeant) × (p : ProblemMeant) × (ss : List (NamedMeant Row))
         × IsAt P (start p ss) checker.old derivations.old }

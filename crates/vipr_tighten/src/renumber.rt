@@ -1,37 +1,35 @@
 //! New indices and last references: one pass from the front.
-ghost use Rattle.std.specs.Prelude.{◌≡◌, ◌+◌, ◌<◌, ◌≤◌, ◌&&◌, nat_eq, OnOk, None, map};
-ghost use Rattle.std.specs.Prelude.{◌∷◌, [], length};
+ghost use Rattle.std.specs.Prelude.{◌≡◌, ◌+◌, ◌<◌, ◌≤◌, ◌&&◌, nat_eq, OnOk, map, ◌∷◌, [], length};
+ghost use Rattle.std.specs.Prelude.{take, drop, slice_index_or};
 ghost use Rattle.std.specs.List.{list_any};
 ghost use Rattle.vipr_spec.specs.Certificate.{lin};
 ghost use Rattle.vipr_spec.specs.Reading.{is_nonzero, most_count};
 ghost use Rattle.vipr_spec.specs.Tightened.{include, refers_to, renumbered_entries};
-ghost use Rattle.vipr_spec.specs.Tightened.{renumbered_reason, with_new_indices, kept_derivations};
-ghost use Rattle.vipr_spec.specs.Tightened.{referred_by};
+ghost use Rattle.vipr_spec.specs.Tightened.{renumbered_reason, with_new_indices};
+ghost use Rattle.vipr_spec.specs.Tightened.{kept_derivations, referred_by};
 ghost use Rattle.vipr_cert.specs.Items.{reason_of};
-ghost use Rattle.vipr_cert.specs.Reasons.{references_of};
-ghost use Rattle.vipr_write.specs.Steps.{step_of};
-ghost use Rattle.vipr_write.specs.StepReasons.{entry_of, kept_reason_of};
-ghost use Rattle.vipr_tighten.specs.Passes.{NamedConstraint, StepsNameEarlier};
-ghost use Rattle.vipr_tighten.specs.Passes.{kept_by, index_by, TakesOver};
+ghost use Rattle.vipr_write.specs.StepReasons.{entry_of, kept_reason_of, kept_references_of};
+ghost use Rattle.vipr_tighten.specs.Passes.{NameEarlier, kept_by, index_by, TakesOver};
 
+use crate::derived::Tightenable;
 use std::alloc::{AllocError, Global};
 use vipr_cert::{Reason, References};
-use vipr_write::{ShortEntry, Step, StepReason, StepReferences, SumEntry};
+use vipr_write::{ShortEntry, StepReason, StepReferences, SumEntry};
 
-/// Keeps the steps with a mark, in their order, under their new indices and with their last
-/// references. The first step has the index `first`.
-pub(crate) fn renumber<S: Drop>(
+/// Keeps the derivations with a mark, in their order, under their new indices and with their last
+/// references. The first one has the index `first`.
+pub(crate) fn renumber<D: Tightenable>(
     alloc: Global,
-    steps: &mut Vec<Step<S>>,
+    steps: &mut Vec<D>,
     marks: &[bool],
     first: u32,
 ) -> Result<(), AllocError>
     requires size { length marks.now ≡ length steps.old.items }
     requires few { first + length steps.old.items ≤ most_count }
-    requires earlier { StepsNameEarlier first steps.old.items }
-    ensures { OnOk result ((view : S → NamedConstraint)
-        → map (step_of view) steps.new.items
-        ≡ kept_derivations (kept_by first marks.now) first (map (step_of view) steps.old.items)) }
+    ensures { OnOk result ((view : D.View)
+        → NameEarlier first (map (D.derived view) steps.old.items)
+        → map (D.derived view) steps.new.items
+        ≡ kept_derivations (kept_by first marks.now) first (map (D.derived view) steps.old.items)) }
 {
     let mut table = Vec::with_capacity(alloc, steps.len())?;
     let mut kept = 0;
@@ -47,20 +45,24 @@ pub(crate) fn renumber<S: Drop>(
     Ok(())
 }
 
-// Takes the step at a place over, behind the first `kept`: under its new indices, and as the last
+// Takes the one at a place over, behind the first `kept`: under its new indices, and as the last
 // reference of those that it refers to.
-fn take_over<S>(steps: &mut [Step<S>], kept: usize, place: usize, first: u32, table: &[u32])
+fn take_over<D: Tightenable>(steps: &mut [D], kept: usize, place: usize, first: u32, table: &[u32])
     requires behind { kept ≤ place }
     requires there { place < length steps.old }
     requires few { first + kept ≤ most_count }
-    ensures { (view : S → NamedConstraint)
-        → TakesOver view first table.now kept place steps.old steps.new }
+    ensures left { drop (place + 1) steps.new ≡ drop (place + 1) steps.old }
+    ensures kept { (view : D.View) (x : D) → x ≡ slice_index_or steps.old place x
+        → TakesOver (with_new_indices (index_by first table.now) (D.derived view x)) (first + kept)
+        first (map (D.derived view) (take kept steps.old))
+        (map (D.derived view) (take (kept + 1) steps.new)) }
 {
     steps.swap(kept, place);
     let (front, back) = steps.split_at_mut(kept);
-    let moved_item = &mut back[0];
-    renumber_references(moved_item, first, table);
-    set_last(front, first, &moved_item.reason, first + kept as u32);
+    let moved = &mut back[0];
+    moved.renumber(first, table);
+    moved.set_last(None);
+    set_last_by(front, first, &*moved, first + kept as u32);
 }
 
 // The new index of a constraint. The table has those of the derivations; past them it is 0.
@@ -103,8 +105,8 @@ fn renumbered_one(entry: ShortEntry, first: u32, table: &[u32]) -> StepReason
     }
 }
 
-// Gives a reason the new indices.
-fn renumber_reason(reason: &mut Reason, first: u32, table: &[u32])
+/// Gives a reason the new indices.
+pub(crate) fn renumber_reason(reason: &mut Reason, first: u32, table: &[u32])
     ensures { reason_of reason.new
         ≡ renumbered_reason (index_by first table.now) (reason_of reason.old) }
 {
@@ -121,8 +123,8 @@ fn renumber_reason(reason: &mut Reason, first: u32, table: &[u32])
     }
 }
 
-// Gives the reason of a step the new indices.
-fn renumber_step_reason(reason: &mut StepReason, first: u32, table: &[u32])
+/// Gives the reason of a step the new indices.
+pub(crate) fn renumber_step_reason(reason: &mut StepReason, first: u32, table: &[u32])
     ensures { kept_reason_of reason.new
         ≡ renumbered_reason (index_by first table.now) (kept_reason_of reason.old) }
 {
@@ -135,53 +137,42 @@ fn renumber_step_reason(reason: &mut StepReason, first: u32, table: &[u32])
     }
 }
 
-// Gives a step the new indices, and takes its last reference away.
-fn renumber_references<S>(step: &mut Step<S>, first: u32, table: &[u32])
-    ensures { (view : S → NamedConstraint) → step_of view step.new
-        ≡ record (with_new_indices (index_by first table.now) (step_of view step.old)) {
-          last = None;
-        } }
+// Gives those that a later one refers to this last reference.
+fn set_last_by<D: Tightenable>(kept: &mut [D], first: u32, later: &D, last: u32)
+    ensures { (view : D.View) → map (D.derived view) kept.new
+        ≡ referred_by (refers_to (D.derived view later.now).reason) last first
+        (map (D.derived view) kept.old) }
 {
-    renumber_step_reason(&mut step.reason, first, table);
-    step.last = None;
+    set_lasts(kept, first, later.references(), last);
 }
 
-// Gives the steps that the reason of a later one refers to this last reference.
-fn set_last<S>(kept: &mut [Step<S>], first: u32, reason: &StepReason, last: u32)
-    ensures { (view : S → NamedConstraint) → map (step_of view) kept.new
-        ≡ referred_by (refers_to (kept_reason_of reason.now)) last first
-        (map (step_of view) kept.old) }
-{
-    match reason.references() {
-        StepReferences::Whole(references) => set_last_referred(kept, first, references, last),
-        StepReferences::Short(entries) => set_last_named(kept, first, entries, last),
-    }
-}
-
-// Gives the steps that a reason refers to that names these this last reference.
-fn set_last_referred<S>(kept: &mut [Step<S>], first: u32, references: References<'_>, last: u32)
-    ensures { (view : S → NamedConstraint) → map (step_of view) kept.new
-        ≡ referred_by (include (references_of references.entry)) last first
-        (map (step_of view) kept.old) }
+// Gives those that a later reason refers to that names these this last reference.
+fn set_lasts<D: Tightenable>(kept: &mut [D], first: u32, references: StepReferences<'_>, last: u32)
+    ensures { (view : D.View) → map (D.derived view) kept.new
+        ≡ referred_by (include (kept_references_of references.entry)) last first
+        (map (D.derived view) kept.old) }
 {
     match references {
-        References::Nothing => {}
-        References::Entries(entries) => set_last_named(kept, first, entries, last),
-        References::Branches { i1, l1, i2, l2 } => {
+        StepReferences::Whole(References::Nothing) => {}
+        StepReferences::Whole(References::Entries(entries)) => {
+            set_last_named(kept, first, entries, last);
+        }
+        StepReferences::Whole(References::Branches { i1, l1, i2, l2 }) => {
             set_last_at(kept, first, i1, last);
             set_last_at(kept, first, l1, last);
             set_last_at(kept, first, i2, last);
             set_last_at(kept, first, l2, last);
         }
+        StepReferences::Short(entries) => set_last_named(kept, first, entries, last),
     }
 }
 
-// Gives the steps that entries with a nonzero multiplier name this last reference.
-fn set_last_named<S, E: SumEntry>(kept: &mut [Step<S>], first: u32, entries: &[E], last: u32)
-    ensures { (view : S → NamedConstraint) → map (step_of view) kept.new
+// Gives those that entries with a nonzero multiplier name this last reference.
+fn set_last_named<D: Tightenable, E: SumEntry>(kept: &mut [D], first: u32, entries: &[E], last: u32)
+    ensures { (view : D.View) → map (D.derived view) kept.new
         ≡ referred_by
         (λ i. list_any (λ e. nat_eq i e.0 && is_nonzero e) (map E.pair entries.now)) last first
-        (map (step_of view) kept.old) }
+        (map (D.derived view) kept.old) }
 {
     for entry in entries {
         if !entry.is_zero() {
@@ -190,15 +181,15 @@ fn set_last_named<S, E: SumEntry>(kept: &mut [Step<S>], first: u32, entries: &[E
     }
 }
 
-// Gives the step of this index, if it is there, this last reference.
-fn set_last_at<S>(kept: &mut [Step<S>], first: u32, index: u32, last: u32)
-    ensures { (view : S → NamedConstraint) → map (step_of view) kept.new
-        ≡ referred_by (λ i. nat_eq i index) last first (map (step_of view) kept.old) }
+// Gives the one of this index, if it is there, this last reference.
+fn set_last_at<D: Tightenable>(kept: &mut [D], first: u32, index: u32, last: u32)
+    ensures { (view : D.View) → map (D.derived view) kept.new
+        ≡ referred_by (λ i. nat_eq i index) last first (map (D.derived view) kept.old) }
 {
     if first <= index {
         let place = (index - first) as usize;
         if place < kept.len() {
-            kept[place].last = Some(last);
+            kept[place].set_last(Some(last));
         }
     }
 }

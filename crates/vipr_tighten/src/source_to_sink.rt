@@ -12,7 +12,7 @@ ghost use Rattle.vipr_tighten.specs.Keeping.{IsKeptOf};
 ghost use Rattle.vipr_tighten.specs.Tightens.{Tightens, TightensAs, TightensIn, TightensText};
 ghost use Rattle.vipr_tighten.specs.Tightens.{CountsFailures, kind_of, unproved_answer};
 
-use crate::certificate::tighten_steps;
+use crate::certificate::tighten_derived;
 use crate::outcome::{Outcome, TightenFault};
 use crate::peak::peak;
 use crate::proof_reader::{KeptProof, read_proof};
@@ -126,7 +126,7 @@ fn write_tightened<W: Sink>(
     ensures failures { CountsFailures (W.failures sink.old) (W.failures sink.new) result }
 {
     let first = proof.problem.cons().len();
-    tighten_steps(alloc, &mut proof.steps, first as u32, proof.report.goal)?;
+    tighten_derived(alloc, &mut proof.steps, first as u32, proof.report.goal)?;
     let KeptProof {
         problem,
         solutions,

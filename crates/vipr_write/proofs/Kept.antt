@@ -129,23 +129,23 @@ module _ (t u : Statements) (more : List ℕ) (ends : u.ends ≡ t.ends ++ lengt
         ∙ ap (λ l. slice_range l (length t.text.bytes.items) (length l)) e
         ∙ part_new t.text.bytes.items more
 
-  steps_same : (steps : List (Step Statement)) → u.objective ≡ t.objective → u.spelled.items ≡ t.spelled.items
-      → All (λ (s : Step Statement). is_within t.ends t.text.bytes.items s.stated ≡ true) steps
+  steps_same : (steps : List Step) → u.objective ≡ t.objective → u.spelled.items ≡ t.spelled.items
+      → All (λ (s : Step). is_within t.ends t.text.bytes.items s.stated ≡ true) steps
       → (map (step_of (statement_in u)) steps ≡ map (step_of (statement_in t)) steps)
-      × All (λ (s : Step Statement). is_within u.ends u.text.bytes.items s.stated ≡ true) steps
-  steps_same [] o r a = (refl, All-nil (λ (s : Step Statement). is_within u.ends u.text.bytes.items s.stated ≡ true))
+      × All (λ (s : Step). is_within u.ends u.text.bytes.items s.stated ≡ true) steps
+  steps_same [] o r a = (refl, All-nil (λ (s : Step). is_within u.ends u.text.bytes.items s.stated ≡ true))
   steps_same (s ∷ steps) o r a =
-      let P = λ (x : Step Statement). is_within t.ends t.text.bytes.items x.stated ≡ true in
+      let P = λ (x : Step). is_within t.ends t.text.bytes.items x.stated ≡ true in
       let rest = steps_same steps o r (All-tail P s steps a) in
       let here = All-head P s steps a in
       let name : own_bytes u s.stated ++ row_bytes u.spelled.items s.stated ≡ own_bytes t s.stated ++ row_bytes t.spelled.items s.stated =
       ap₂ (λ x y. x ++ y) (own_same s.stated here) (ap (λ l. row_bytes l s.stated) r) in
       let one : step_of (statement_in u) s ≡ step_of (statement_in t) s =
       ap₂ (λ n q. let d : Derivation = record { name = n; stated = record { row = q; sense = equal; bound = zero_ℚ }; reason = kept_reason_of s.reason; last = s.last } in d) name o in
-      (ap₂ (λ x l. x ∷ l) one rest.0, All-cons (λ (x : Step Statement). is_within u.ends u.text.bytes.items x.stated ≡ true) s steps (within_more s.stated here) rest.1)
+      (ap₂ (λ x l. x ∷ l) one rest.0, All-cons (λ (x : Step). is_within u.ends u.text.bytes.items x.stated ≡ true) s steps (within_more s.stated here) rest.1)
 
-pub kept_more : (t u : Statements) (more : List ℕ) (s : Step Statement) (d : Derivation)
-    (steps : List (Step Statement)) (ds : List Derivation) → u.form ≡ t.form
+pub kept_more : (t u : Statements) (more : List ℕ) (s : Step) (d : Derivation)
+    (steps : List Step) (ds : List Derivation) → u.form ≡ t.form
     → u.objective ≡ t.objective → u.spelled.items ≡ t.spelled.items
     → u.text.bytes.items ≡ t.text.bytes.items ++ more
     → u.ends ≡ t.ends ++ length u.text.bytes.items ∷ []
@@ -156,7 +156,7 @@ pub kept_more : (t u : Statements) (more : List ℕ) (s : Step Statement) (d : D
     → AreKept t steps ds → AreKept u (steps ++ s ∷ []) (ds ++ d ∷ [])
 kept_more t u more s d steps ds f o r e ends index words reason last kept =
     let same = steps_same t u more ends e steps o r kept.within in
-    let P = λ (x : Step Statement). is_within u.ends u.text.bytes.items x.stated ≡ true in
+    let P = λ (x : Step). is_within u.ends u.text.bytes.items x.stated ≡ true in
     let name : own_bytes u s.stated ++ row_bytes u.spelled.items s.stated ≡ words_text (constraint_words_in u.form u.objective d.name d.stated) =
     ap₂ (λ x y. x ++ y) (last_own t u more ends e s.stated index kept.last) (ap (λ l. row_bytes l s.stated) r)
     ∙ words kept.row ∙ sym (ap₂ (λ g q. words_text (constraint_words_in g q d.name d.stated)) f o) in
@@ -219,14 +219,14 @@ first_of d xs ys a b e = ap (λ l. get_or l 0 d) e
 pub rest_of : (xs ys : List Derivation) (a b : Derivation) → a ∷ xs ≡ b ∷ ys → xs ≡ ys
 rest_of xs ys a b e = ap (drop 1) e
 
-pub line_is : (form : Form) (objective : Row) (t : Statements) (s : Step Statement) (d : Derivation)
+pub line_is : (form : Form) (objective : Row) (t : Statements) (s : Step) (d : Derivation)
     → step_of (statement_in t) s ≡ as_text form objective d
     → step_line t s ≡ line_text (derivation_words_in form objective d)
 line_is form objective t s d e =
     ap (λ (x : Derivation). x.name ++ (codes " {" ++ (words_after_spaces (reason_words x.reason) ++ (codes " }" ++ (32 ∷ last_word x.last ++ codes "\n"))))) e
     ∙ sym (derivation_parts_in form objective [] d ∙ tail (words_text (constraint_words_in form objective d.name d.stated)) (words_after_spaces (reason_words d.reason)) (last_word d.last))
 
-lines_are : (form : Form) (objective : Row) (t : Statements) (steps : List (Step Statement))
+lines_are : (form : Form) (objective : Row) (t : Statements) (steps : List Step)
     (ds : List Derivation) → map (step_of (statement_in t)) steps ≡ map (as_text form objective) ds
     → (length steps ≡ length ds)
     × (flat_map (step_line t) steps ≡ lines_text (map (derivation_words_in form objective) ds))
@@ -239,7 +239,7 @@ lines_are form objective t (s ∷ steps) (d ∷ ds) e =
     (ap suc others.0, ap₂ (λ x l. x ++ l) (line_is form objective t s d one) others.1)
 
 pub steps_are : (c : Certificate) (p : Problem) (ls : List ℕ) (t : Statements)
-    (steps : List (Step Statement)) → AreStepsOf c p ls t steps
+    (steps : List Step) → AreStepsOf c p ls t steps
     → (lines_text (problem_lines_in t.form p) ++ ls) ++ steps_section t steps ≡ text_in t.form c
 steps_are c p ls t steps of =
     let lines = lines_are t.form t.objective t steps c.derivations of.those in

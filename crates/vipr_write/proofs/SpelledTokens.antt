@@ -3,7 +3,6 @@ use Rattle.std.proofs.Common.{ℕ, ◌+◌, ◌≤◌, List, [], ◌∷◌, leng
 use Rattle.std.proofs.lemmas.List.Elements.{All-nil, All-cons, All-map}
 use Rattle.vipr_spec.specs.Tokens.{Token, text_tokens, IsRun, IsToken, AreSpread}
 use Rattle.vipr_spec.specs.Reading.{most_bytes}
-use Rattle.vipr_spec.specs.Grammar.{one}
 use Rattle.vipr_spec.proofs.Laws.{split_is}
 
 -- ---- the tokens of a text

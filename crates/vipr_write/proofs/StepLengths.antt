@@ -18,7 +18,6 @@ use Rattle.vipr_write.specs.Forms.{constraint_words_in, derivation_words_in, pro
 use Rattle.vipr_write.specs.Forms.{derivations_lines_in, text_in}
 use Rattle.vipr_write.specs.Weight.{weight}
 use Rattle.vipr_write.specs.declared.form.Form.{Form}
-use Rattle.vipr_write.specs.declared.statements.Statement.{Statement}
 use Rattle.vipr_write.specs.declared.statements.Statements.{Statements}
 use Rattle.vipr_write.specs.declared.statements.Step.{Step}
 use Rattle.vipr_write.specs.Steps.{step_of, as_text, own_bytes, row_bytes, statement_in, AreStepsOf}
@@ -37,7 +36,7 @@ reason_tokens form objective d a =
     let parts = all_parts IsToken (reason_words d.reason) (codes "}" ∷ last_word d.last ∷ []) (All-tail IsToken (codes "{") (reason_words d.reason ++ codes "}" ∷ last_word d.last ∷ []) end) in
     (parts.0, All-head IsToken (last_word d.last) [] (All-tail IsToken (codes "}") (last_word d.last ∷ []) parts.1))
 
-step_short : (t : Statements) (s : Step Statement) → All IsToken (reason_words (kept_reason_of s.reason))
+step_short : (t : Statements) (s : Step) → All IsToken (reason_words (kept_reason_of s.reason))
     → IsToken (last_word s.last) → length (step_line t s) ≤ 65536 * step_weight t s
 step_short t s reason last =
     let own = own_bytes t s.stated in
@@ -52,7 +51,7 @@ step_short t s reason last =
     let d = length-append word (codes "\n") in
     omega (arith, spaced, short, a, b, c, d)
 
-steps_short : (form : Form) (objective : Row) (t : Statements) (steps : List (Step Statement))
+steps_short : (form : Form) (objective : Row) (t : Statements) (steps : List Step)
     (ds : List Derivation) → map (step_of (statement_in t)) steps ≡ map (as_text form objective) ds
     → All IsToken (words_of (map (derivation_words_in form objective) ds))
     → length (flat_map (step_line t) steps) ≤ 65536 * sum_by (step_weight t) steps
@@ -69,7 +68,7 @@ steps_short form objective t (s ∷ steps) (d ∷ ds) e a =
     omega (arith, first, rest, length-append (step_line t s) (flat_map (step_line t) steps), sum_by-cons (step_weight t) s steps)
 
 pub text_countable : (c : Certificate) (p : Problem) (ls : List ℕ) (t : Statements)
-    (steps : List (Step Statement)) → AreStepsOf c p ls t steps
+    (steps : List Step) → AreStepsOf c p ls t steps
     → weight (problem_lines p) + 3 + length ls + sum_by (step_weight t) steps < 2 ^ 48
     → length (text_in t.form c) < 2 ^ 64
 text_countable c p ls t steps of few =
@@ -95,7 +94,7 @@ text_countable c p ls t steps of few =
     let p_text = ap (λ q. length (lines_text (problem_lines_in form q))) of.problem in
     omega (arith, few, h, p_short, p_fewer, p_same, head, whole, a, b, d, p_text)
   where
-    steps_count : (form : Form) (objective : Row) (t : Statements) (steps : List (Step Statement)) (ds : List Derivation) → map (step_of (statement_in t)) steps ≡ map (as_text form objective) ds → length ds ≡ length steps
+    steps_count : (form : Form) (objective : Row) (t : Statements) (steps : List Step) (ds : List Derivation) → map (step_of (statement_in t)) steps ≡ map (as_text form objective) ds → length ds ≡ length steps
     steps_count form objective t steps ds e = sym (sym (length-map steps (step_of (statement_in t))) ∙ ap length e ∙ length-map ds (as_text form objective))
 
     heading_short : (m n : ℕ) → All IsToken (heading (codes "DER") m) → m ≡ n → length (line_text (heading (codes "DER") n)) ≤ 65536 * 3

@@ -3,7 +3,7 @@ use Rattle.std.proofs.Common.{◌≡◌, ℕ, suc, ◌+◌, ◌*◌, ◌<◌, �
 use Rattle.std.proofs.Common.{length, get_or, arith, sym, ap, ap₂, ◌∙◌}
 use Rattle.std.specs.Ordering.{int_eq}
 use Rattle.std.specs.Fmt.{decimal}
-use Rattle.std.proofs.lemmas.List.{append-nil, get_or-map, length-map, map_push, take_more}
+use Rattle.std.proofs.lemmas.List.{append-nil, length-map, map_push, take_more}
 use Rattle.vipr_spec.specs.Fraction.{ℚ, over}
 use Rattle.vipr_spec.specs.Number.{number_text}
 use Rattle.vipr_spec.specs.Certificate.{by_entries}
@@ -29,16 +29,6 @@ zero_short e b t = t ∙ ap (λ n. int_eq n (pos 0)) (sym (parts_of e.numer e.de
 -- its text is that of its parts
 pub short_text : (e : ShortEntry) → parts_text e.numer e.denom ≡ number_text (multiplier_of e)
 short_text e = let parts = parts_of e.numer e.denom e.lowest in sym (ap₂ parts_text parts.0 parts.1)
-
--- one more of the entries
-pub take_next : (es : List ShortEntry) (i : ℕ) (e : ShortEntry) (x : ℚ) (before : List (ℕ × ℚ))
-    → i < length es → e ≡ get_or es i e → x ≡ multiplier_of e → before ≡ take i (map entry_of es)
-    → before ++ (e.index, x) ∷ [] ≡ take (i + 1) (map entry_of es)
-take_next es i e x before h there is so_far =
-    let size = length-map es entry_of in
-    ap₂ (λ l (m : ℚ). l ++ (e.index, m) ∷ []) so_far is
-    ∙ ap (λ y. take i (map entry_of es) ++ y ∷ []) (ap entry_of there ∙ sym (get_or-map entry_of es i e (entry_of e) h))
-    ∙ sym (take_more (map entry_of es) i (entry_of e) (omega arith))
 
 -- the words of a count and of short entries
 pub short_length : (es : List ShortEntry)

@@ -17,7 +17,7 @@ use Rattle.vipr_write.specs.declared.statements.Statements.{Statements}
 use Rattle.vipr_write.specs.declared.statements.Step.{Step}
 
 -- a step as a derivation, if this is the name and the constraint of what is kept of them
-abbrev pub step_of : {S : Type 0} → (S → Named Constraint) → Step S → Derivation
+abbrev pub step_of : (Statement → Named Constraint) → Step → Derivation
 step_of view s = record {
   name = (view s.stated).name;
   stated = (view s.stated).item;
@@ -68,18 +68,18 @@ abbrev pub SpellsRow : Statements → Type 0
 SpellsRow t = t.spelled.items ≡ words_after_spaces (row_words t.form t.objective t.objective)
 
 -- these steps are kept of these derivations
-pub record AreKept (t : Statements) (steps : List (Step Statement)) (ds : List Derivation)
+pub record AreKept (t : Statements) (steps : List Step) (ds : List Derivation)
     : Type 0 where
   pub row : SpellsRow t
   pub last : slice_index (0 ∷ t.ends) (length t.ends) ≡ length t.text.bytes.items
   pub within : All
-      (λ (s : Step Statement). is_within t.ends t.text.bytes.items s.stated ≡ true)
+      (λ (s : Step). is_within t.ends t.text.bytes.items s.stated ≡ true)
       steps
   pub those : map (step_of (statement_in t)) steps ≡ map (as_text t.form t.objective) ds
 
 -- a certificate of this problem, of which these lines of the solutions and these steps are kept
 pub record AreStepsOf (c : Certificate) (p : Problem) (lines : List ℕ) (t : Statements)
-    (steps : List (Step Statement)) : Type 0 where
+    (steps : List Step) : Type 0 where
   pub writes : CanWrite c
   pub problem : c.problem ≡ p
   pub solutions : lines ≡ lines_text (solutions_lines c.solutions)
@@ -89,16 +89,16 @@ pub record AreStepsOf (c : Certificate) (p : Problem) (lines : List ℕ) (t : St
 
 -- ---- their lines
 
-abbrev pub step_line : Statements → Step Statement → List ℕ
+abbrev pub step_line : Statements → Step → List ℕ
 step_line t s = (own_bytes t s.stated ++ row_bytes t.spelled.items s.stated)
     ++ (codes " {" ++ (words_after_spaces (reason_words (kept_reason_of s.reason))
     ++ (codes " }" ++ (32 ∷ last_word s.last ++ codes "\n"))))
 
-abbrev pub steps_section : Statements → List (Step Statement) → List ℕ
+abbrev pub steps_section : Statements → List Step → List ℕ
 steps_section t ss = line_text (heading (codes "DER") (length ss)) ++ flat_map (step_line t) ss
 
 -- no more than so many pieces of 65,536 bytes
-abbrev pub step_weight : Statements → Step Statement → ℕ
+abbrev pub step_weight : Statements → Step → ℕ
 step_weight t s = length (own_bytes t s.stated)
     + length (row_bytes t.spelled.items s.stated) + 8
     + length (reason_words (kept_reason_of s.reason))

@@ -16,7 +16,7 @@ ghost use Rattle.vipr_spec.specs.Certificate.{Certificate as CertificateMeant};
 ghost use Rattle.vipr_write.specs.Steps.{step_weight, AreStepsOf};
 ghost use Rattle.vipr_write.specs.StepReasons.{kept_references_of};
 
-use crate::statements::{Statement, Statements, Step};
+use crate::statements::{Statements, Step};
 use crate::step_reason::StepReferences;
 use vipr_cert::{Certificate, Claim, Derivation, Named, Problem, References};
 use vipr_linear::{Constraint, Solution};
@@ -115,7 +115,7 @@ fn word_count(certificate: &Certificate) -> u64
 }
 
 // With the bytes of a step's statement and the words of its reason.
-fn more_step(total: u64, statements: &Statements, step: &Step<Statement>) -> u64
+fn more_step(total: u64, statements: &Statements, step: &Step) -> u64
     ensures { result ≡ counted (total + step_weight statements.now step.now) }
 {
     let own = statements.own_bytes(step.stated).len() as u64;
@@ -125,7 +125,7 @@ fn more_step(total: u64, statements: &Statements, step: &Step<Statement>) -> u64
 }
 
 // With those of all steps.
-fn more_steps(total: u64, statements: &Statements, steps: &[Step<Statement>]) -> u64
+fn more_steps(total: u64, statements: &Statements, steps: &[Step]) -> u64
     ensures { result ≡ counted (total + sum_by (step_weight statements.now) steps.now) }
 {
     let mut total = total;
@@ -141,7 +141,7 @@ pub(crate) fn are_countable(
     problem: &Problem,
     solutions: &[u8],
     statements: &Statements,
-    steps: &[Step<Statement>],
+    steps: &[Step],
 ) -> bool
     ensures { IsTrue result → (c : CertificateMeant)
         → AreStepsOf c problem.now solutions.now statements.now steps.now

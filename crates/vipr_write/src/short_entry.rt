@@ -45,7 +45,7 @@ impl SumEntry for ShortEntry {
 
 impl ShortEntry {
     ghost use Rattle.std.specs.Prelude.{◌≡◌, ◌↔◌, IfSome, IsSome};
-    ghost use Rattle.vipr_write.specs.StepReasons.{multiplier_of, entry_of, IsShort};
+    ghost use Rattle.vipr_write.specs.StepReasons.{entry_of, IsShort};
 
     /// The entry of this index and this multiplier, `None` if a part of it is too long.
     pub fn of(index: u32, multiplier: &Frac) -> Option<ShortEntry>
@@ -61,16 +61,6 @@ impl ShortEntry {
                 denom,
             }),
             _ => None,
-        }
-    }
-
-    /// Its multiplier.
-    pub(crate) fn multiplier(self) -> Frac
-        ensures { result ≡ multiplier_of self }
-    {
-        match Frac::new(i128::from(self.numer), i128::from(self.denom)) {
-            Ok(multiplier) => multiplier,
-            Err(_) => Frac::zero(),
         }
     }
 }

@@ -8,7 +8,6 @@ ghost use Rattle.vipr_spec.specs.Certificate.{Derivation as DerivationMeant};
 ghost use Rattle.vipr_bytes.specs.Grown.{GrowsBy};
 ghost use Rattle.vipr_bytes.specs.Puts.{Puts};
 ghost use Rattle.vipr_cert.specs.Items.{derivation_of};
-ghost use Rattle.vipr_write.specs.declared.statements.Statement.{Statement as StatementMeant};
 ghost use Rattle.vipr_write.specs.declared.statements.Step.{Step as StepMeant};
 ghost use Rattle.vipr_write.specs.Canonical.{words_after_spaces};
 ghost use Rattle.vipr_write.specs.Forms.{row_words};
@@ -35,8 +34,8 @@ pub struct Statement {
 
 /// A derivation, of whose name and constraint this is kept.
 #[derive(Debug, Drop)]
-pub struct Step<S> {
-    pub stated: S,
+pub struct Step {
+    pub(crate) stated: Statement,
     pub reason: StepReason,
     /// The last derivation that refers to it by index, `None` if it is never dropped.
     pub last: Option<u32>,
@@ -88,14 +87,10 @@ impl Statements {
     /// # Errors
     ///
     /// If a growth is refused, or if 2^32 of them are kept.
-    pub fn keep(
-        &mut self,
-        alloc: Global,
-        derivation: &Derivation,
-    ) -> Result<Step<Statement>, AllocError>
+    pub fn keep(&mut self, alloc: Global, derivation: &Derivation) -> Result<Step, AllocError>
         ensures form { OnOk result (self.new.form ≡ self.old.form) }
         ensures objective { OnOk result (self.new.objective ≡ self.old.objective) }
-        ensures kept { IfOk result (λ s. (ss : List (StepMeant StatementMeant))
+        ensures kept { IfOk result (λ s. (ss : List StepMeant)
             (ds : List DerivationMeant) → AreKept self.old ss ds
             → AreKept self.new (ss ++ s ∷ []) (ds ++ derivation_of derivation.now ∷ [])) }
         ensures shortest { IfOk result (λ s. IsShortest s.reason) }

@@ -102,17 +102,6 @@ fn short_entries(
     Ok(Some(short))
 }
 
-// The entries with their whole multipliers.
-fn long_entries(alloc: Global, short: &[ShortEntry]) -> Result<Vec<(u32, Frac)>, AllocError>
-    ensures { IfOk result (λ v. v.items ≡ map entry_of short.now) }
-{
-    let mut entries = Vec::with_capacity(alloc, short.len())?;
-    for entry in short {
-        entries.push((entry.index, entry.multiplier()))?;
-    }
-    Ok(entries)
-}
-
 // `Lin` of these entries.
 fn lin_of(alloc: Global, entries: &[(u32, Frac)]) -> Result<StepReason, AllocError>
     ensures reason { IfOk result (λ r. kept_reason_of r ≡ lin entries.now) }
@@ -165,38 +154,6 @@ impl StepReason {
             Reason::Rnd(entries) => rnd_of(alloc, entries),
             Reason::Asm => Ok(StepReason::Asm),
             whole => Ok(StepReason::Whole(Box::new(alloc, whole.clone()?)?)),
-        }
-    }
-
-    /// The reason, whose entries are moved.
-    ///
-    /// # Errors
-    ///
-    /// If an allocation is refused.
-    pub fn from_reason(alloc: Global, reason: Reason) -> Result<StepReason, AllocError>
-        ensures { IfOk result (λ r. kept_reason_of r ≡ reason_of reason) }
-    {
-        match reason {
-            Reason::Asm => Ok(StepReason::Asm),
-            whole => Ok(StepReason::Whole(Box::new(alloc, whole)?)),
-        }
-    }
-
-    /// The reason of which this is kept.
-    ///
-    /// # Errors
-    ///
-    /// If an allocation is refused.
-    pub fn into_reason(self, alloc: Global) -> Result<Reason, AllocError>
-        ensures { IfOk result (λ r. reason_of r ≡ kept_reason_of self) }
-    {
-        match self {
-            StepReason::Asm => Ok(Reason::Asm),
-            StepReason::Empty => Ok(Reason::Lin(Vec::new(alloc))),
-            StepReason::One(entry) => Ok(Reason::Lin(long_entries(alloc, from_ref(&entry))?)),
-            StepReason::Lin(short) => Ok(Reason::Lin(long_entries(alloc, &short)?)),
-            StepReason::Rnd(short) => Ok(Reason::Rnd(long_entries(alloc, &short)?)),
-            StepReason::Whole(whole) => Ok(Box::into_inner(whole)),
         }
     }
 

@@ -7,7 +7,7 @@ ghost use Rattle.vipr_write.specs.StepReasons.{kept_reason_of, kept_references_o
 ghost use Rattle.vipr_write.specs.Steps.{step_line, steps_section};
 
 use crate::lines::{put_heading, put_references};
-use crate::statements::{Statement, Statements, Step};
+use crate::statements::{Statements, Step};
 use crate::step_reason::{StepReason, StepReferences};
 use crate::words::{put_counted, put_last};
 use vipr_bytes::Out;
@@ -40,7 +40,7 @@ fn put_rule<O: Out>(out: &mut O, reason: &StepReason)
 }
 
 // A derivation of which this step is kept, unless it has failed.
-fn put_step<O: Out>(out: &mut O, statements: &Statements, step: &Step<Statement>)
+fn put_step<O: Out>(out: &mut O, statements: &Statements, step: &Step)
     ensures { Puts O.carries out.old out.new
         (step_line statements.now step.now) }
 {
@@ -57,7 +57,7 @@ fn put_step<O: Out>(out: &mut O, statements: &Statements, step: &Step<Statement>
 }
 
 /// How many steps there are, and each of them.
-pub(crate) fn put_steps<O: Out>(out: &mut O, statements: &Statements, steps: &[Step<Statement>])
+pub(crate) fn put_steps<O: Out>(out: &mut O, statements: &Statements, steps: &[Step])
     ensures { Puts O.carries out.old out.new
         (steps_section statements.now steps.now) }
 {

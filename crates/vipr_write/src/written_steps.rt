@@ -11,7 +11,7 @@ ghost use Rattle.vipr_write.specs.WrittenText.{WroteText, IsWithin, LeavesFailur
 
 use crate::countable::are_countable;
 use crate::sections::put_problem;
-use crate::statements::{Statement, Statements, Step};
+use crate::statements::{Statements, Step};
 use crate::steps::put_steps;
 use crate::write::WriteError;
 use std::alloc::Global;
@@ -30,7 +30,7 @@ pub fn write_steps<W: Sink>(
     problem: &Problem,
     solutions: &[u8],
     statements: &Statements,
-    steps: &[Step<Statement>],
+    steps: &[Step],
     sink: &mut W,
 ) -> Result<(), WriteError>
     ensures output { (c : CertificateMeant)
@@ -62,7 +62,7 @@ fn write_parts<W: Sink>(
     problem: &Problem,
     solutions: &[u8],
     statements: &Statements,
-    steps: &[Step<Statement>],
+    steps: &[Step],
     sink: &mut W,
 ) -> Result<(), WriteFailed>
     requires { (start : Start) → Carries start start buffer [] }

@@ -3,15 +3,14 @@ use Rattle.std.proofs.Common.{refl, sym}
 use Rattle.std.proofs.Common.{◌∙◌, ap, ap₂}
 use Rattle.std.proofs.lemmas.List.{length-map, get_or_read, with_items_is}
 use Rattle.vipr_write.specs.Steps.{step_of}
-use Rattle.vipr_tighten.proofs.Marking.{no_statement}
 use Rattle.vipr_tighten.proofs.Held.{few_held, fewer_dropped, held_now, until_then, most_then}
 use Rattle.vipr_tighten.proofs.Held.{drop_here, few_at, each_some, each_none, peak_whole}
-use Rattle.vipr_tighten.proofs.Held.{certificate_of, first_of, peak_of}
+use Rattle.vipr_tighten.proofs.Held.{certificate_of, first_of, peak_of, no_statement}
 use Rattle.vipr_tighten.proofs.peak.peak.Goals as goal
 use Rattle.vipr_tighten.proofs.peak.peak.Goals.{in-Some, in_default}
 
 pub overflow_add-held : goal.overflow_add-held
-overflow_add-held g c =
+overflow_add-held c =
     let first = first_of c.args.first c.args.steps.now in
     let few = few_held (certificate_of c.args.first c.args.steps.now) c.args.first first c.loop-place.place in
     let until = c.loop-place.invariant.until in
@@ -20,7 +19,7 @@ overflow_add-held g c =
     omega arith
 
 pub overflow_sub-held : goal.overflow_sub-held
-overflow_sub-held g c =
+overflow_sub-held c =
     let first = first_of c.args.first c.args.steps.now in
     let p = c.loop-place.place in
     let inside = c.loop-place-test.true in
@@ -31,7 +30,7 @@ overflow_sub-held g c =
     omega arith
 
 pub count_at-requires-clause-few : goal.count_at-requires-clause-few
-count_at-requires-clause-few g c = λ k h.
+count_at-requires-clause-few c = λ k h.
     let first = first_of c.args.first c.args.steps.now in
     let p = c.loop-place.place in
     let value : c.deref_mut.result.now ≡ c.loop-place.dropped.items = c.deref_mut.ensures.value in
@@ -44,7 +43,7 @@ count_at-requires-clause-few g c = λ k h.
     omega arith
 
 pub loop-place-preserved : goal.loop-place-preserved
-loop-place-preserved g c =
+loop-place-preserved c =
     let cert = certificate_of c.args.first c.args.steps.now in
     let m = c.args.first in
     let p = c.loop-place.place in
@@ -82,9 +81,9 @@ loop-place-preserved g c =
     ]
 
 pub returns : goal.returns
-returns g c = λ view x stand.
+returns c = λ view x stand.
     let first = first_of c.args.first c.args.steps.now in
-    let size = length-map c.args.steps.now (step_of (no_statement {S = g.row.S.Denot})) in
+    let size = length-map c.args.steps.now (step_of no_statement) in
     let outside = c.loop-place-test.false in
     let end = c.loop-place.auto.place-end in
     c.loop-place.invariant.most_is ∙ peak_whole (certificate_of c.args.first c.args.steps.now) c.args.first c.loop-place.place first (omega arith)

@@ -1,9 +1,7 @@
 use Rattle.std.proofs.Common.{◌≡◌, ◌+◌, ◌<◌, ◌++◌, ◌∷◌, [], length, length-append, vec_items, arith}
 use Rattle.std.proofs.Common.{◌∙◌, ap}
 use Rattle.std.proofs.lemmas.List.{with_items_is}
-use Rattle.vipr_spec.specs.Constraint.{Constraint}
-use Rattle.vipr_spec.specs.Certificate.{Named}
-use Rattle.vipr_tighten.proofs.Renumbering.{place_left_out, place_accepted_over}
+use Rattle.vipr_tighten.proofs.Renumbering.{left_more, place_left_out, place_taken_over}
 use Rattle.vipr_tighten.proofs.renumber.renumber.Goals as goal
 use Rattle.vipr_tighten.proofs.renumber.renumber.Goals.{then-marks-place, else-marks-place}
 
@@ -25,12 +23,14 @@ loop-place-preserved g c =
           let new = w.take_over.new.steps in
           let long : length new ≡ length c.loop-place.steps.items = w.take_over.auto.steps ∙ ap length w.deref_mut.ensures.value in
           let are : c.if-marks-place.steps.items ≡ new = ap vec_items w.steps-is ∙ with_items_is c.loop-place.steps new (w.take_over.auto.steps ∙ w.deref_mut.ensures.len) in
-          let takes = λ (view : g.row.S.Denot → Named Constraint). rw (w.deref.ensures.value, w.deref_mut.ensures.value) at (w.take_over.ensures view) in
+          let takes = rw (w.deref.ensures.value, w.deref_mut.ensures.value) at w.take_over.ensures in
           rw (longer, are, w.kept-is) record {
             size = long ∙ inv.size;
             place = omega (arith, more, inv.place);
             behind = omega (arith, inv.behind);
-            so_far = λ view. place_accepted_over view first marks all ds table kept place inv.size inv.place inv.behind (inv.so_far view) there w.if-marks-place.true c.requires.earlier new (takes view);
+            left = takes.left ∙ left_more ds all place (omega (arith, inv.size, there)) there inv.left;
+            so_far = λ view earlier.
+                place_taken_over (g.D.Tightenable.derived view) first marks all ds table kept place inv.size inv.place inv.behind inv.left there (inv.so_far view earlier) w.if-marks-place.true earlier new (takes.kept view);
           }
       | else-marks-place w ↦
           let same : c.if-marks-place.steps.items ≡ ds = ap vec_items w.steps-is in
@@ -38,6 +38,8 @@ loop-place-preserved g c =
             size = inv.size;
             place = omega (arith, more, inv.place);
             behind = omega (arith, inv.behind);
-            so_far = λ view. place_left_out view first marks all ds table kept place inv.size inv.place inv.behind (inv.so_far view) there w.if-marks-place.false;
+            left = left_more ds all place (omega (arith, inv.size, there)) there inv.left;
+            so_far = λ view earlier.
+                place_left_out (g.D.Tightenable.derived view) first marks all ds table kept place inv.size inv.place inv.behind inv.left there (inv.so_far view earlier) w.if-marks-place.false;
           }
     ]

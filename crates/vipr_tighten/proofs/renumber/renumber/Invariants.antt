@@ -1,6 +1,5 @@
-use Rattle.std.proofs.Common.{◌≡◌, ◌≤◌, length, take, drop}
-use Rattle.vipr_spec.specs.Constraint.{Constraint}
-use Rattle.vipr_spec.specs.Certificate.{Named}
+use Rattle.std.proofs.Common.{◌≡◌, ◌≤◌, length, map, take, drop}
+use Rattle.vipr_tighten.specs.Passes.{NameEarlier}
 use Rattle.vipr_tighten.proofs.Renumbering.{SoFar}
 use Rattle.vipr_tighten.proofs.renumber.renumber.Given as goal
 
@@ -9,5 +8,7 @@ invariant-loop-place g l = record {
   size : length l.steps.items ≡ length l.fn.steps.items;
   place : length l.table.items ≡ l.place;
   behind : l.kept ≤ l.place;
-  so_far : (view : g.row.S.Denot → Named Constraint) → SoFar view l.first l.marks l.fn.steps.items (drop l.place l.steps.items) l.table.items (take l.kept l.steps.items);
+  left : drop l.place l.steps.items ≡ drop l.place l.fn.steps.items;
+  so_far : (view : g.D.Tightenable.View) → NameEarlier l.first (map (g.D.Tightenable.derived view) l.fn.steps.items)
+      → SoFar l.first l.marks (map (g.D.Tightenable.derived view) l.fn.steps.items) l.table.items (map (g.D.Tightenable.derived view) (take l.kept l.steps.items));
 }

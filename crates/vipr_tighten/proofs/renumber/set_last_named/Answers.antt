@@ -3,14 +3,13 @@ use Rattle.std.specs.List.{list_any}
 use Rattle.vipr_spec.specs.Fraction.{ℚ}
 use Rattle.vipr_spec.specs.Reading.{is_nonzero}
 use Rattle.vipr_spec.specs.Tightened.{referred_by}
-use Rattle.vipr_write.specs.Steps.{step_of}
 use Rattle.vipr_tighten.proofs.Referring.{entry_referred, entry_skipped, none_referred}
 use Rattle.vipr_tighten.proofs.Pairs.{pair_inside, pair_read, all_pairs}
 use Rattle.vipr_tighten.proofs.renumber.set_last_named.Goals as goal
 use Rattle.vipr_tighten.proofs.renumber.set_last_named.Goals.{then-not-is_zero, else-not-is_zero}
 
 pub loop-entry-init : goal.loop-entry-init
-loop-entry-init g c = λ view. none_referred c.args.last c.args.first (map (step_of view) c.args.kept.now)
+loop-entry-init g c = λ view. none_referred c.args.last c.args.first (map (g.D.Tightenable.derived view) c.args.kept.now)
 
 pub loop-entry-preserved : goal.loop-entry-preserved
 loop-entry-preserved g c = λ view.
@@ -23,15 +22,15 @@ loop-entry-preserved g c = λ view.
     elim c.if-not-is_zero.branch [
       | then-not-is_zero w ↦
           let t : is_nonzero (pair x) ≡ true = ap not (sym c.is_zero.ensures ∙ w.if-not-is_zero.true) in
-          let set = subst (λ i. map (step_of view) w.set_last_at.new.kept ≡ referred_by (λ j. nat_eq j i) c.args.last c.args.first (map (step_of view) c.loop-entry.kept)) w.index.ensures (w.set_last_at.ensures view) in
-          rw w.kept-is (entry_referred view c.args.last c.args.first (map pair es) n (pair x) there is c.args.kept.now c.loop-entry.kept (c.loop-entry.invariant view) w.set_last_at.new.kept t set)
+          let set = subst (λ i. map (g.D.Tightenable.derived view) w.set_last_at.new.kept ≡ referred_by (λ j. nat_eq j i) c.args.last c.args.first (map (g.D.Tightenable.derived view) c.loop-entry.kept)) w.index.ensures (w.set_last_at.ensures view) in
+          rw w.kept-is (entry_referred c.args.last c.args.first (map pair es) n (pair x) there is (map (g.D.Tightenable.derived view) c.args.kept.now) (map (g.D.Tightenable.derived view) c.loop-entry.kept) (c.loop-entry.invariant view) (map (g.D.Tightenable.derived view) w.set_last_at.new.kept) t set)
       | else-not-is_zero w ↦
           let t : is_nonzero (pair x) ≡ false = ap not (sym c.is_zero.ensures ∙ w.if-not-is_zero.false) in
-          rw w.kept-is (entry_skipped view c.args.last c.args.first (map pair es) n (pair x) there is c.args.kept.now c.loop-entry.kept (c.loop-entry.invariant view) t)
+          rw w.kept-is (entry_skipped c.args.last c.args.first (map pair es) n (pair x) there is (map (g.D.Tightenable.derived view) c.args.kept.now) (map (g.D.Tightenable.derived view) c.loop-entry.kept) (c.loop-entry.invariant view) t)
     ]
 
 pub returns : goal.returns
 returns g c = λ view.
     c.loop-entry.invariant view
-    ∙ ap (λ (es : List (ℕ × ℚ)). referred_by (λ i. list_any (λ e. nat_eq i e.0 && is_nonzero e) es) c.args.last c.args.first (map (step_of view) c.args.kept.now))
+    ∙ ap (λ (es : List (ℕ × ℚ)). referred_by (λ i. list_any (λ e. nat_eq i e.0 && is_nonzero e) es) c.args.last c.args.first (map (g.D.Tightenable.derived view) c.args.kept.now))
     (all_pairs g.E.SumEntry.pair c.args.entries.now c.loop-entry.entry-index c.loop-entry-test.false)

@@ -1,24 +1,31 @@
-use Rattle.std.proofs.Common.{◌≡◌, ◌++◌, None, length, slice_set, sym, ◌∙◌, subst}
+use Rattle.std.proofs.Common.{◌≡◌, ◌+◌, ◌++◌, None, drop, map, take, slice_set, sym, ap, ◌∙◌, subst}
+use Rattle.vipr_spec.specs.Certificate.{Derivation}
 use Rattle.vipr_spec.specs.Tightened.{with_new_indices}
-use Rattle.vipr_write.specs.Steps.{step_of}
-use Rattle.vipr_write.specs.declared.statements.Step.{Step}
 use Rattle.vipr_tighten.specs.Passes.{index_by, TakesOver}
-use Rattle.vipr_tighten.proofs.Moving.{accepted_over}
+use Rattle.vipr_tighten.proofs.Moving.{after_left, taken_over}
 use Rattle.vipr_tighten.proofs.renumber.take_over.Goals as goal
 
-pub returns : goal.returns
-returns g c = λ view.
+pub returns-clause-left : goal.returns-clause-left
+returns-clause-left g c =
+    let parts = c.split_at_mut-front.ensures in
+    subst (λ l. drop (c.args.place + 1) (c.set_last_by.new.kept ++ slice_set l 0 c.set_last.new.self) ≡ drop (c.args.place + 1) c.args.steps.now) (sym parts.back)
+    (after_left c.args.steps.now c.swap.new.self c.args.kept c.args.place c.requires.behind c.requires.there c.swap.ensures.len c.swap.ensures.by_index c.set_last_by.new.kept c.set_last.new.self (c.set_last_by.auto.kept ∙ parts.front_len))
+
+pub returns-clause-kept : goal.returns-clause-kept
+returns-clause-kept g c = λ view x e.
+    let derived = g.D.Tightenable.derived view in
     let first = c.args.first in
     let table = c.args.table.now in
     let old = c.args.steps.now in
     let kept = c.args.kept in
     let parts = c.split_at_mut-front.ensures in
-    let changed = c.set_last.new.kept in
-    let moved = c.renumber_references.new.step in
+    let changed = c.set_last_by.new.kept in
+    let moved = c.set_last.new.self in
     let was = c.index-back-0.result in
-    let as_long : length changed ≡ kept = c.set_last.auto.kept ∙ parts.front_len in
     let is_was = rw parts.back at c.index-back-0.is in
-    let referred = rw parts.front at (c.set_last.ensures view) in
-    let renumbered = subst (λ (y : Step g.row.S.Denot). step_of view moved ≡ record (with_new_indices (index_by first table) (step_of view y)) { last = None }) (sym c.index-back-0.is) (c.renumber_references.ensures view) in
-    subst (λ l. TakesOver view first table kept c.args.place old (changed ++ slice_set l 0 moved)) (sym parts.back)
-    (accepted_over view first table old c.swap.new.self kept c.args.place c.requires.behind c.requires.there c.swap.ensures.len c.swap.ensures.by_index was moved is_was renumbered changed as_long referred)
+    let moved_is : derived moved ≡ record (with_new_indices (index_by first table) (derived was)) { last = None } =
+    subst (λ y. derived moved ≡ record (with_new_indices (index_by first table) (derived y)) { last = None }) (sym c.index-back-0.is)
+    (c.set_last.ensures view ∙ ap (λ (d : Derivation). record d { last = None }) (c.renumber.ensures view)) in
+    let referred = rw parts.front at (c.set_last_by.ensures view) in
+    subst (λ l. TakesOver (with_new_indices (index_by first table) (derived x)) (first + kept) first (map derived (take kept old)) (map derived (take (kept + 1) (changed ++ slice_set l 0 moved)))) (sym parts.back)
+    (taken_over derived first table old c.swap.new.self kept c.args.place c.requires.behind c.requires.there c.swap.ensures.len c.swap.ensures.by_index was moved is_was moved_is changed (c.set_last_by.auto.kept ∙ parts.front_len) referred x e)

@@ -6,7 +6,7 @@ use Rattle.vipr_write.specs.Forms.{text_in}
 use Rattle.vipr_write.specs.Steps.{AreStepsOf}
 use Rattle.vipr_write.specs.declared.form.Form.{Form}
 use Rattle.vipr_tighten.specs.Keeping.{IsKeptOf}
-use Rattle.vipr_tighten.proofs.Kept.{few_steps, earlier_steps, goal_among, tight_steps, tight_few}
+use Rattle.vipr_tighten.proofs.Kept.{few_steps, tight_steps, tight_few}
 use Rattle.vipr_tighten.proofs.Kept.{tight_fewer, tightens_whole, tightens_part}
 use Rattle.vipr_tighten.proofs.Outcomes.{written_not}
 use Rattle.vipr_tighten.proofs.source_to_sink.write_tightened.Given.{Over}
@@ -19,49 +19,39 @@ steps_of : (g : Over) (c : After-write_steps g) (P : Profile) (F : Form) (x : Ce
     → AreStepsOf (tightened_certificate x c.args.proof.now.report.goal) c.args.proof.now.problem
     c.as_slice-lines.result.now c.args.proof.now.statements c.deref-2.result.now
 steps_of g c P F x is =
-    rw (c.as_slice-lines.ensures, c.deref-2.ensures.value) (tight_steps P F x c.args.proof.now is c.cons-first.result.now c.cons-first.ensures.constraints c.tighten_steps.new.steps.items c.in_ok-tighten_steps.ensures)
+    rw (c.as_slice-lines.ensures, c.deref-2.ensures.value) (tight_steps P F x c.args.proof.now is c.cons-first.result.now c.cons-first.ensures.constraints c.tighten_derived.new.steps.items c.in_ok-tighten_derived.ensures)
 
-pub tighten_steps-requires-clause-few : goal.tighten_steps-requires-clause-few
-tighten_steps-requires-clause-few g c =
+pub tighten_derived-requires : goal.tighten_derived-requires
+tighten_derived-requires g c =
     let (P, F, x, is) = c.requires in
     few_steps P F x c.args.proof.now is c.cons-first.result.now c.cons-first.ensures.constraints
-
-pub tighten_steps-requires-clause-earlier : goal.tighten_steps-requires-clause-earlier
-tighten_steps-requires-clause-earlier g c =
-    let (P, F, x, is) = c.requires in
-    earlier_steps P F x c.args.proof.now is c.cons-first.result.now c.cons-first.ensures.constraints
-
-pub tighten_steps-requires-clause-goal : goal.tighten_steps-requires-clause-goal
-tighten_steps-requires-clause-goal g c =
-    let (P, F, x, is) = c.requires in
-    goal_among P F x c.args.proof.now is c.cons-first.result.now c.cons-first.ensures.constraints
 
 pub peak-requires : goal.peak-requires
 peak-requires g c =
     let (P, F, x, is) = c.requires in
-    rw c.deref.ensures.value (tight_few P F x c.args.proof.now is c.cons-first.result.now c.cons-first.ensures.constraints c.tighten_steps.new.steps.items c.in_ok-tighten_steps.ensures)
+    rw c.deref.ensures.value (tight_few P F x c.args.proof.now is c.cons-first.result.now c.cons-first.ensures.constraints c.tighten_derived.new.steps.items c.in_ok-tighten_derived.ensures)
 
 pub overflow_cast-kept : goal.overflow_cast-kept
 overflow_cast-kept g c =
     let (P, F, x, is) = c.requires in
-    let kept = c.tighten_steps.new.steps.items in
-    let few = tight_few P F x c.args.proof.now is c.cons-first.result.now c.cons-first.ensures.constraints kept c.in_ok-tighten_steps.ensures in
+    let kept = c.tighten_derived.new.steps.items in
+    let few = tight_few P F x c.args.proof.now is c.cons-first.result.now c.cons-first.ensures.constraints kept c.in_ok-tighten_derived.ensures in
     let size : c.len-kept.result ≡ length kept = search rules in
     omega arith
 
 pub overflow_sub-result : goal.overflow_sub-result
 overflow_sub-result g c =
     let (P, F, x, is) = c.requires in
-    let kept = c.tighten_steps.new.steps.items in
-    let fewer = tight_fewer P F x c.args.proof.now is c.cons-first.result.now c.cons-first.ensures.constraints kept c.in_ok-tighten_steps.ensures in
+    let kept = c.tighten_derived.new.steps.items in
+    let fewer = tight_fewer P F x c.args.proof.now is c.cons-first.result.now c.cons-first.ensures.constraints kept c.in_ok-tighten_derived.ensures in
     let size : c.len-kept.result ≡ length kept = search rules in
     omega arith
 
 pub returns-in-Ok-clause-text : goal.returns-in-Ok-clause-text
 returns-in-Ok-clause-text g c = λ P F x is.
     let k = c.args.proof.now in
-    let kept = c.tighten_steps.new.steps.items in
-    let all = c.in_ok-tighten_steps.ensures in
+    let kept = c.tighten_derived.new.steps.items in
+    let all = c.in_ok-tighten_derived.ensures in
     let of = steps_of g (goal.at.returns-in-Ok-clause-text g c).After-write_steps P F x is in
     let size : c.len-kept.result ≡ length kept = search rules in
     tightens_whole P F x k is c.cons-first.result.now c.cons-first.ensures.constraints kept all (c.in-Ok.ensures.law _ of)
@@ -78,8 +68,8 @@ returns-in-Err-Memory-clause-text g c = λ P F x is.
 pub returns-in-Err-Write-clause-text : goal.returns-in-Err-Write-clause-text
 returns-in-Err-Write-clause-text g c = λ P F x is.
     let k = c.args.proof.now in
-    let kept = c.tighten_steps.new.steps.items in
-    let all = c.in_ok-tighten_steps.ensures in
+    let kept = c.tighten_derived.new.steps.items in
+    let all = c.in_ok-tighten_derived.ensures in
     let t = tightened_certificate x k.report.goal in
     let of = steps_of g (goal.at.returns-in-Err-Write-clause-text g c).After-write_steps P F x is in
     let h = rw c.in-Err-Write.field-0-is at c.in-Err-Write.ensures in
