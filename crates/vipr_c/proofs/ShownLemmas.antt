@@ -1,16 +1,11 @@
 -- What is handed over of a certificate that was read
 use Rattle.std.proofs.Common.{◌≡◌, ℕ, ℤ, List, Ok, inl, inr, refl, subst, ◌∙◌}
-use Rattle.vipr_spec.specs.Certificate.{Certificate}
-use Rattle.vipr_spec.specs.Grammar.{Spells}
-use Rattle.vipr_spec.specs.Reading.{certificate_read}
+use Rattle.vipr_spec.specs.{Certificate.Certificate, Grammar.Spells, Reading.certificate_read}
 use Rattle.vipr_spec.proofs.Laws.{reads_texts}
 use Rattle.vipr_bytes.specs.Known.{text_of, IfKnown, IfWhole}
-use Rattle.vipr_write.specs.Forms.{text_in}
-use Rattle.vipr_write.specs.declared.form.Form.{Form}
-use Rattle.vipr_c.specs.Handed.{in_memory}
-use Rattle.vipr_c.specs.declared.answer.Answer.{Answer}
-use Rattle.vipr_c.specs.AnswerOf.{no_answer}
+use Rattle.vipr_write.specs.{Forms.text_in, declared.form.Form.Form}
 use Rattle.vipr_c.specs.Written.{ReturnsText, WritesWhole}
+use Rattle.vipr_c.specs.{AnswerOf.no_answer, Handed.in_memory, declared.answer.Answer.Answer}
 
 spelled : (bytes : List ℕ) (c : Certificate)
     → IfKnown (in_memory bytes) (λ i. certificate_read (text_of i) ≡ Ok c)

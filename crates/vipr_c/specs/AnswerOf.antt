@@ -1,12 +1,10 @@
 -- What a program in C gets of a verdict
 use Rattle.std.specs.Prelude.{ℕ, ℤ, pos, Option, Some, None, Result, Ok, Err}
-use Rattle.vipr_check.specs.Text.{verdict_status}
-use Rattle.vipr_check.specs.declared.verdict.Fault.{Fault}
 use Rattle.vipr_check.specs.declared.verdict.Fault.TheVariants.{Memory}
-use Rattle.vipr_check.specs.declared.verdict.Place.{Place}
 use Rattle.vipr_check.specs.declared.verdict.Place.TheVariants.{Byte, Sol, Der, End}
-use Rattle.vipr_check.specs.declared.verdict.Verdict.{Verdict}
 use Rattle.vipr_check.specs.declared.verdict.Verdict.TheVariants.{Verified, Refused}
+use Rattle.vipr_check.specs.{Text.verdict_status, declared.verdict.Fault.Fault}
+use Rattle.vipr_check.specs.{declared.verdict.Place.Place, declared.verdict.Verdict.Verdict}
 use Rattle.vipr_c.specs.declared.answer.Answer.{Answer}
 
 -- the status of a verdict, 3 if there is none

@@ -1,21 +1,14 @@
 -- What a call hands to a program in C: a status, and a text in a buffer
 use Rattle.std.specs.Prelude.{◌≡◌, ◌⊎◌, ℕ, ℤ, pos, ◌==◌, if◌then◌else◌, List, [], ◌++◌, length}
-use Rattle.std.specs.Prelude.{take, drop}
-use Rattle.std.specs.Prelude.{Option, Some, None, Result, Ok, codes, false, set}
+use Rattle.std.specs.Prelude.{take, drop, Option, Some, None, Result, Ok, codes, false, set}
 use Rattle.vipr_spec.specs.Constraint as is
-use Rattle.vipr_spec.specs.Input.{Input}
-use Rattle.vipr_spec.specs.Verdict.{IsExplained}
+use Rattle.vipr_spec.specs.{Input.Input, Verdict.IsExplained}
 use Rattle.vipr_bytes.specs.Known.{text_of, IfKnown}
-use Rattle.vipr_rules.specs.Profile.{profile_of}
-use Rattle.vipr_rules.specs.declared.profile.Profile.{Profile}
 use Rattle.vipr_rules.specs.declared.profile.Profile.TheVariants.{One, Two}
-use Rattle.vipr_check.specs.Checks.{ChecksIn}
-use Rattle.vipr_check.specs.Explanation.{explained_text}
-use Rattle.vipr_check.specs.Run.{SaysInDetail, verdict_in}
-use Rattle.vipr_check.specs.Text.{verdict_text}
-use Rattle.vipr_check.specs.declared.detail.Detail.{Detail}
-use Rattle.vipr_check.specs.declared.verdict.Fault.{Fault}
-use Rattle.vipr_check.specs.declared.verdict.Verdict.{Verdict}
+use Rattle.vipr_rules.specs.{Profile.profile_of, declared.profile.Profile.Profile}
+use Rattle.vipr_check.specs.{Checks.ChecksIn, Explanation.explained_text, Run.SaysInDetail}
+use Rattle.vipr_check.specs.{Run.verdict_in, Text.verdict_text, declared.detail.Detail.Detail}
+use Rattle.vipr_check.specs.{declared.verdict.Fault.Fault, declared.verdict.Verdict.Verdict}
 use Rattle.vipr_page.specs.Page.{IsPage}
 use Rattle.vipr_c.specs.AnswerOf.{status_of, answer_of_verdict, no_answer}
 use Rattle.vipr_c.specs.declared.answer.Answer.{Answer}

@@ -1,27 +1,21 @@
 -- What the calls that write a certificate hand to a program in C
 use Rattle.std.specs.Prelude.{◌≡◌, ◌⊎◌, ℕ, ℤ, pos, ◌==◌, if◌then◌else◌, List, [], Option, Some}
 use Rattle.std.specs.Prelude.{None, Ok, Err}
-use Rattle.vipr_spec.specs.Certificate.{Certificate}
-use Rattle.vipr_spec.specs.Constraint as is
-use Rattle.vipr_spec.specs.Grammar.{Spells}
 use Rattle.vipr_spec.specs.Reading.{certificate_read, refused}
-use Rattle.vipr_bytes.specs.Known.{text_of, IfKnown, IfWhole}
-use Rattle.vipr_bytes.specs.Output.{output_of}
-use Rattle.vipr_rules.specs.Profile.{profile_of}
-use Rattle.vipr_rules.specs.declared.profile.Profile.{Profile}
-use Rattle.vipr_write.specs.Forms.{text_in}
-use Rattle.vipr_write.specs.declared.form.Form.{Form}
+use Rattle.vipr_spec.specs.{Certificate.Certificate, Grammar.Spells}
+use Rattle.vipr_spec.specs.Constraint as is
+use Rattle.vipr_bytes.specs.{Known.text_of, Known.IfKnown, Known.IfWhole, Output.output_of}
+use Rattle.vipr_rules.specs.{Profile.profile_of, declared.profile.Profile.Profile}
 use Rattle.vipr_write.specs.declared.form.Form.TheVariants.{Canonical, Compact}
+use Rattle.vipr_write.specs.{Forms.text_in, declared.form.Form.Form}
 use Rattle.vipr_check.specs.declared.verdict.Place.TheVariants.{Byte}
 use Rattle.vipr_check.specs.declared.verdict.Verdict.TheVariants as verdict
-use Rattle.vipr_tighten.specs.Text.{outcome_status}
-use Rattle.vipr_tighten.specs.Tightens.{TightensAs}
 use Rattle.vipr_tighten.specs.declared.outcome.Outcome.{Outcome}
 use Rattle.vipr_tighten.specs.declared.outcome.Outcome.TheVariants.{Tightened, Refused}
-use Rattle.vipr_c.specs.Handed.{HasNoMemory, in_memory}
+use Rattle.vipr_tighten.specs.{Text.outcome_status, Tightens.TightensAs}
 use Rattle.vipr_c.specs.AnswerOf.{kind_of_place, number_of_place, answer_of_verdict, no_answer}
-use Rattle.vipr_c.specs.declared.answer.Answer.{Answer}
 use Rattle.vipr_c.specs.declared.tightened.Figures.{Figures}
+use Rattle.vipr_c.specs.{Handed.HasNoMemory, Handed.in_memory, declared.answer.Answer.Answer}
 
 -- the compact form, unless the flag is 0
 abbrev pub form_flagged : ℕ → Form

@@ -10,9 +10,8 @@ mod tightened;
 
 ghost use Rattle.std.specs.Prelude.{◌≡◌, ℕ, List, Result, Some, codes, false, length};
 ghost use Rattle.vipr_spec.specs.Causes.{cause_name};
-ghost use Rattle.vipr_check.specs.Checks.{Checks};
-ghost use Rattle.vipr_check.specs.declared.verdict.Fault.{Fault as Failure};
 ghost use Rattle.vipr_check.specs.declared.verdict.Verdict.{Verdict as Answered};
+ghost use Rattle.vipr_check.specs.{Checks.Checks, declared.verdict.Fault.Fault as Failure};
 ghost use Rattle.vipr_text.specs.Digest.{hex_digest};
 ghost use Rattle.vipr_c.specs.AnswerOf.{answer_of_verdict, status_of};
 ghost use Rattle.vipr_c.specs.Handed.{ExplainsAtLength, ExplainsBy, Fills, ReportsBy, ended};

@@ -2,8 +2,7 @@
 
 ghost use Rattle.std.specs.Prelude.{◌≡◌, ◌++◌, ℕ, List, IfOk, Ok};
 ghost use Rattle.vipr_rules.specs.Profile.{profile_of};
-ghost use Rattle.vipr_check.specs.Checks.{ChecksIn};
-ghost use Rattle.vipr_check.specs.Explanation.{explained_text};
+ghost use Rattle.vipr_check.specs.{Checks.ChecksIn, Explanation.explained_text};
 ghost use Rattle.vipr_page.specs.Page.{IsPage};
 ghost use Rattle.vipr_c.specs.AnswerOf.{status_of};
 ghost use Rattle.vipr_c.specs.Handed.{ExplainsAtLength, ExplainsBy, GivesDetail, IsExplanation};

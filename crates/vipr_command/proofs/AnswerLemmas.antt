@@ -2,30 +2,23 @@
 use Rattle.std.proofs.Common.{◌≡◌, ◌≢◌, ◌⊎◌, ◌<◌, ◌^◌, ℕ, List, Bool, true, false, length, Option, Some, None, IfSome}
 use Rattle.std.proofs.Common.{Result, Ok, Err, inl, inr, refl, subst, sym}
 use Rattle.std.specs.Prelude.{IsErrAnd}
-use Rattle.vipr_spec.specs.Constraint.{Profile}
-use Rattle.vipr_spec.specs.Input.{Input}
-use Rattle.vipr_spec.specs.Verdict.{IsExplained}
-use Rattle.vipr_bytes.specs.Known.{IfKnown, text_of}
-use Rattle.vipr_bytes.specs.Output.{Output}
+use Rattle.vipr_spec.specs.{Constraint.Profile, Input.Input, Verdict.IsExplained}
 use Rattle.vipr_bytes.specs.declared.write.WriteFailed.{WriteFailed}
-use Rattle.vipr_check.specs.Checks.{ChecksIn}
-use Rattle.vipr_check.specs.Run.{SaysInDetail}
-use Rattle.vipr_check.specs.declared.detail.Detail.{Detail}
+use Rattle.vipr_bytes.specs.{Known.IfKnown, Known.text_of, Output.Output}
 use Rattle.vipr_check.specs.declared.verdict.Fault.{Fault as CheckFault}
 use Rattle.vipr_check.specs.declared.verdict.Fault.TheVariants.{Memory as CheckMemory}
 use Rattle.vipr_check.specs.declared.verdict.Fault.TheVariants.{Read as CheckRead}
 use Rattle.vipr_check.specs.declared.verdict.Verdict.{Verdict}
+use Rattle.vipr_check.specs.{Checks.ChecksIn, Run.SaysInDetail, declared.detail.Detail.Detail}
 use Rattle.vipr_command.specs.Answer.{AnswersTask, AnswersBy, AnswersWhole, Tells, TellsWhole}
 use Rattle.vipr_command.specs.Answer.{Prints, fault_for, input_of}
 use Rattle.vipr_command.specs.Known.{KnownInput, OfInput, known_by, unknown_input}
-use Rattle.vipr_command.proofs.InputLemmas.{of_input}
-use Rattle.vipr_command.specs.Output.{Took}
-use Rattle.vipr_command.specs.declared.answer.Printed.{Printed}
-use Rattle.vipr_command.specs.declared.ending.Ending.{Ending}
 use Rattle.vipr_command.specs.declared.fault.CommandFault.{CommandFault}
 use Rattle.vipr_command.specs.declared.fault.CommandFault.TheVariants.{Memory, Read, Write}
-use Rattle.vipr_command.specs.declared.request.Task.{Task}
 use Rattle.vipr_command.specs.declared.request.Task.TheVariants.{Check, Explain, Show, Tighten}
+use Rattle.vipr_command.specs.{Output.Took, declared.answer.Printed.Printed}
+use Rattle.vipr_command.specs.{declared.ending.Ending.Ending, declared.request.Task.Task}
+use Rattle.vipr_command.proofs.InputLemmas.{of_input}
 
 -- what is told in some words is told in others
 answers_as : (T U : Verdict → List ℕ → Type 0) (X Y : Type 0)

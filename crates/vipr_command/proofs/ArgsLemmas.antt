@@ -3,31 +3,28 @@ use Rattle.std.proofs.Common.{◌≡◌, ◌∙◌, ap, refl, sym, subst, true�
 use Rattle.std.proofs.Common.{◌∷◌, Option, Some, None, Bool, true, false, codes, is_some}
 use Rattle.std.proofs.Common.{map, option_map, find, if◌then◌else◌, ◌&&◌, take}
 use Rattle.std.specs.Prelude.{IfErr, IfOk, Result, Ok, Err, IsErrAnd}
-use Rattle.clap.specs.declared.error.Error.{Error}
-use Rattle.clap.specs.Walk.{idle, nothing_held, stop_after, walk, walk_from, settled, finished}
-use Rattle.clap.specs.Takes.{walk_passes}
-use Rattle.clap.specs.Faults.{walk_fault, entered_fault, settle_fault, defaults_fault}
+use Rattle.clap.specs.Faults.{walk_fault, entered_fault, settle_fault, defaults_fault, check_fault}
 use Rattle.clap.specs.Kinds.{FailsBy, HasKind, IsAmong, Kinds, or_else}
-use Rattle.clap.specs.declared.error.ErrorKind.{ErrorKind}
-use Rattle.clap.specs.declared.error.ErrorKind.TheVariants.{DisplayHelp, InvalidSubcommand, InvalidValue}
-use Rattle.clap.specs.Faults.{check_fault}
-use Rattle.clap.specs.Walk.{answers_to}
+use Rattle.clap.specs.declared.error.ErrorKind.TheVariants.{DisplayHelp, InvalidSubcommand}
+use Rattle.clap.specs.declared.error.ErrorKind.TheVariants.{InvalidValue}
 use Rattle.clap.specs.Simple.{argument_words, built, entered, label_of, names_of, rows_at}
 use Rattle.clap.specs.Words.{Row, Shape, Text, fault_of, first_of, has_subcommand, is_simple}
 use Rattle.clap.specs.Words.{is_simple_and_free, kind_of, subcommand_name_of, subcommand_of}
 use Rattle.clap.specs.Words.{subcommand_rows_of, takes}
-use Rattle.clap.specs.declared.parser.matches.ArgMatches.{ArgMatches}
 use Rattle.clap.specs.declared.parser.matches.ArgMatches.TheViews.{out-ArgMatches}
+use Rattle.clap.specs.{Takes.walk_passes, Walk.idle, Walk.nothing_held, Walk.stop_after, Walk.walk}
+use Rattle.clap.specs.{Walk.walk_from, Walk.settled, Walk.finished, Walk.answers_to}
+use Rattle.clap.specs.{declared.error.Error.Error, declared.error.ErrorKind.ErrorKind}
+use Rattle.clap.specs.{declared.parser.matches.ArgMatches.ArgMatches}
 use Rattle.std.specs.Str.{bytes_eq}
 use Rattle.std.proofs.lemmas.Slice.Eq.{bytes_eq-Decides}
 use Rattle.vipr_command.proofs.HelpLemmas.{NotHelp, first_none, later_none, met_help, never_met}
 use Rattle.vipr_rules.specs.declared.profile.Profile.{Profile}
-use Rattle.vipr_command.specs.Args.{are_accepted, asks_for_help, request_of, asked_by, command_word, file_named}
-use Rattle.vipr_command.specs.Args.{form_asked, is_set, line, names_profile, profile_named}
-use Rattle.vipr_command.specs.Args.{words_fault}
-use Rattle.vipr_command.specs.declared.request.Job.{Job}
-use Rattle.vipr_command.specs.declared.request.Task.{Task}
+use Rattle.vipr_command.specs.Args.{are_accepted, asks_for_help, request_of, asked_by, command_word}
+use Rattle.vipr_command.specs.Args.{file_named, form_asked, is_set, line, names_profile}
+use Rattle.vipr_command.specs.Args.{profile_named, words_fault}
 use Rattle.vipr_command.specs.declared.request.Task.TheVariants.{Check, Explain, Show, Tighten}
+use Rattle.vipr_command.specs.{declared.request.Job.Job, declared.request.Task.Task}
 
 pub is_simple_line : is_simple line ≡ true
 unfolding line

@@ -1,20 +1,17 @@
 -- No walk over words that are at no fault stops at clap's own subcommand `help`.
 use Rattle.std.proofs.Common.{◌≡◌, ◌∙◌, ap, refl, sym, ℕ, List, [], ◌∷◌, ◌++◌, Option, Some, None}
 use Rattle.std.proofs.Common.{Bool, true, false, codes, if◌then◌else◌, ◌&&◌, ◌||◌, not, fold}
-use Rattle.std.specs.Prelude.{⊤}
-use Rattle.std.specs.Str.{bytes_eq}
+use Rattle.std.specs.{Prelude.⊤, Str.bytes_eq}
 use Rattle.std.proofs.lemmas.Slice.Eq.{bytes_eq-Decides}
 use Rattle.clap.specs.Faults.{other_fault, turn_fault, walk_fault, word_fault}
-use Rattle.clap.specs.Kinds.{Kinds, or_else}
 use Rattle.clap.specs.declared.error.ErrorKind.TheVariants.{DisplayHelp, InvalidSubcommand}
-use Rattle.clap.specs.Lexer.{long_of, short_of}
-use Rattle.clap.specs.Simple.{Shape}
 use Rattle.clap.specs.Walk.{Held, Names, Outcome, Rule, Step, Text, Waiting, Walk, after_flag}
 use Rattle.clap.specs.Walk.{after_step, answers_to, arg_by_index, bundle, idle, long_or_other}
 use Rattle.clap.specs.Walk.{long_met, next, option, plain_word, positional, short_or_plain}
 use Rattle.clap.specs.Walk.{subcommand, subcommand_met, subcommand_or_other, to_positional}
 use Rattle.clap.specs.Walk.{trailing, value, walked, word_met, done, waits, plain, refused}
 use Rattle.clap.specs.Walk.{arg_by_long}
+use Rattle.clap.specs.{Kinds.Kinds, Kinds.or_else, Lexer.long_of, Lexer.short_of, Simple.Shape}
 
 -- where two tests find no fault, each finds none
 pub first_none : (a b : Kinds) → or_else a b ≡ [] → a ≡ []

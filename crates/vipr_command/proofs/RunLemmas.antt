@@ -3,32 +3,25 @@ use Rattle.std.proofs.Common.{◌≡◌, ◌⊎◌, Bor, option_map, ℕ, List, 
 use Rattle.std.proofs.Common.{Bool, true, false, inl, inr, refl, sym, subst}
 use Rattle.std.specs.Prelude.{IfOk, IfSome}
 use Rattle.clap.specs.Words.{HasKind, Text, kind_of}
-use Rattle.clap.specs.declared.error.Error.{Error}
-use Rattle.clap.specs.declared.error.ErrorKind.{ErrorKind}
 use Rattle.clap.specs.declared.error.ErrorKind.TheVariants.{OutOfMemory}
-use Rattle.vipr_spec.specs.Constraint.{Profile}
-use Rattle.vipr_spec.specs.Input.{Input}
+use Rattle.clap.specs.{declared.error.Error.Error, declared.error.ErrorKind.ErrorKind}
+use Rattle.vipr_spec.specs.{Constraint.Profile, Input.Input}
 use Rattle.vipr_bytes.specs.Output.{Output}
 use Rattle.vipr_rules.specs.Profile.{profile_of}
 use Rattle.vipr_write.specs.declared.form.Form.{Form}
 use Rattle.vipr_tighten.specs.declared.outcome.TightenFault.TheVariants as tighten
-use Rattle.vipr_command.specs.Answer.{AnswersTask, Prints}
 use Rattle.vipr_command.specs.Args.{are_accepted, request_of, asked_by, words_fault}
 use Rattle.vipr_command.specs.Folder.{Files, IsFileOf, Unchanged, begun_for, text_held}
 use Rattle.vipr_command.specs.Known.{KnownInput, OfInput, unknown_input}
-use Rattle.vipr_command.specs.Output.{Stays}
-use Rattle.vipr_command.specs.Run.{AnswersError, Does, DoesJob, FailsToRead, AnswersWords}
-use Rattle.vipr_command.specs.Run.{Outside, PrintsAnswer, SaysNoMore, UnlessMissing, outside_of, read_from}
-use Rattle.vipr_command.proofs.InputLemmas.{of_input}
-use Rattle.vipr_command.proofs.ShowLemmas.{stays}
-use Rattle.vipr_command.proofs.TightenLemmas.{unwritten}
-use Rattle.vipr_command.specs.declared.answer.Printed.{Printed}
-use Rattle.vipr_command.specs.declared.ending.Ending.{Ending}
+use Rattle.vipr_command.specs.Run.{AnswersError, Does, DoesJob, FailsToRead, AnswersWords, Outside}
+use Rattle.vipr_command.specs.Run.{PrintsAnswer, SaysNoMore, UnlessMissing, outside_of, read_from}
 use Rattle.vipr_command.specs.declared.fault.CommandFault.{CommandFault}
 use Rattle.vipr_command.specs.declared.fault.CommandFault.TheVariants.{Memory, Read}
-use Rattle.vipr_command.specs.declared.request.Job.{Job}
-use Rattle.vipr_command.specs.declared.request.Task.{Task}
 use Rattle.vipr_command.specs.declared.request.Task.TheVariants.{Check, Explain, Show, Tighten}
+use Rattle.vipr_command.specs.{Answer.AnswersTask, Answer.Prints, Output.Stays}
+use Rattle.vipr_command.specs.{declared.answer.Printed.Printed, declared.ending.Ending.Ending}
+use Rattle.vipr_command.specs.{declared.request.Job.Job, declared.request.Task.Task}
+use Rattle.vipr_command.proofs.{InputLemmas.of_input, ShowLemmas.stays, TightenLemmas.unwritten}
 
 -- each name holds what it held
 pub same_files : (files : Files) → Unchanged files files

@@ -1,26 +1,19 @@
 -- What `show` answers, from the text that was made and what is written.
 use Rattle.std.proofs.Common.{◌≡◌, Option, Some, None, Result, Ok, Err, ℕ, List, true, false, refl}
 use Rattle.std.proofs.Common.{sym, ap, subst, ◌∙◌}
-use Rattle.vipr_spec.specs.Certificate.{Certificate}
-use Rattle.vipr_spec.specs.Grammar.{Spells}
-use Rattle.vipr_spec.specs.GrammarLaws.{whole_text}
-use Rattle.vipr_spec.specs.Input.{Input}
-use Rattle.vipr_spec.specs.Reading.{certificate_read, refused}
+use Rattle.vipr_spec.specs.{Certificate.Certificate, Grammar.Spells, GrammarLaws.whole_text}
+use Rattle.vipr_spec.specs.{Input.Input, Reading.certificate_read, Reading.refused}
 use Rattle.vipr_spec.proofs.Laws.{item_faults, reads_texts}
-use Rattle.vipr_bytes.specs.Output.{Output}
-use Rattle.vipr_write.specs.Forms.{text_in}
-use Rattle.vipr_write.specs.declared.form.Form.{Form}
-use Rattle.vipr_scan.specs.Faults.{Fails}
-use Rattle.vipr_bytes.specs.Known.{text_of, IfKnown, IfWhole}
-use Rattle.vipr_scan.specs.declared.error.TextError.{TextError}
+use Rattle.vipr_bytes.specs.{Known.text_of, Known.IfKnown, Known.IfWhole, Output.Output}
+use Rattle.vipr_write.specs.{Forms.text_in, declared.form.Form.Form}
+use Rattle.vipr_scan.specs.{Faults.Fails, declared.error.TextError.TextError}
 use Rattle.vipr_scan.specs.declared.error.TextError.TheVariants as error
 use Rattle.vipr_check.specs.declared.verdict.Place.TheVariants.{Byte}
 use Rattle.vipr_command.specs.Output.{Stays, Took, after_first}
 use Rattle.vipr_command.specs.Show.{Kind, ShowsText, WritesText, text_spelling}
-use Rattle.vipr_command.specs.declared.fault.CommandFault.{CommandFault}
 use Rattle.vipr_command.specs.declared.fault.CommandFault.TheVariants.{Memory, Read, Write}
-use Rattle.vipr_command.specs.declared.show.Shown.{Shown}
 use Rattle.vipr_command.specs.declared.show.Shown.TheVariants.{Refused, Whole}
+use Rattle.vipr_command.specs.{declared.fault.CommandFault.CommandFault, declared.show.Shown.Shown}
 
 true_not_false : true ≡ false → ⊥
 true_not_false h = cc

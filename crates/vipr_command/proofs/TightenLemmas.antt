@@ -1,21 +1,18 @@
 -- What `tighten` answers
 use Rattle.std.proofs.Common.{◌≡◌, Bor, List, ℕ, Option, Some, None, Result, Err, option_map}
 use Rattle.std.proofs.Common.{refl, sym, subst}
-use Rattle.vipr_spec.specs.Constraint.{Profile}
-use Rattle.vipr_spec.specs.Input.{Input}
+use Rattle.vipr_spec.specs.{Constraint.Profile, Input.Input}
 use Rattle.vipr_bytes.specs.Output.{Output}
 use Rattle.vipr_tighten.specs.Tightens.{KindOfText, TightensAs, TightensText}
 use Rattle.vipr_write.specs.declared.form.Form.{Form}
 use Rattle.vipr_tighten.specs.declared.outcome.Outcome.{Outcome}
 use Rattle.vipr_tighten.specs.declared.outcome.TightenFault.{TightenFault}
-use Rattle.vipr_command.specs.Folder.{Files, begun_for}
-use Rattle.vipr_command.specs.Known.{OfInput}
-use Rattle.vipr_command.specs.Run.{PrintsTightened, Outside, outside_of}
-use Rattle.vipr_command.specs.Tighten.{EndsAs, Settles, WritesFile, WritesTightened, tighten_fault_for}
-use Rattle.vipr_command.specs.declared.ending.Ending.{Ending}
-use Rattle.vipr_command.specs.declared.fault.CommandFault.{CommandFault}
-use Rattle.vipr_command.proofs.InputLemmas.{of_input}
-use Rattle.vipr_command.proofs.ShowLemmas.{stays}
+use Rattle.vipr_command.specs.Tighten.{EndsAs, Settles, WritesFile, WritesTightened}
+use Rattle.vipr_command.specs.Tighten.{tighten_fault_for}
+use Rattle.vipr_command.specs.{Folder.Files, Folder.begun_for, Known.OfInput, Run.PrintsTightened}
+use Rattle.vipr_command.specs.{Run.Outside, Run.outside_of, declared.ending.Ending.Ending}
+use Rattle.vipr_command.specs.{declared.fault.CommandFault.CommandFault}
+use Rattle.vipr_command.proofs.{InputLemmas.of_input, ShowLemmas.stays}
 
 module _ (P : Profile) (F : Form) (source : Option Input) where
   -- what is known of the text

@@ -1,32 +1,21 @@
 -- What is answered of a certificate that is checked or explained, as a value.
 use Rattle.std.specs.Prelude.{⊤, ◌≡◌, ◌<◌, ◌^◌, ◌++◌, ℕ, Bool, true, false, List, [], length}
 use Rattle.std.specs.Prelude.{Option, Some, Result, Ok, Err}
-use Rattle.vipr_spec.specs.Constraint.{Profile}
-use Rattle.vipr_spec.specs.Input.{Input}
-use Rattle.vipr_spec.specs.Verdict.{IsExplained}
-use Rattle.vipr_bytes.specs.Known.{text_of}
-use Rattle.vipr_bytes.specs.Output.{Output}
-use Rattle.vipr_bytes.specs.declared.write.WriteFailed.{WriteFailed}
-use Rattle.vipr_check.specs.Checks.{ChecksIn}
-use Rattle.vipr_check.specs.Explanation.{explained_text}
-use Rattle.vipr_check.specs.Shown.{detail_of}
-use Rattle.vipr_check.specs.Text.{verdict_status}
-use Rattle.vipr_check.specs.View.{answer_of}
-use Rattle.vipr_check.specs.declared.detail.Detail.{Detail}
+use Rattle.vipr_spec.specs.{Constraint.Profile, Input.Input, Verdict.IsExplained}
+use Rattle.vipr_bytes.specs.{Known.text_of, Output.Output, declared.write.WriteFailed.WriteFailed}
 use Rattle.vipr_check.specs.declared.verdict.Fault.TheVariants.{Read as CheckRead}
-use Rattle.vipr_check.specs.declared.verdict.Fault.{Fault as CheckFault}
 use Rattle.vipr_check.specs.declared.verdict.Fault.TheVariants.{Memory as CheckMemory}
+use Rattle.vipr_check.specs.declared.verdict.Fault.{Fault as CheckFault}
 use Rattle.vipr_check.specs.declared.verdict.Verdict.{Verdict}
+use Rattle.vipr_check.specs.{Checks.ChecksIn, Explanation.explained_text, Shown.detail_of}
+use Rattle.vipr_check.specs.{Text.verdict_status, View.answer_of, declared.detail.Detail.Detail}
 use Rattle.vipr_page.specs.Page.{IsPage}
-use Rattle.vipr_command.specs.Known.{KnownInput, known_by}
-use Rattle.vipr_command.specs.Output.{IsEnding, Stays, Took}
-use Rattle.vipr_command.specs.Text.{answer_lines, sum_asked, verdict_lines}
-use Rattle.vipr_command.specs.declared.answer.Printed.{Printed}
-use Rattle.vipr_command.specs.declared.ending.Ending.{Ending}
-use Rattle.vipr_command.specs.declared.fault.CommandFault.{CommandFault}
 use Rattle.vipr_command.specs.declared.fault.CommandFault.TheVariants.{Memory, Read, Write}
-use Rattle.vipr_command.specs.declared.request.Task.{Task}
-use Rattle.vipr_command.specs.declared.request.Task.TheVariants.{Check}
+use Rattle.vipr_command.specs.{Known.KnownInput, Known.known_by, Output.IsEnding, Output.Stays}
+use Rattle.vipr_command.specs.{Output.Took, Text.answer_lines, Text.sum_asked, Text.verdict_lines}
+use Rattle.vipr_command.specs.{declared.answer.Printed.Printed, declared.ending.Ending.Ending}
+use Rattle.vipr_command.specs.{declared.fault.CommandFault.CommandFault, declared.request.Task.Task}
+use Rattle.vipr_command.specs.{declared.request.Task.TheVariants.Check}
 
 abbrev pub fault_for : CheckFault → CommandFault
 fault_for CheckRead = Read

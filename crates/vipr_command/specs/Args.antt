@@ -1,24 +1,19 @@
 -- The program's command line as clap's parse reads it, and what a command line asks for.
 use Rattle.std.specs.Prelude.{◌≡◌, ◌&&◌, ◌||◌, Bool, true, false, List, [], ◌∷◌, Option, Some, None}
 use Rattle.std.specs.Prelude.{codes, if◌then◌else◌, is_some, option_map}
-use Rattle.std.specs.Option.{option_map_or}
-use Rattle.std.specs.Str.{bytes_eq}
-use Rattle.clap.specs.Words.{App, Kinds, Rule, Text, app_of, fault_of, first_of}
-use Rattle.clap.specs.Words.{new_app, new_rule, rule_of, subcommand_of, takes, with_rule}
-use Rattle.clap.specs.Words.{with_subcommand}
-use Rattle.clap.specs.Kinds.{or_else}
-use Rattle.clap.specs.declared.builder.arg.Arg.{Arg}
-use Rattle.clap.specs.declared.builder.command.Command.{Command}
+use Rattle.std.specs.{Option.option_map_or, Str.bytes_eq}
+use Rattle.clap.specs.Words.{App, Kinds, Rule, Text, app_of, fault_of, first_of, new_app, new_rule}
+use Rattle.clap.specs.Words.{rule_of, subcommand_of, takes, with_rule, with_subcommand}
 use Rattle.clap.specs.declared.builder.command.Command.TheViews.{out-Command as fields_of}
-use Rattle.clap.specs.declared.builder.action.ArgAction.TheVariants.{SetTrue}
-use Rattle.clap.specs.declared.error.ErrorKind.TheVariants.{InvalidValue}
+use Rattle.clap.specs.{Kinds.or_else, declared.builder.action.ArgAction.TheVariants.SetTrue}
+use Rattle.clap.specs.{declared.builder.arg.Arg.Arg, declared.builder.command.Command.Command}
+use Rattle.clap.specs.{declared.error.ErrorKind.TheVariants.InvalidValue}
 use Rattle.vipr_rules.specs.declared.profile.Profile.{Profile}
 use Rattle.vipr_rules.specs.declared.profile.Profile.TheVariants.{One, Two}
 use Rattle.vipr_write.specs.declared.form.Form.{Form}
 use Rattle.vipr_write.specs.declared.form.Form.TheVariants.{Canonical, Compact}
-use Rattle.vipr_command.specs.declared.request.Job.{Job}
-use Rattle.vipr_command.specs.declared.request.Task.{Task}
 use Rattle.vipr_command.specs.declared.request.Task.TheVariants.{Check, Explain, Show, Tighten}
+use Rattle.vipr_command.specs.{declared.request.Job.Job, declared.request.Task.Task}
 
 -- `[FILE]`
 abbrev pub file_rule : Rule

@@ -3,8 +3,7 @@ use Rattle.std.specs.Prelude.{⊤, ◌≡◌, ◌⊎◌, ℕ, Bool, true, false,
 use Rattle.std.specs.Prelude.{None, IfSome, option_map, Result, Ok, Err}
 use Rattle.std.specs.Option.{is_none}
 use Rattle.vipr_spec.specs.Input.{Input}
-use Rattle.vipr_bytes.specs.Output.{Output}
-use Rattle.vipr_bytes.specs.declared.write.WriteFailed.{WriteFailed}
+use Rattle.vipr_bytes.specs.{Output.Output, declared.write.WriteFailed.WriteFailed}
 
 -- what is known of the files of a folder
 pub record Files : Type 0 where

@@ -1,15 +1,11 @@
 -- What is known of an input.
 use Rattle.std.specs.Prelude.{⊤, ◌≡◌, Option, Result}
-use Rattle.vipr_spec.specs.Constraint.{Profile}
-use Rattle.vipr_spec.specs.Input.{Input}
-use Rattle.vipr_spec.specs.Reading.{certificate_read}
 use Rattle.vipr_spec.specs.Verdict.{IsAnswer, IsExplained}
+use Rattle.vipr_spec.specs.{Constraint.Profile, Input.Input, Reading.certificate_read}
 use Rattle.vipr_bytes.specs.Known.{IfKnown, text_of}
-use Rattle.vipr_check.specs.Run.{SaysInDetail, verdict_in}
 use Rattle.vipr_check.specs.View.{IfVerified, IsOfProof, Says}
-use Rattle.vipr_check.specs.declared.detail.Detail.{Detail}
-use Rattle.vipr_check.specs.declared.verdict.Fault.{Fault}
-use Rattle.vipr_check.specs.declared.verdict.Verdict.{Verdict}
+use Rattle.vipr_check.specs.{Run.SaysInDetail, Run.verdict_in, declared.detail.Detail.Detail}
+use Rattle.vipr_check.specs.{declared.verdict.Fault.Fault, declared.verdict.Verdict.Verdict}
 use Rattle.vipr_tighten.specs.Tightens.{KindOfText, any_kind, kind_read}
 use Rattle.vipr_command.specs.Show.{Kind, any_text, text_read}
 

@@ -1,12 +1,9 @@
 -- What a writer took of what was to be printed, and how a command ends.
 use Rattle.std.specs.Prelude.{◌≡◌, ℕ, suc, List, ◌++◌, Option, Some, IfSome, Result, Ok, Err, codes}
-use Rattle.vipr_bytes.specs.Output.{Output}
-use Rattle.vipr_bytes.specs.Written.{Wrote}
-use Rattle.vipr_bytes.specs.declared.write.WriteFailed.{WriteFailed}
-use Rattle.vipr_command.specs.Text.{fault_text}
-use Rattle.vipr_command.specs.declared.ending.Ending.{Ending}
+use Rattle.vipr_bytes.specs.{Output.Output, Written.Wrote, declared.write.WriteFailed.WriteFailed}
 use Rattle.vipr_command.specs.declared.fault.CommandFault.{CommandFault}
 use Rattle.vipr_command.specs.declared.fault.CommandFault.TheVariants.{Memory, Read, Write}
+use Rattle.vipr_command.specs.{Text.fault_text, declared.ending.Ending.Ending}
 
 -- old is the writer's output before, if that is known, and new the one afterwards.
 -- The text was handed to it, with this result.

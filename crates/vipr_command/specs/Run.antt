@@ -1,32 +1,25 @@
 -- What the program does, and what it answers.
 use Rattle.std.specs.Prelude.{⊤, ◌≡◌, ◌≢◌, ◌⊎◌, ◌++◌, ℕ, Bool, true, List, [], Option, Some, None}
 use Rattle.std.specs.Prelude.{Result, Ok, Err, codes, option_map}
-use Rattle.clap.specs.Words.{IsAmong, Text}
-use Rattle.clap.specs.declared.error.ErrorKind.{ErrorKind}
+use Rattle.clap.specs.{Words.IsAmong, Words.Text, declared.error.ErrorKind.ErrorKind}
 use Rattle.clap.specs.declared.error.ErrorKind.TheVariants as kind
-use Rattle.vipr_spec.specs.Constraint.{Profile}
-use Rattle.vipr_spec.specs.Input.{Input}
+use Rattle.vipr_spec.specs.{Constraint.Profile, Input.Input}
 use Rattle.vipr_bytes.specs.Output.{Output}
 use Rattle.vipr_rules.specs.Profile.{profile_of}
 use Rattle.vipr_rules.specs.declared.profile.Profile as rules
 use Rattle.vipr_check.specs.Text.{refusal_text}
 use Rattle.vipr_write.specs.declared.form.Form.{Form}
-use Rattle.vipr_command.specs.Answer.{AnswersTask, Prints}
 use Rattle.vipr_command.specs.Args.{asked_by, command_word, words_fault}
 use Rattle.vipr_command.specs.Folder.{Files, Unchanged, text_held}
-use Rattle.vipr_command.specs.Known.{KnownInput, OfInput}
 use Rattle.vipr_command.specs.Output.{EndsRun, IsEnding, Stays, Took, after_first}
-use Rattle.vipr_command.specs.Show.{ShowsText}
-use Rattle.vipr_command.specs.Tighten.{WritesFile, WritesTightened}
-use Rattle.vipr_command.specs.declared.answer.Printed.{Printed}
-use Rattle.vipr_command.specs.declared.ending.Ending.{Ending}
-use Rattle.vipr_command.specs.declared.fault.CommandFault.{CommandFault}
 use Rattle.vipr_command.specs.declared.fault.CommandFault.TheVariants.{Memory, Read, Write}
-use Rattle.vipr_command.specs.declared.show.Shown.{Shown}
-use Rattle.vipr_command.specs.declared.show.Shown.TheVariants as shown
-use Rattle.vipr_command.specs.declared.request.Job.{Job}
-use Rattle.vipr_command.specs.declared.request.Task.{Task}
 use Rattle.vipr_command.specs.declared.request.Task.TheVariants.{Check, Explain, Show, Tighten}
+use Rattle.vipr_command.specs.{Answer.AnswersTask, Answer.Prints, Known.KnownInput, Known.OfInput}
+use Rattle.vipr_command.specs.{Show.ShowsText, Tighten.WritesFile, Tighten.WritesTightened}
+use Rattle.vipr_command.specs.{declared.answer.Printed.Printed, declared.ending.Ending.Ending}
+use Rattle.vipr_command.specs.{declared.fault.CommandFault.CommandFault, declared.request.Job.Job}
+use Rattle.vipr_command.specs.{declared.request.Task.Task, declared.show.Shown.Shown}
+use Rattle.vipr_command.specs.declared.show.Shown.TheVariants as shown
 
 -- status 0 if the certificate is shown; the line of the refusal and 1 if its text is refused
 abbrev pub IsShownEnding : Shown → Ending → Type 0

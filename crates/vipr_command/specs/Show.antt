@@ -1,18 +1,15 @@
 -- What `show` answers, and what was written then.
 use Rattle.std.specs.Prelude.{⊤, ◌≡◌, ℕ, List, Option, Result, Ok, Err}
-use Rattle.vipr_spec.specs.Certificate.{Certificate}
-use Rattle.vipr_spec.specs.Grammar.{Spells}
 use Rattle.vipr_spec.specs.Reading.{Fault as TextFault, refused, unread}
-use Rattle.vipr_write.specs.Forms.{text_in}
-use Rattle.vipr_write.specs.declared.form.Form.{Form}
+use Rattle.vipr_spec.specs.{Certificate.Certificate, Grammar.Spells}
+use Rattle.vipr_write.specs.{Forms.text_in, declared.form.Form.Form}
 use Rattle.vipr_bytes.specs.Output.{Output}
 use Rattle.vipr_check.specs.declared.verdict.Place.TheVariants.{Byte}
 use Rattle.vipr_check.specs.declared.verdict.Refusal.{Refusal}
 use Rattle.vipr_command.specs.Output.{Took, Stays, after_first}
-use Rattle.vipr_command.specs.declared.fault.CommandFault.{CommandFault}
 use Rattle.vipr_command.specs.declared.fault.CommandFault.TheVariants.{Memory, Read, Write}
-use Rattle.vipr_command.specs.declared.show.Shown.{Shown}
 use Rattle.vipr_command.specs.declared.show.Shown.TheVariants.{Refused, Whole}
+use Rattle.vipr_command.specs.{declared.fault.CommandFault.CommandFault, declared.show.Shown.Shown}
 
 -- What a text may be: that of such a certificate, one with such a refusal, or one whose reading
 -- fails in this case.

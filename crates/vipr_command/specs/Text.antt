@@ -1,15 +1,12 @@
 -- What the program prints of a verdict, and says of a fault
 use Rattle.std.specs.Prelude.{ℕ, List, [], ◌++◌, Bool, true, false, codes, decimal, if◌then◌else◌}
 use Rattle.vipr_spec.specs.Input.{Input}
-use Rattle.vipr_check.specs.Explanation.{explained_text}
-use Rattle.vipr_check.specs.Text.{verdict_text}
-use Rattle.vipr_check.specs.declared.detail.Detail.{Detail}
-use Rattle.vipr_check.specs.declared.verdict.Verdict.{Verdict}
+use Rattle.vipr_check.specs.{Explanation.explained_text, Text.verdict_text}
+use Rattle.vipr_check.specs.{declared.detail.Detail.Detail, declared.verdict.Verdict.Verdict}
 use Rattle.vipr_text.specs.Digest.{hex_digest}
 use Rattle.vipr_command.specs.declared.fault.CommandFault.{CommandFault}
 use Rattle.vipr_command.specs.declared.fault.CommandFault.TheVariants.{Memory, Read, Write}
-use Rattle.vipr_command.specs.declared.request.Task.{Task}
-use Rattle.vipr_command.specs.declared.request.Task.TheVariants.{Check}
+use Rattle.vipr_command.specs.{declared.request.Task.Task, declared.request.Task.TheVariants.Check}
 
 -- the lines of the verdict
 abbrev pub verdict_lines : Verdict → List ℕ

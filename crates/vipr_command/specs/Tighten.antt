@@ -1,20 +1,17 @@
 -- What `tighten` does: how it answers, and what was written then.
 use Rattle.std.specs.Prelude.{◌≡◌, ◌⊎◌, ◌++◌, ℕ, List, Option, Result, Ok, Err, codes}
 use Rattle.vipr_spec.specs.Constraint.{Profile}
-use Rattle.vipr_bytes.specs.Output.{Output}
-use Rattle.vipr_tighten.specs.Text.{outcome_status, outcome_text}
-use Rattle.vipr_bytes.specs.declared.write.WriteFailed.{WriteFailed}
-use Rattle.vipr_tighten.specs.Tightens.{KindOfText, TightensText}
-use Rattle.vipr_write.specs.declared.form.Form.{Form}
-use Rattle.vipr_tighten.specs.declared.outcome.Outcome.{Outcome}
+use Rattle.vipr_bytes.specs.{Output.Output, declared.write.WriteFailed.WriteFailed}
 use Rattle.vipr_tighten.specs.declared.outcome.Outcome.TheVariants.{Tightened, Refused}
 use Rattle.vipr_tighten.specs.declared.outcome.TightenFault.{TightenFault}
+use Rattle.vipr_tighten.specs.{Text.outcome_status, Text.outcome_text, Tightens.KindOfText}
+use Rattle.vipr_tighten.specs.{Tightens.TightensText, declared.outcome.Outcome.Outcome}
+use Rattle.vipr_write.specs.declared.form.Form.{Form}
 use Rattle.vipr_tighten.specs.declared.outcome.TightenFault.TheVariants as tighten
 use Rattle.vipr_command.specs.Folder.{Files, Replaces, Unchanged, begun_for}
-use Rattle.vipr_command.specs.Output.{IsEnding}
-use Rattle.vipr_command.specs.declared.ending.Ending.{Ending}
 use Rattle.vipr_command.specs.declared.fault.CommandFault.{CommandFault}
 use Rattle.vipr_command.specs.declared.fault.CommandFault.TheVariants.{Memory, Read, Write}
+use Rattle.vipr_command.specs.{Output.IsEnding, declared.ending.Ending.Ending}
 
 abbrev pub tighten_fault_for : TightenFault → CommandFault
 tighten_fault_for tighten.Read = Read

@@ -1,9 +1,8 @@
 //! What is answered of a certificate that is checked or explained, as a value.
 ghost use Rattle.std.specs.Prelude.{Ok, false};
 ghost use Rattle.vipr_rules.specs.Profile.{profile_of};
-ghost use Rattle.vipr_command.specs.Answer.{AnswersTask, Prints};
-ghost use Rattle.vipr_command.specs.Known.{OfInput};
 ghost use Rattle.vipr_command.specs.declared.request.Task.TheVariants.{Check, Explain};
+ghost use Rattle.vipr_command.specs.{Answer.AnswersTask, Answer.Prints, Known.OfInput};
 
 use crate::ending::Ending;
 use crate::fault::CommandFault;

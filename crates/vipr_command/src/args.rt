@@ -3,10 +3,9 @@ ghost use Rattle.std.specs.Prelude.{◌≡◌, Some, IfErr, IfOk, IfSome, IsNone
 ghost use Rattle.clap.specs.Words.{FailsBy, app_of, kind_of};
 ghost use Rattle.vipr_command.specs.Args.{IsArgument, IsCommand, app_for, are_accepted, asked_by};
 ghost use Rattle.vipr_command.specs.Args.{asks_for_help, bare, command_word, compact_rule};
-ghost use Rattle.vipr_command.specs.Args.{file_named, file_rule, flag_rule, form_asked};
-ghost use Rattle.vipr_command.specs.Args.{is_set, line, long_rule, out_rule, profile_named};
-ghost use Rattle.vipr_command.specs.Args.{profile_rule, request_of, sum_rule, with_file, with_task};
-ghost use Rattle.vipr_command.specs.Args.{words_fault};
+ghost use Rattle.vipr_command.specs.Args.{file_named, file_rule, flag_rule, form_asked, is_set};
+ghost use Rattle.vipr_command.specs.Args.{line, long_rule, out_rule, profile_named, profile_rule};
+ghost use Rattle.vipr_command.specs.Args.{request_of, sum_rule, with_file, with_task, words_fault};
 ghost use Rattle.vipr_command.specs.declared.request.Task.{Task};
 
 use crate::request::{Job, Task};

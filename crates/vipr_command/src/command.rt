@@ -1,11 +1,9 @@
 //! The whole program, over any folder, source and sinks in place of the files and standard streams.
 ghost use Rattle.std.specs.Prelude.{◌≡◌, ◌≤◌, IfOk, Some, None, false, map};
 ghost use Rattle.clap.specs.Words.{kind_of};
-ghost use Rattle.vipr_command.specs.Args.{are_accepted};
-ghost use Rattle.vipr_command.specs.Folder.{text_held};
-ghost use Rattle.vipr_command.specs.Known.{OfInput};
 ghost use Rattle.vipr_command.specs.Run.{AnswersError, AnswersWords, DoesJob, FailsToRead};
 ghost use Rattle.vipr_command.specs.Run.{RunsOver, SaysNoMore, outside_of};
+ghost use Rattle.vipr_command.specs.{Args.are_accepted, Folder.text_held, Known.OfInput};
 
 use crate::answer::{answer_to, print_answer};
 use crate::args::job;

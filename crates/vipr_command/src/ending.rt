@@ -2,8 +2,7 @@
 ghost use Rattle.std.specs.Prelude.{◌≡◌, ◌++◌, [], codes};
 ghost use Rattle.vipr_check.specs.Text.{refusal_text};
 ghost use Rattle.vipr_tighten.specs.Text.{outcome_status, outcome_text};
-ghost use Rattle.vipr_command.specs.Output.{IsEnding, TellsLine};
-ghost use Rattle.vipr_command.specs.Text.{fault_text};
+ghost use Rattle.vipr_command.specs.{Output.IsEnding, Output.TellsLine, Text.fault_text};
 
 use crate::fault::CommandFault;
 use crate::line::{Line, fault_line, outcome_line, refusal_line, say};

@@ -1,8 +1,7 @@
 //! Why a command is cut short.
 ghost use Rattle.std.specs.Prelude.{◌≡◌};
-ghost use Rattle.vipr_command.specs.Answer.{fault_for};
-ghost use Rattle.vipr_command.specs.Tighten.{tighten_fault_for};
 ghost use Rattle.vipr_command.specs.declared.fault.CommandFault.TheVariants.{Memory, Write};
+ghost use Rattle.vipr_command.specs.{Answer.fault_for, Tighten.tighten_fault_for};
 
 use std::alloc::AllocError;
 use vipr_bytes::WriteFailed;

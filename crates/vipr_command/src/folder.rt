@@ -1,7 +1,5 @@
 //! Files by their names.
-ghost use Rattle.std.specs.Prelude.{◌≡◌, IfOk, IfSome};
-ghost use Rattle.std.specs.List.{list_any};
-ghost use Rattle.std.specs.Str.{bytes_eq};
+ghost use Rattle.std.specs.{List.list_any, Prelude.◌≡◌, Prelude.IfOk, Prelude.IfSome, Str.bytes_eq};
 ghost use Rattle.vipr_command.specs.Folder.{Files, IsFileOf, Replaces, Unchanged, begun_for};
 ghost use Rattle.vipr_command.specs.Folder.{two_files};
 

@@ -3,8 +3,7 @@ ghost use Rattle.std.specs.Prelude.{◌≡◌, ◌+◌, ◌≤◌, ◌++◌, cod
 ghost use Rattle.arrayvec.specs.ArrayString.{array_string_len};
 ghost use Rattle.vipr_check.specs.Text.{place_text, refusal_text};
 ghost use Rattle.vipr_tighten.specs.Text.{outcome_text};
-ghost use Rattle.vipr_command.specs.Output.{TellsLine};
-ghost use Rattle.vipr_command.specs.Text.{fault_text};
+ghost use Rattle.vipr_command.specs.{Output.TellsLine, Text.fault_text};
 
 use crate::fault::CommandFault;
 use arrayvec::ArrayString;

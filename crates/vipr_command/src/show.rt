@@ -1,9 +1,7 @@
 //! Shows a certificate: writes its text in a form.
 ghost use Rattle.vipr_bytes.specs.Known.{IfWhole};
-ghost use Rattle.vipr_command.specs.Known.{OfInput};
-ghost use Rattle.vipr_command.specs.Output.{CountsWriteFaults};
-ghost use Rattle.vipr_command.specs.Run.{PrintsText};
 ghost use Rattle.vipr_command.specs.Show.{ShowsText, WritesText, text_spelling};
+ghost use Rattle.vipr_command.specs.{Known.OfInput, Output.CountsWriteFaults, Run.PrintsText};
 
 use crate::ending::Ending;
 use crate::fault::CommandFault;

@@ -1,9 +1,8 @@
 //! Tightens a certificate: writes what its proof needs.
 ghost use Rattle.std.specs.Prelude.{option_map};
 ghost use Rattle.vipr_rules.specs.Profile.{profile_of};
-ghost use Rattle.vipr_command.specs.Known.{OfInput};
-ghost use Rattle.vipr_command.specs.Run.{PrintsTightened, outside_of};
 ghost use Rattle.vipr_command.specs.Tighten.{Settles, WritesFile, WritesTightened};
+ghost use Rattle.vipr_command.specs.{Known.OfInput, Run.PrintsTightened, Run.outside_of};
 
 use crate::ending::Ending;
 use crate::fault::CommandFault;

@@ -1,24 +1,19 @@
 -- What is answered of a derivation, by what the rule of its reason says
 use Rattle.std.proofs.Common.{◌≡◌, ℕ, Some, Ok, Err, Result, Option, refl, sym, ◌∙◌, ap, subst, inl}
 use Rattle.std.proofs.Common.{inr}
-use Rattle.std.specs.Prelude.{IsTrue, IfOk}
 use Rattle.std.specs.FinSet.{FinSet, contains}
-use Rattle.std.specs.Ordering.{nat_cmp}
-use Rattle.vipr_spec.specs.Fraction.{ℚ}
+use Rattle.std.specs.{Ordering.nat_cmp, Prelude.IsTrue, Prelude.IfOk}
 use Rattle.vipr_spec.specs.Constraint.{Profile, Condition, Point, IsTrueAt}
 use Rattle.vipr_spec.specs.Certificate.{Problem, variables, Certificate, is_assumption}
-use Rattle.vipr_spec.specs.Soundness.{IsAdmittedBy, IsBestValue}
+use Rattle.vipr_spec.specs.{Fraction.ℚ, Soundness.IsAdmittedBy, Soundness.IsBestValue}
 use Rattle.vipr_linear.specs.Constraint.{condition_of}
 use Rattle.vipr_cert.specs.Items.{reason_of, derivation_of}
 use Rattle.vipr_cert.specs.declared.items.Derivation.{Derivation as Step}
-use Rattle.vipr_table.specs.Table.{Table}
-use Rattle.vipr_table.specs.History.{IsTableOf}
-use Rattle.vipr_table.specs.declared.rows.Entry.{Entry}
-use Rattle.vipr_rules.specs.declared.error.RuleError.{RuleError}
+use Rattle.vipr_table.specs.{History.IsTableOf, Table.Table, declared.rows.Entry.Entry}
 use Rattle.vipr_rules.specs.declared.error.RuleError.TheVariants.{Memory}
-use Rattle.vipr_rules.specs.Context.{IsSetByReason}
 use Rattle.vipr_rules.specs.Soundness.{HasSoundRows, IsTrueUnder}
 use Rattle.vipr_rules.specs.Apply.{IsRuledBy, Applies, entry_resting_on, answer_with_entry}
+use Rattle.vipr_rules.specs.{Context.IsSetByReason, declared.error.RuleError.RuleError}
 use Rattle.vipr_rules.proofs.StepLemmas.{kept_entry, keeps_sound, refusal, known_is_not_memory}
 use Rattle.vipr_rules.proofs.StepLemmas.{free_of_all}
 

@@ -1,17 +1,13 @@
 -- The tightest bounds of a value, constraint by constraint
 use Rattle.std.proofs.Common.{◌≡◌, ℕ, ◌+◌, Bool, true, false, cond, MatchBool, List, pos, sym}
 use Rattle.std.proofs.Common.{subst, inl, inr, arith}
+use Rattle.std.proofs.{lemmas.Bool.cases_lt, lemmas.Int.ints}
 use Rattle.std.specs.Prelude.{◌↔◌, ◌*ℤ◌, ◌<ℤ◌}
-use Rattle.std.specs.declared.cmp.Ordering.{Ordering}
 use Rattle.std.specs.declared.cmp.Ordering.TheVariants.{Less, Equal, Greater}
 use Rattle.std.specs.Ordering.{MatchOrdering, is_lt, ord_max, ord_min}
-use Rattle.std.specs.Cmp.{int_ranks}
-use Rattle.std.proofs.lemmas.Bool.{cases_lt}
-use Rattle.std.proofs.lemmas.Int.{ints}
-use Rattle.vipr_spec.specs.Fraction.{ℚ, ◌≤ℚ◌}
+use Rattle.std.specs.{Cmp.int_ranks, declared.cmp.Ordering.Ordering}
 use Rattle.vipr_spec.specs.Constraint.{Constraint, Row, Compares}
-use Rattle.vipr_spec.specs.Certificate.{minimum}
-use Rattle.vipr_spec.specs.FractionOrder.{cmp_ℚ}
+use Rattle.vipr_spec.specs.{Certificate.minimum, Fraction.ℚ, Fraction.◌≤ℚ◌, FractionOrder.cmp_ℚ}
 use Rattle.vipr_spec.proofs.Laws.{as_good_trans, le_of_eq_ℚ, same_ℚ}
 use Rattle.vipr_rules.specs.declared.bounds.Bounds.{Bounds}
 use Rattle.vipr_rules.specs.Columns.{nth, HasRow, LiesWithin, AreBounds}

@@ -4,26 +4,22 @@ use Rattle.std.proofs.Common.{◌≡◌, ◌≢◌, ℕ, Bool, true, false, not,
 use Rattle.std.proofs.Common.{◌++◌, Option, Some, None, refl, sym, ap, ap₂, ◌∙◌, subst, inl, inr}
 use Rattle.std.proofs.Common.{arith}
 use Rattle.std.specs.Prelude.{◌↔◌, ◌⊎◌, IsTrue, Result, Ok, Err, IfOk, OnOk, MatchResult}
-use Rattle.std.specs.Result.{result_and}
-use Rattle.std.proofs.lemmas.Bool.Decides.{nat_tests}
-use Rattle.std.specs.Cmp.{nat_cmp_total}
-use Rattle.std.specs.Ordering.{nat_cmp}
 use Rattle.std.specs.FinSet.{FinSet, contains, union, remove, contains-remove}
+use Rattle.std.specs.{Cmp.nat_cmp_total, Ordering.nat_cmp, Result.result_and}
+use Rattle.std.proofs.lemmas.Bool.Decides.{nat_tests}
 use Rattle.vipr_spec.specs.Constraint.{Profile, Condition, condition, Ints, IsSplit, Dominates}
 use Rattle.vipr_spec.specs.Certificate.{Certificate, Derivation, Reason, asm, lin, rnd, uns, sol}
 use Rattle.vipr_spec.specs.Certificate.{constraint_at, reason_at, is_assumption}
 use Rattle.vipr_spec.specs.Causes as cause
 use Rattle.vipr_spec.specs.Steps.{StepTest, assumed, split, by_constraint, step_tests, index, both}
 use Rattle.vipr_spec.specs.Steps.{compared}
-use Rattle.vipr_linear.specs.Constraint.{condition_of}
-use Rattle.vipr_linear.specs.declared.constraint.Constraint.{Constraint}
-use Rattle.vipr_rules.specs.declared.branches.Branch.{Branch}
+use Rattle.vipr_linear.specs.{Constraint.condition_of, declared.constraint.Constraint.Constraint}
 use Rattle.vipr_rules.specs.declared.error.RuleError.{RuleError}
 use Rattle.vipr_rules.specs.declared.error.RuleError.TheVariants.{NotAssumption, Memory}
-use Rattle.vipr_rules.specs.declared.context.Known.{Known}
 use Rattle.vipr_rules.specs.Context.{IsKnownAs, IsSetWithout, IsSetByReason, set_of, is_assumed}
 use Rattle.vipr_rules.specs.Apply.{index_tests, free_tests, PassesTestsIn, StopsIn, IsNotDominated}
 use Rattle.vipr_rules.specs.Apply.{IsRuledBy, shown_by}
+use Rattle.vipr_rules.specs.{declared.branches.Branch.Branch, declared.context.Known.Known}
 use Rattle.vipr_table.proofs.Laws.{tied_numbers}
 use Rattle.vipr_rules.proofs.StepLemmas.{stops_first, stops_second, passes_both, passes_one}
 use Rattle.vipr_rules.proofs.StepLemmas.{stops_one}

@@ -3,16 +3,14 @@ use Rattle.std.proofs.Common.{◌≡◌, ◌≢◌, List, [], ◌∷◌, ◌++�
 use Rattle.std.proofs.Common.{IsSomeAnd, Contains, option_map, refl, sym, ap, subst, inl, inr}
 use Rattle.std.specs.Prelude.{◌↔◌}
 use Rattle.std.proofs.lemmas.List.Elements.{All-contains}
-use Rattle.vipr_spec.specs.Fraction.{ℚ}
 use Rattle.vipr_spec.specs.Constraint.{Profile, one, two, Condition, Row, at, Dominates, IsWholeRow}
 use Rattle.vipr_spec.specs.Certificate.{Named, Problem, Claim, infeasible, range, objective_at}
 use Rattle.vipr_spec.specs.Certificate.{objective_constraint, stays, IsAsGood, dual_bound}
 use Rattle.vipr_spec.specs.Certificate.{MeetsBound, MeetsDual, NeedsGoal, MeetsPrimal}
 use Rattle.vipr_spec.specs.Tests.{goal_needed_by, finite_primal}
-use Rattle.vipr_spec.specs.Soundness.{IsBestValue}
+use Rattle.vipr_spec.specs.{Fraction.ℚ, Soundness.IsBestValue}
 use Rattle.vipr_spec.proofs.Laws.{as_good_trans, best_first}
-use Rattle.vipr_linear.specs.Constraint.{condition_of}
-use Rattle.vipr_linear.specs.declared.constraint.Constraint.{Constraint}
+use Rattle.vipr_linear.specs.{Constraint.condition_of, declared.constraint.Constraint.Constraint}
 use Rattle.vipr_rules.specs.declared.claim.Target.{Target}
 use Rattle.vipr_rules.specs.declared.claim.Target.TheVariants.{Bound, WholeBound, Nothing}
 use Rattle.vipr_rules.specs.Claim.{MeetsWhole, IsMetBy, target_bound, IsTargetIn}

@@ -2,40 +2,33 @@
 use Rattle.std.proofs.Common.{◌≡◌, ◌≢◌, ℕ, zero, suc, ◌+◌, ◌<◌, ◌≤◌, ◌⊎◌, inl, inr, List, [], ◌∷◌}
 use Rattle.std.proofs.Common.{◌++◌, length, get_or, map, replicate, All, Vec, arith, refl, sym, ◌∙◌}
 use Rattle.std.proofs.Common.{ap, ap₂, subst, subst₂, add-one, nat_cmp, Bool, true}
-use Rattle.std.specs.Prelude.{slice_set, Result, Ok, Err, IsOk, IsErr, OnOk}
-use Rattle.std.specs.Result.{is_ok}
-use Rattle.std.specs.Global.{Global}
-use Rattle.std.specs.FinMap.{empty, entries, len-entries, len-empty}
-use Rattle.std.proofs.lemmas.Bool.{cases_eq, cases_lt}
 use Rattle.std.proofs.lemmas.List.{get_or-set_same, get_or-set_other, get_or_default, get_or-map}
 use Rattle.std.proofs.lemmas.List.{get_or_append_left, get_or_push, length_push, length-set}
 use Rattle.std.proofs.lemmas.List.{length-map, map-set, get_or_past, get_or-replicate}
 use Rattle.std.proofs.lemmas.List.{length-replicate}
+use Rattle.std.proofs.{lemmas.Bool.cases_eq, lemmas.Bool.cases_lt, lemmas.Simd.map-map}
+use Rattle.std.specs.Prelude.{slice_set, Result, Ok, Err, IsOk, IsErr, OnOk}
+use Rattle.std.specs.FinMap.{empty, entries, len-entries, len-empty}
+use Rattle.std.specs.{Global.Global, Result.is_ok}
 use Rattle.vipr_spec.specs.Fraction.{ℚ, zero_ℚ, ◌+ℚ◌, ◌*ℚ◌, IsBounded}
 use Rattle.vipr_spec.specs.Constraint.{Constraint, Row, Point, at, value, ValueFits, NamesBelow}
 use Rattle.vipr_spec.specs.Constraint.{Compares, equal}
-use Rattle.vipr_spec.specs.MoreEntries.{TermFits}
+use Rattle.vipr_spec.specs.Certificate.{Problem, variables}
+use Rattle.vipr_spec.specs.{MoreEntries.TermFits, Shape.CanWriteProblem}
 use Rattle.vipr_spec.proofs.Laws.{nothing_more, sum_bounded, value_gap, zero_bounded, add-zero_ℚ}
 use Rattle.vipr_spec.proofs.Laws.{zero-mul_ℚ, mul-zero_ℚ, zero_or_not}
-use Rattle.vipr_linear.specs.Accumulator.{with_term}
-use Rattle.vipr_linear.specs.Row.{RisesFrom}
-use Rattle.vipr_linear.specs.Constraint.{constraint_of}
 use Rattle.vipr_linear.specs.declared.constraint.Constraint.{Constraint as Item}
+use Rattle.vipr_linear.specs.{Accumulator.with_term, Constraint.constraint_of, Row.RisesFrom}
 use Rattle.vipr_linear.proofs.Laws.{coefficient, coefficient_at, absent, at_place, names_known}
-use Rattle.vipr_cert.specs.declared.items.Named.{Named}
-use Rattle.std.proofs.lemmas.Simd.{map-map}
+use Rattle.vipr_cert.specs.{Items.named_of, declared.items.Named.Named}
 use Rattle.vipr_spec.specs.Certificate as is
-use Rattle.vipr_spec.specs.Certificate.{Problem, variables}
-use Rattle.vipr_spec.specs.Shape.{CanWriteProblem}
-use Rattle.vipr_cert.specs.Items.{named_of}
 use Rattle.vipr_rules.specs.Solution.{PassesAll, tests_at, tests_below}
-use Rattle.vipr_rules.proofs.SolutionLemmas.{TrueUpTo, true_next, all_true, given_below}
 use Rattle.vipr_rules.specs.declared.bounds.Bounds.{Bounds}
-use Rattle.vipr_rules.proofs.ValueLemmas.{value_same, fits_same}
 use Rattle.vipr_rules.specs.Columns.{given_in, nth, given_of, OccursFrom, HasRow, IsPlace}
 use Rattle.vipr_rules.specs.Columns.{ArePlaces, column_at, AreColumns, IsSummed, IsCounted, AreSums}
-use Rattle.vipr_rules.specs.Columns.{AreFalseAtZero, IsMet, AreMet, LiesWithin}
-use Rattle.vipr_rules.specs.Columns.{AreBounds}
+use Rattle.vipr_rules.specs.Columns.{AreFalseAtZero, IsMet, AreMet, LiesWithin, AreBounds}
+use Rattle.vipr_rules.proofs.SolutionLemmas.{TrueUpTo, true_next, all_true, given_below}
+use Rattle.vipr_rules.proofs.ValueLemmas.{value_same, fits_same}
 
 -- ---- places of lists
 pub there : {A : Type 0} → (xs : List A) (k : ℕ) (d x : A) → k < length xs → x ≡ get_or xs k x

@@ -1,24 +1,18 @@
 -- What is computed of a sum: the sum itself, or its rounding, and the tests of it.
-use Rattle.std.proofs.Common.{◌≡◌, ℕ, List, [], ◌∷◌, refl}
-use Rattle.std.proofs.Common.{inl, inr}
+use Rattle.std.proofs.Common.{◌≡◌, ℕ, List, [], ◌∷◌, refl, inl, inr}
 use Rattle.std.specs.Prelude.{◌⊎◌, Result, Ok, Err, MatchResult}
-use Rattle.std.specs.Result.{result_and}
-use Rattle.std.specs.FinSet.{FinSet}
-use Rattle.std.specs.Ordering.{nat_cmp}
-use Rattle.vipr_spec.specs.Fraction.{ℚ}
+use Rattle.std.specs.{FinSet.FinSet, Ordering.nat_cmp, Result.result_and}
 use Rattle.vipr_spec.specs.Constraint.{Condition, Profile, Point, Ints, condition, IsTrueAt}
-use Rattle.vipr_spec.specs.Certificate.{Certificate, Derivation}
 use Rattle.vipr_spec.specs.Steps.{sum_tests, step_tests, by_sum, roundable, by_rounding, IsSum}
+use Rattle.vipr_spec.specs.{Certificate.Certificate, Certificate.Derivation, Fraction.ℚ}
 use Rattle.vipr_spec.proofs.Laws.{IsWholePoint, dominates_true, rounded_true, whole_value}
-use Rattle.vipr_linear.specs.Constraint.{condition_of}
-use Rattle.vipr_linear.specs.declared.constraint.Constraint.{Constraint}
-use Rattle.vipr_rules.specs.declared.error.RuleError.{RuleError}
-use Rattle.vipr_rules.specs.declared.sum.Computed.{Computed}
+use Rattle.vipr_linear.specs.{Constraint.condition_of, declared.constraint.Constraint.Constraint}
 use Rattle.vipr_rules.specs.declared.sum.Computed.TheVariants.{Sum, Rounding}
 use Rattle.vipr_rules.specs.declared.error.RuleError.TheVariants.{Memory}
 use Rattle.vipr_rules.specs.Context.{IsSetOfAll, IsSetByReason}
-use Rattle.vipr_rules.specs.Apply.{PassesTestsIn, StopsIn, IsRuledBy, free_tests}
-use Rattle.vipr_rules.specs.Apply.{reason_by, computed_tests, DominatesBy}
+use Rattle.vipr_rules.specs.Apply.{PassesTestsIn, StopsIn, IsRuledBy, free_tests, reason_by}
+use Rattle.vipr_rules.specs.Apply.{computed_tests, DominatesBy}
+use Rattle.vipr_rules.specs.{declared.error.RuleError.RuleError, declared.sum.Computed.Computed}
 use Rattle.vipr_rules.proofs.StepLemmas.{stops_first, stops_second, passes_both, dominated}
 use Rattle.vipr_rules.proofs.RoundLemmas.{sum_rounded}
 

@@ -2,12 +2,9 @@
 use Rattle.std.proofs.Common.{◌≡◌, ℕ, zero, suc, ◌<◌, ◌≤◌, true, ◌&&◌, ◌||◌, nat_lt, nat_le, List}
 use Rattle.std.proofs.Common.{[], ◌∷◌, ◌++◌, length, map, get_or, slice_index_or, Option, Some}
 use Rattle.std.proofs.Common.{None, is_some, Bor, refl, sym, ap, ap₂, ◌∙◌, arith}
-use Rattle.std.specs.Prelude.{IsTrue}
+use Rattle.std.proofs.{lemmas.Bool.Decides.nat_tests, lemmas.List.length-map, lemmas.Simd.map-map}
+use Rattle.std.specs.{Ordering.nat_cmp, Prelude.IsTrue}
 use Rattle.std.specs.FinSet as set
-use Rattle.std.specs.Ordering.{nat_cmp}
-use Rattle.std.proofs.lemmas.Bool.Decides.{nat_tests}
-use Rattle.std.proofs.lemmas.Simd.{map-map}
-use Rattle.std.proofs.lemmas.List.{length-map}
 use Rattle.vipr_spec.specs.Constraint.{Profile, condition}
 use Rattle.vipr_spec.specs.Steps.{earlier, live, index}
 use Rattle.vipr_spec.specs.Certificate.{Certificate, Derivation, last_at, is_assumption, lasts_to}
@@ -15,12 +12,10 @@ use Rattle.vipr_spec.specs.Certificate.{is_live, count}
 use Rattle.vipr_spec.proofs.Laws.{reason_given, constraints_listed, lasts_listed, rests_given}
 use Rattle.vipr_linear.specs.Constraint.{constraint_of, condition_of}
 use Rattle.vipr_linear.specs.declared.constraint.Constraint.{Constraint}
-use Rattle.vipr_cert.specs.declared.items.Named.{Named}
-use Rattle.vipr_cert.specs.Items.{named_of}
-use Rattle.vipr_table.specs.declared.rows.Entry.{Entry}
-use Rattle.vipr_rules.specs.declared.context.Known.TheVariants.{Given, Derived}
-use Rattle.vipr_table.specs.Table.{Table, entry_at}
+use Rattle.vipr_cert.specs.{Items.named_of, declared.items.Named.Named}
 use Rattle.vipr_table.specs.History.{is_derived, IsTableOf}
+use Rattle.vipr_table.specs.{Table.Table, Table.entry_at, declared.rows.Entry.Entry}
+use Rattle.vipr_rules.specs.declared.context.Known.TheVariants.{Given, Derived}
 use Rattle.vipr_rules.specs.declared.error.RuleError.TheVariants.{NotEarlier, Dropped}
 use Rattle.vipr_rules.specs.Context.{IsKnownAs}
 use Rattle.vipr_rules.specs.Apply.{index_tests, PassesTestsIn, StopsIn}

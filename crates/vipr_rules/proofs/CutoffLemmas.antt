@@ -2,22 +2,17 @@
 use Rattle.std.proofs.Common.{◌≡◌, ◌<◌, length, List, [], ◌∷◌, Some, None, All, refl, sym, ap, ap₂}
 use Rattle.std.proofs.Common.{◌∙◌, subst, inl, inr, arith}
 use Rattle.std.specs.Prelude.{◌⊎◌, Result, Ok, Err, MatchResult}
-use Rattle.std.specs.Result.{result_and}
-use Rattle.std.specs.FinSet.{FinSet}
-use Rattle.std.specs.Ordering.{nat_cmp}
-use Rattle.vipr_spec.specs.Fraction.{ℚ}
+use Rattle.std.specs.{FinSet.FinSet, Ordering.nat_cmp, Result.result_and}
 use Rattle.vipr_spec.specs.Constraint.{Profile, Row, at, Condition, condition, Dominates, Compares}
 use Rattle.vipr_spec.specs.Certificate.{Named, Certificate, Derivation, Direction, minimum, maximum}
 use Rattle.vipr_spec.specs.Certificate.{objective_at, objective_constraint, reaches, IsAsGood, sol}
-use Rattle.vipr_spec.specs.Soundness.{IsBestValue}
 use Rattle.vipr_spec.specs.Steps.{listed, by_cutoff, step_tests, nothing, compared}
+use Rattle.vipr_spec.specs.{Fraction.ℚ, Soundness.IsBestValue}
 use Rattle.vipr_spec.proofs.Laws.{cuts_off}
-use Rattle.vipr_linear.specs.Constraint.{condition_of}
-use Rattle.vipr_linear.specs.declared.constraint.Constraint.{Constraint}
-use Rattle.vipr_rules.specs.declared.error.RuleError.{RuleError}
+use Rattle.vipr_linear.specs.{Constraint.condition_of, declared.constraint.Constraint.Constraint}
 use Rattle.vipr_rules.specs.declared.error.RuleError.TheVariants.{NoSolution, Memory}
-use Rattle.vipr_rules.specs.Context.{IsSetByReason}
 use Rattle.vipr_rules.specs.Apply.{StopsIn, PassesTestsIn, IsNotDominated, IsRuledBy}
+use Rattle.vipr_rules.specs.{Context.IsSetByReason, declared.error.RuleError.RuleError}
 
 none_below : (ss : List (Named Row)) → ss ≡ [] → ¬ (0 < length ss)
 none_below ss e h = let n = ap length e in omega (arith, n)

@@ -2,19 +2,16 @@
 use Rattle.std.proofs.Common.{◌≡◌, ℕ, zero, suc, ◌+◌, ◌-◌, ◌<◌, ◌≤◌, true, false, List, [], ◌∷◌}
 use Rattle.std.proofs.Common.{◌++◌, length, length-drop, take, drop, get_or, Option, Some, None}
 use Rattle.std.proofs.Common.{refl, sym, ap, ◌∙◌, subst, append_assoc, inl, inr, arith}
-use Rattle.std.specs.List.{flat_map}
-use Rattle.std.proofs.Math.Seq.{take-suc, take-length}
 use Rattle.std.proofs.lemmas.List.{append-nil, take-append-drop, length-take-le}
-use Rattle.std.proofs.lemmas.Grind.{flat_map-append}
-use Rattle.vipr_spec.specs.Fraction.{ℚ}
+use Rattle.std.proofs.{Math.Seq.take-suc, Math.Seq.take-length, lemmas.Grind.flat_map-append}
+use Rattle.std.specs.{List.flat_map, Prelude.if◌then◌else◌}
 use Rattle.vipr_spec.specs.Constraint.{condition, Profile}
 use Rattle.vipr_spec.specs.Certificate.{Certificate, Derivation, entries}
-use Rattle.vipr_rules.specs.declared.error.RuleError.{RuleError}
-use Rattle.vipr_rules.specs.Apply.{PassesTestsIn, StopsIn, SumStops, shown_by}
-use Rattle.std.specs.Prelude.{if◌then◌else◌}
-use Rattle.vipr_spec.specs.Reading.{is_nonzero}
 use Rattle.vipr_spec.specs.Steps.{PassesStep, StepTest, earlier, live, suitable, fitting}
 use Rattle.vipr_spec.specs.Steps.{FirstFailing, reference_tests, entry_tests, position}
+use Rattle.vipr_spec.specs.{Fraction.ℚ, Reading.is_nonzero}
+use Rattle.vipr_rules.specs.declared.error.RuleError.{RuleError}
+use Rattle.vipr_rules.specs.Apply.{PassesTestsIn, StopsIn, SumStops, shown_by}
 use Rattle.vipr_spec.proofs.Laws.{failing_first, failing_second, failing_parts}
 
 pub entry_tests-append : (before xs ys : List (ℕ × ℚ))

@@ -4,8 +4,7 @@ use Rattle.vipr_spec.specs.Constraint.{at, NamesBelow, Point, IsTrueAt, conditio
 use Rattle.vipr_spec.specs.Shape.{ConstraintShape}
 use Rattle.vipr_linear.specs.declared.constraint.Constraint.{Constraint}
 use Rattle.vipr_linear.specs.Constraint.{constraint_of, condition_of}
-use Rattle.vipr_cert.specs.declared.items.Named.{Named}
-use Rattle.vipr_cert.specs.Items.{named_of}
+use Rattle.vipr_cert.specs.{Items.named_of, declared.items.Named.Named}
 use Rattle.vipr_cert.proofs.Laws.{each_from}
 
 -- constraints that keep the limits

@@ -1,11 +1,9 @@
 -- Which assumptions a sum has brought so far.
 use Rattle.std.proofs.Common.{◌≡◌, ℕ, ◌⊎◌, Bool, true, false, ◌||◌, refl, sym, ◌∙◌, ap, subst}
 use Rattle.std.proofs.Common.{inl, inr}
-use Rattle.std.specs.Prelude.{IsTrue}
-use Rattle.std.specs.Cmp.{nat_cmp_total}
-use Rattle.std.specs.Ordering.{nat_cmp}
-use Rattle.std.specs.FinSet.{FinSet, contains, union, empty, same_set}
-use Rattle.std.specs.FinSet.{contains-union, contains-empty, nat_cmp-IsAntisymmetric}
+use Rattle.std.specs.FinSet.{FinSet, contains, union, empty, same_set, contains-union}
+use Rattle.std.specs.FinSet.{contains-empty, nat_cmp-IsAntisymmetric}
+use Rattle.std.specs.{Cmp.nat_cmp_total, Ordering.nat_cmp, Prelude.IsTrue}
 use Rattle.vipr_table.specs.Unions.{union_so_far, has_noted, NotesAtMost}
 use Rattle.vipr_table.specs.declared.assumptions.union.Union.{Union}
 use Rattle.vipr_rules.specs.Context.{AreJoined}

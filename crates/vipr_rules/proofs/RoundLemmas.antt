@@ -9,9 +9,8 @@ use Rattle.vipr_spec.specs.Causes as cause
 use Rattle.vipr_spec.specs.Steps.{PassesStep, roundable, by_rounding, sum, compared, IsSum}
 use Rattle.vipr_spec.proofs.Laws.{one_sense}
 use Rattle.vipr_linear.specs.Constraint.{sense_of, condition_of}
-use Rattle.vipr_linear.specs.Rounding.{IsRounding}
-use Rattle.vipr_linear.specs.declared.constraint.Constraint.{Constraint}
 use Rattle.vipr_linear.specs.declared.rounding.Rounded.TheVariants.{Row}
+use Rattle.vipr_linear.specs.{Rounding.IsRounding, declared.constraint.Constraint.Constraint}
 use Rattle.vipr_rules.specs.declared.error.RuleError.{RuleError}
 use Rattle.vipr_rules.specs.declared.error.RuleError.TheVariants.{Memory}
 use Rattle.vipr_rules.specs.Apply.{StopsIn, PassesTestsIn, IsNotDominated, shown_by}

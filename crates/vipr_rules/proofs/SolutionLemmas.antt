@@ -2,27 +2,22 @@
 use Rattle.std.proofs.Common.{◌≡◌, ℕ, zero, suc, ◌+◌, ◌<◌, ◌≤◌, Bool, true, false, cond, filter}
 use Rattle.std.proofs.Common.{List, [], ◌∷◌, ◌++◌, length, take, drop, map, get_or, Option, Some}
 use Rattle.std.proofs.Common.{None, refl, sym, ap, ◌∙◌, subst, inl, inr, arith}
-use Rattle.std.specs.List.{flat_map, range_with_len}
-use Rattle.std.specs.FinSet.{contains}
-use Rattle.std.proofs.lemmas.Bool.{cases_eq}
 use Rattle.std.proofs.lemmas.List.{append-nil, take-append-drop, take_all, take_more, get_or-map}
 use Rattle.std.proofs.lemmas.List.Concat.{flat_map-append}
 use Rattle.std.proofs.lemmas.List.FromFn.{length-range_with_len, get_or-range_with_len}
-use Rattle.std.proofs.Math.ListN.{length-map}
-use Rattle.vipr_spec.specs.Fraction.{ℚ, IsWhole}
+use Rattle.std.proofs.{Math.ListN.length-map, lemmas.Bool.cases_eq}
+use Rattle.std.specs.{FinSet.contains, List.flat_map, List.range_with_len}
 use Rattle.vipr_spec.specs.Constraint.{Row, at, IsInteger, NamesBelow}
-use Rattle.vipr_spec.specs.Certificate as is
 use Rattle.vipr_spec.specs.Certificate.{Problem, variables, integer_variables}
 use Rattle.vipr_spec.specs.Shape.{CanWriteProblem, ConstraintShape}
 use Rattle.vipr_spec.specs.Tests.{not_whole as shown, name_at, SolutionTest, whole_at}
 use Rattle.vipr_spec.specs.Tests.{objective_fits, given_at, PassesSolution, solution_tests}
-use Rattle.vipr_spec.specs.Steps.{FirstFailing}
+use Rattle.vipr_spec.specs.{Fraction.ℚ, Fraction.IsWhole, Steps.FirstFailing}
+use Rattle.vipr_spec.specs.Certificate as is
 use Rattle.vipr_spec.proofs.Laws.{failing_first, failing_second}
-use Rattle.vipr_linear.specs.Constraint.{constraint_of}
 use Rattle.vipr_linear.specs.declared.constraint.Constraint.{Constraint}
-use Rattle.vipr_cert.specs.declared.items.Named.{Named}
-use Rattle.vipr_cert.specs.Items.{named_of}
-use Rattle.vipr_linear.specs.Values.{AreWhole, IsFirstFractional}
+use Rattle.vipr_linear.specs.{Constraint.constraint_of, Values.AreWhole, Values.IsFirstFractional}
+use Rattle.vipr_cert.specs.{Items.named_of, declared.items.Named.Named}
 use Rattle.vipr_rules.specs.declared.solution.SolutionError.{SolutionError}
 use Rattle.vipr_rules.specs.declared.solution.SolutionError.TheVariants.{NotWhole}
 use Rattle.vipr_rules.specs.Solution.{test_of, PassesAll, FailsBy, tests_at, tests_below}

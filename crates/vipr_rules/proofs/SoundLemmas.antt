@@ -1,16 +1,14 @@
 -- What the rows of a table show at a point, under the assumptions of a set.
 use Rattle.std.proofs.Common.{◌≡◌, ◌≢◌, ℕ, Bool, nat_eq, true, false, refl, sym, subst, inl, inr}
 use Rattle.std.proofs.Common.{arith}
-use Rattle.std.specs.Prelude.{◌⊎◌, IsTrue}
-use Rattle.std.proofs.lemmas.Bool.Decides.{nat_tests}
-use Rattle.std.specs.Ordering.{nat_cmp}
 use Rattle.std.specs.FinSet.{FinSet, contains, union, remove}
+use Rattle.std.specs.{Ordering.nat_cmp, Prelude.◌⊎◌, Prelude.IsTrue}
+use Rattle.std.proofs.lemmas.Bool.Decides.{nat_tests}
 use Rattle.vipr_spec.specs.Constraint.{Profile, Condition, Point, Ints, IsTrueAt, IsSplit}
 use Rattle.vipr_spec.specs.Constraint.{Dominates}
 use Rattle.vipr_spec.proofs.Laws.{IsWholePoint, uns_true}
 use Rattle.vipr_rules.specs.Soundness.{IsTrueUnder}
-use Rattle.vipr_rules.proofs.UnionLemmas.{in_union}
-use Rattle.vipr_rules.proofs.BranchLemmas.{in_remove}
+use Rattle.vipr_rules.proofs.{BranchLemmas.in_remove, UnionLemmas.in_union}
 
 -- what is stated at each index of the set is true at x
 abbrev pub AreTrue : ℕ → (ℕ → Condition) → FinSet nat_cmp → Point → Type 0

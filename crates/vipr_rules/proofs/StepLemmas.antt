@@ -2,33 +2,27 @@
 use Rattle.std.proofs.Common.{◌≡◌, ℕ, ◌<◌, ◌≤◌, length, IsTrue, true, false, ◌||◌, nat_eq, ap₂}
 use Rattle.std.proofs.Common.{arith, List, [], ◌∷◌, ◌++◌, Some, None, refl, sym, ◌∙◌, ap, subst}
 use Rattle.std.proofs.Common.{inl, inr}
+use Rattle.std.proofs.{lemmas.Bool.cases_lt, lemmas.Bool.Decides.nat_tests}
 use Rattle.std.specs.Prelude.{◌↔◌, ◌⊎◌, Result, Ok, Err, IfOk, MatchResult}
 use Rattle.std.specs.Result.{result_and, result_unwrap_or}
-use Rattle.std.proofs.lemmas.Bool.{cases_lt}
 use Rattle.std.specs.FinSet.{FinSet, contains, empty, insert, contains-insert, contains-empty}
-use Rattle.std.specs.Cmp.{nat_cmp_total, unsigned_tied}
-use Rattle.std.proofs.lemmas.Bool.Decides.{nat_tests}
-use Rattle.std.specs.Ordering.{nat_cmp}
-use Rattle.vipr_spec.specs.Fraction.{ℚ}
+use Rattle.std.specs.{Cmp.nat_cmp_total, Cmp.unsigned_tied, Ordering.nat_cmp}
 use Rattle.vipr_spec.specs.Constraint.{Condition, Profile, condition, sum_of, Dominates, Combines}
 use Rattle.vipr_spec.specs.Certificate.{Certificate, Derivation, Reason, asm, lin, rnd, uns, sol}
 use Rattle.vipr_spec.specs.Certificate.{entries, count, is_assumption, is_live}
 use Rattle.vipr_spec.specs.Steps.{PassesStep, with_next, RefersBack, StepTest, by_sum, split}
 use Rattle.vipr_spec.specs.Steps.{listed, by_constraint, by_cutoff, step_tests, step_cause}
 use Rattle.vipr_spec.specs.Steps.{compared, IsSum}
+use Rattle.vipr_spec.specs.{Fraction.ℚ, Soundness.IsSound}
 use Rattle.vipr_spec.proofs.Laws.{failing_first, failing_second, one_sense, constraint_next}
 use Rattle.vipr_spec.proofs.Laws.{reason_next, last_next, rests_next, sound_given, sound_next}
 use Rattle.vipr_spec.proofs.Laws.{next_good}
-use Rattle.vipr_spec.specs.Soundness.{IsSound}
-use Rattle.vipr_linear.specs.Constraint.{condition_of}
-use Rattle.vipr_linear.specs.declared.constraint.Constraint.{Constraint}
-use Rattle.vipr_rules.specs.declared.error.RuleError.{RuleError}
-use Rattle.vipr_table.specs.declared.rows.Entry.{Entry}
-use Rattle.vipr_table.specs.History.{IsEntryOf}
-use Rattle.vipr_rules.specs.Context.{IsSetByReason}
+use Rattle.vipr_linear.specs.{Constraint.condition_of, declared.constraint.Constraint.Constraint}
 use Rattle.vipr_rules.specs.declared.error.RuleError.TheVariants.{Memory}
 use Rattle.vipr_rules.specs.Apply.{StopsIn, PassesTestsIn, ReportsTest, KeepsSound, IsRefusalIn}
 use Rattle.vipr_rules.specs.Apply.{IsNotDominated, IsRuledBy, shown_by, free_tests}
+use Rattle.vipr_rules.specs.{Context.IsSetByReason, declared.error.RuleError.RuleError}
+use Rattle.vipr_table.specs.{History.IsEntryOf, declared.rows.Entry.Entry}
 use Rattle.vipr_rules.proofs.EntryTests.{passing_parts}
 
 -- ---- one list of tests after another

@@ -1,15 +1,12 @@
 -- What a sum's entries rest on, one entry after another.
 use Rattle.std.proofs.Common.{◌≡◌, ◌≢◌, ℕ, zero, suc, ◌<◌, ◌⊎◌, Bool, true, false, ◌||◌, List, []}
 use Rattle.std.proofs.Common.{◌∷◌, ◌++◌, get_or, Contains, refl, sym, ◌∙◌, subst, inl, inr, arith}
-use Rattle.std.specs.Prelude.{◌↔◌, IsTrue}
+use Rattle.std.specs.FinSet.{FinSet, contains, union, empty, contains-union, contains-empty}
+use Rattle.std.specs.{Cmp.nat_cmp_total, Ordering.nat_cmp, Prelude.◌↔◌, Prelude.IsTrue}
 use Rattle.std.proofs.lemmas.List.Elements.{Contains-append_left, Contains-append_right}
 use Rattle.std.proofs.lemmas.List.Elements.{Contains-append_cases}
-use Rattle.std.specs.Cmp.{nat_cmp_total}
-use Rattle.std.specs.Ordering.{nat_cmp}
-use Rattle.std.specs.FinSet.{FinSet, contains, union, empty, contains-union, contains-empty}
-use Rattle.vipr_spec.specs.Fraction.{ℚ, zero_ℚ}
 use Rattle.vipr_spec.specs.Certificate.{Certificate, RestsOn}
-use Rattle.vipr_spec.specs.Steps.{SomeRestsOn}
+use Rattle.vipr_spec.specs.{Fraction.ℚ, Fraction.zero_ℚ, Steps.SomeRestsOn}
 use Rattle.vipr_rules.specs.Context.{IsSetOfAll}
 
 -- the set has the assumptions that constraint i rests on

@@ -1,8 +1,7 @@
 -- Rows with the same coefficients have the same value
 use Rattle.std.proofs.Common.{◌≡◌, ℕ, zero, suc, Option, Some, None, refl, sym, ◌∙◌, ap₂, subst₂}
-use Rattle.vipr_spec.specs.Fraction.{ℚ, ◌+ℚ◌, ◌*ℚ◌}
 use Rattle.vipr_spec.specs.Constraint.{Point, value, ValueFits}
-use Rattle.vipr_spec.specs.MoreEntries.{TermFits}
+use Rattle.vipr_spec.specs.{Fraction.ℚ, Fraction.◌+ℚ◌, Fraction.◌*ℚ◌, MoreEntries.TermFits}
 use Rattle.vipr_rules.specs.Solution.{IsValueOf}
 
 pub value_same : (n : ℕ) (x : Point) (a b : ℕ → ℚ) → ((j : ℕ) → a j ≡ b j)

@@ -3,37 +3,30 @@ use Rattle.std.specs.Prelude.{◌≡◌, ℕ, ◌≤◌, ◌⊎◌, IsTrue, leng
 use Rattle.std.specs.Prelude.{Option, Some, None, Result, Ok, Err, IfOk, IfErr}
 use Rattle.std.specs.FinSet as set
 use Rattle.std.specs.Ordering.{nat_cmp}
-use Rattle.vipr_spec.specs.Fraction.{ℚ}
 use Rattle.vipr_spec.specs.Constraint.{Profile, Condition, condition, Entry as Summand, SumOfFits}
 use Rattle.vipr_spec.specs.Constraint.{Dominates, DominatesRounded, IsWholeRow, Ints}
-use Rattle.vipr_spec.specs.Certificate.{Problem, Reason, uns, sol, Derivation, Certificate}
-use Rattle.vipr_spec.specs.Certificate.{lin, rnd}
-use Rattle.vipr_spec.specs.Certificate.{is_live, count, is_assumption}
-use Rattle.vipr_spec.specs.Causes as cause
+use Rattle.vipr_spec.specs.Certificate.{Problem, Reason, uns, sol, Derivation, Certificate, lin}
+use Rattle.vipr_spec.specs.Certificate.{rnd, is_live, count, is_assumption}
 use Rattle.vipr_spec.specs.Steps.{PassesStep, with_next, StepTest, earlier, live, assumed, listed}
 use Rattle.vipr_spec.specs.Steps.{step_tests, RefersBack, FirstFailing, step_cause, Shows, Refuses}
-use Rattle.vipr_spec.specs.Steps.{StepDetail, index, position, sum, both, compared, nothing}
-use Rattle.vipr_spec.specs.Steps.{by_sum, roundable, by_rounding}
-use Rattle.vipr_spec.specs.Soundness.{IsSound, IsBestValue}
-use Rattle.vipr_linear.specs.Accumulator.{IsSuitable}
-use Rattle.vipr_linear.specs.Constraint.{condition_of}
+use Rattle.vipr_spec.specs.Steps.{StepDetail, index, position, sum, both, compared, nothing, by_sum}
+use Rattle.vipr_spec.specs.Steps.{roundable, by_rounding}
+use Rattle.vipr_spec.specs.{Fraction.ℚ, Soundness.IsSound, Soundness.IsBestValue}
+use Rattle.vipr_spec.specs.Causes as cause
 use Rattle.vipr_linear.specs.declared.constraint.Constraint.{Constraint}
+use Rattle.vipr_linear.specs.{Accumulator.IsSuitable, Constraint.condition_of}
 use Rattle.vipr_cert.specs.Items.{reason_of, derivation_of}
 use Rattle.vipr_cert.specs.declared.items.Derivation.{Derivation as Step}
-use Rattle.vipr_rules.specs.declared.error.RuleError.{RuleError}
 use Rattle.vipr_rules.specs.declared.error.RuleError.TheVariants.{NotEarlier, Dropped}
 use Rattle.vipr_rules.specs.declared.error.RuleError.TheVariants.{NotAssumption, MixedSigns}
-use Rattle.vipr_rules.specs.declared.error.RuleError.TheVariants.{Overflow, NotRoundable}
-use Rattle.vipr_rules.specs.declared.error.RuleError.TheVariants.{NotSplit, NotDominated}
-use Rattle.vipr_rules.specs.declared.error.RuleError.TheVariants.{NoSolution, Memory}
-use Rattle.vipr_table.specs.declared.rows.Entry.{Entry}
-use Rattle.vipr_table.specs.Table.{Table}
-use Rattle.vipr_table.specs.History.{IsEntryOf, IsTableOf}
-use Rattle.vipr_rules.specs.Context.{IsContextOf, IsSetByReason}
-use Rattle.vipr_rules.specs.declared.context.Context.{Context}
-use Rattle.vipr_rules.specs.declared.sum.Computed.{Computed}
+use Rattle.vipr_rules.specs.declared.error.RuleError.TheVariants.{Overflow, NotRoundable, NotSplit}
+use Rattle.vipr_rules.specs.declared.error.RuleError.TheVariants.{NotDominated, NoSolution, Memory}
 use Rattle.vipr_rules.specs.declared.sum.Computed.TheVariants.{Sum, Rounding}
-use Rattle.vipr_rules.specs.Soundness.{HasSoundRows, IsSoundRow}
+use Rattle.vipr_rules.specs.{Context.IsContextOf, Context.IsSetByReason, Soundness.HasSoundRows}
+use Rattle.vipr_rules.specs.{Soundness.IsSoundRow, declared.context.Context.Context}
+use Rattle.vipr_rules.specs.{declared.error.RuleError.RuleError, declared.sum.Computed.Computed}
+use Rattle.vipr_table.specs.History.{IsEntryOf, IsTableOf}
+use Rattle.vipr_table.specs.{Table.Table, declared.rows.Entry.Entry}
 
 -- ---- what an error says
 

@@ -1,7 +1,6 @@
 -- What a constraint must say to prove the dual side of a claim.
 use Rattle.std.specs.Prelude.{◌≡◌, ◌≢◌, ◌↔◌, Option, Some, None, ◌⊎◌, ℕ}
-use Rattle.vipr_spec.specs.Constraint.{Condition, IsAbsurd, Dominates, Profile}
-use Rattle.vipr_spec.specs.Constraint.{DominatesRounded}
+use Rattle.vipr_spec.specs.Constraint.{Condition, IsAbsurd, Dominates, Profile, DominatesRounded}
 use Rattle.vipr_spec.specs.Certificate.{Problem, MeetsDual, NeedsGoal}
 use Rattle.vipr_spec.specs.Tests.{goal_needed_by}
 use Rattle.vipr_linear.specs.Constraint.{condition_of}

@@ -1,8 +1,7 @@
 -- The constraints of a problem by their variables, and sums over the listed variables of a solution
-use Rattle.std.specs.Prelude.{◌≡◌, ◌↔◌, ℕ, ◌<◌, ◌≤◌, ◌⊎◌, List, [], map, length, Vec}
-use Rattle.std.specs.Prelude.{Option, IfSome, replicate, slice_index_or}
-use Rattle.std.specs.Global.{Global}
-use Rattle.std.specs.FinMap.{empty, entries}
+use Rattle.std.specs.Prelude.{◌≡◌, ◌↔◌, ℕ, ◌<◌, ◌≤◌, ◌⊎◌, List, [], map, length, Vec, Option}
+use Rattle.std.specs.Prelude.{IfSome, replicate, slice_index_or}
+use Rattle.std.specs.{FinMap.empty, FinMap.entries, Global.Global}
 use Rattle.vipr_spec.specs.Fraction.{ℚ, zero_ℚ, ◌≤ℚ◌}
 use Rattle.vipr_spec.specs.Constraint.{Constraint, Row, Point, at, equal, value, ValueFits}
 use Rattle.vipr_spec.specs.Constraint.{Compares, IsTrueAt, condition}
@@ -10,8 +9,7 @@ use Rattle.vipr_spec.specs.Certificate.{Problem, variables}
 use Rattle.vipr_linear.specs.Constraint.{constraint_of}
 use Rattle.vipr_linear.specs.declared.constraint.Constraint.{Constraint as Item}
 use Rattle.vipr_cert.specs.declared.items.Named.{Named}
-use Rattle.vipr_rules.specs.declared.bounds.Bounds.{Bounds}
-use Rattle.vipr_rules.specs.declared.columns.Columns.{Columns}
+use Rattle.vipr_rules.specs.{declared.bounds.Bounds.Bounds, declared.columns.Columns.Columns}
 
 -- constraint i of a list
 abbrev pub nth : List Constraint → ℕ → Constraint

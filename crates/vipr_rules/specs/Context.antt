@@ -3,23 +3,17 @@ use Rattle.std.specs.Prelude.{◌≡◌, ◌≢◌, ◌↔◌, ℕ, Bool, false,
 use Rattle.std.specs.Prelude.{Option, None, Some, IsTrue, nat_lt, option_copied}
 use Rattle.std.specs.FinSet as set
 use Rattle.std.specs.Ordering.{nat_cmp}
-use Rattle.vipr_spec.specs.Fraction.{ℚ}
-use Rattle.vipr_spec.specs.Constraint.{Profile}
-use Rattle.vipr_spec.specs.Soundness.{IsBestValue}
 use Rattle.vipr_spec.specs.Steps.{SomeRestsOn, RestsBy}
 use Rattle.vipr_spec.specs.Certificate.{Certificate, Reason, constraint_at, reason_at, count}
 use Rattle.vipr_spec.specs.Certificate.{is_assumption, RestsOn}
-use Rattle.vipr_linear.specs.Constraint.{condition_of}
-use Rattle.vipr_linear.specs.declared.constraint.Constraint.{Constraint}
+use Rattle.vipr_spec.specs.{Constraint.Profile, Fraction.ℚ, Soundness.IsBestValue}
+use Rattle.vipr_linear.specs.{Constraint.condition_of, declared.constraint.Constraint.Constraint}
 use Rattle.vipr_rules.specs.declared.context.Context.{Context}
-use Rattle.vipr_rules.specs.declared.context.Known.{Known}
 use Rattle.vipr_rules.specs.declared.context.Known.TheVariants.{Given, Derived}
-use Rattle.vipr_rules.specs.Profile.{profile_of}
-use Rattle.vipr_table.specs.declared.rows.Entry.{Entry}
-use Rattle.vipr_table.specs.Table.{Table, entry_at}
-use Rattle.vipr_table.specs.History.{IsTableOf}
-use Rattle.vipr_table.specs.Unions.{union_so_far, has_noted}
+use Rattle.vipr_rules.specs.{Profile.profile_of, declared.context.Known.Known}
 use Rattle.vipr_table.specs.declared.assumptions.union.Union.{Union}
+use Rattle.vipr_table.specs.{History.IsTableOf, Table.Table, Table.entry_at, Unions.union_so_far}
+use Rattle.vipr_table.specs.{Unions.has_noted, declared.rows.Entry.Entry}
 
 -- the profile is P; the problem, the best objective value and the table are those of the
 -- certificate so far

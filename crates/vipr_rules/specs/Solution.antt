@@ -1,13 +1,11 @@
 -- The test of a listed solution.
 use Rattle.std.specs.Prelude.{◌≡◌, ℕ, List, [], ◌∷◌, flat_map, Option, Some, None, SomeIff}
-use Rattle.vipr_spec.specs.Fraction.{ℚ}
-use Rattle.std.specs.List.{range_with_len}
 use Rattle.vipr_spec.specs.Constraint.{Row, Point, value, ValueFits}
-use Rattle.vipr_spec.specs.Certificate.{Name, Problem}
 use Rattle.vipr_spec.specs.Tests.{Detail, not_whole, breaks, overflows, name_at, names_of}
 use Rattle.vipr_spec.specs.Tests.{solution_detail, SolutionTest, whole_at, value_fits, holds}
 use Rattle.vipr_spec.specs.Tests.{objective_fits, PassesSolution}
-use Rattle.vipr_spec.specs.Steps.{FirstFailing}
+use Rattle.vipr_spec.specs.{Certificate.Name, Certificate.Problem, Fraction.ℚ, Steps.FirstFailing}
+use Rattle.std.specs.List.{range_with_len}
 use Rattle.vipr_linear.specs.Constraint.{sense_of}
 use Rattle.vipr_rules.specs.declared.solution.SolutionError.{SolutionError}
 use Rattle.vipr_rules.specs.declared.solution.SolutionError.TheVariants.{NotWhole, Breaks, Overflow}

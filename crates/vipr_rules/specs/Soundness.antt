@@ -2,15 +2,12 @@
 use Rattle.std.specs.Prelude.{◌≡◌, ℕ, Option, Some, IsTrue, option_copied}
 use Rattle.std.specs.FinSet as set
 use Rattle.std.specs.Ordering.{nat_cmp}
-use Rattle.vipr_spec.specs.Fraction.{ℚ}
 use Rattle.vipr_spec.specs.Constraint.{Condition, Point, IsTrueAt}
 use Rattle.vipr_spec.specs.Certificate.{Problem, variables}
-use Rattle.vipr_spec.specs.Soundness.{IsAdmittedBy}
-use Rattle.vipr_linear.specs.Constraint.{condition_of}
-use Rattle.vipr_linear.specs.declared.constraint.Constraint.{Constraint}
-use Rattle.vipr_table.specs.declared.rows.Entry.{Entry}
+use Rattle.vipr_spec.specs.{Fraction.ℚ, Soundness.IsAdmittedBy}
+use Rattle.vipr_linear.specs.{Constraint.condition_of, declared.constraint.Constraint.Constraint}
+use Rattle.vipr_table.specs.{Table.Table, Table.entry_at, declared.rows.Entry.Entry}
 use Rattle.vipr_rules.specs.declared.context.Context.{Context}
-use Rattle.vipr_table.specs.Table.{Table, entry_at}
 
 -- `says` is what is stated at each index: d is true at x if the assumptions of the set are
 abbrev pub IsTrueUnder : ℕ → (ℕ → Condition) → set.FinSet nat_cmp → Condition → Point → Type 0

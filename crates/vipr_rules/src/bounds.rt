@@ -1,8 +1,7 @@
 //! The constraints that have the objective's row, as bounds of the objective's value.
 
 ghost use Rattle.std.specs.Prelude.{◌↔◌, IsTrue, length};
-ghost use Rattle.vipr_spec.specs.Fraction.{ℚ, ◌≤ℚ◌};
-ghost use Rattle.vipr_spec.specs.Constraint.{Compares};
+ghost use Rattle.vipr_spec.specs.{Constraint.Compares, Fraction.ℚ, Fraction.◌≤ℚ◌};
 ghost use Rattle.vipr_linear.specs.Constraint.{sense_of, constraint_of};
 ghost use Rattle.vipr_rules.specs.Columns.{given_of, HasRow, IsFrom, IsUpTo, LiesWithin, AreBounds};
 

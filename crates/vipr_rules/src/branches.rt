@@ -6,11 +6,10 @@ ghost use Rattle.vipr_spec.specs.Constraint.{Profile as ProfileMeant, IsSplit};
 ghost use Rattle.vipr_spec.specs.Certificate.{Certificate, Derivation, constraint_at, uns};
 ghost use Rattle.vipr_spec.specs.Steps.{assumed, split};
 ghost use Rattle.vipr_linear.specs.Constraint.{condition_of};
-ghost use Rattle.vipr_rules.specs.Profile.{profile_of};
 ghost use Rattle.vipr_rules.specs.Context.{IsKnownAs, is_assumed};
-ghost use Rattle.vipr_rules.specs.Soundness.{IsSoundUnder};
 ghost use Rattle.vipr_rules.specs.Apply.{PassesTestsIn, StopsIn, IsRuledIn};
 ghost use Rattle.vipr_rules.specs.declared.error.RuleError.TheVariants.{Memory};
+ghost use Rattle.vipr_rules.specs.{Profile.profile_of, Soundness.IsSoundUnder};
 
 use crate::context::{Context, Known};
 use crate::domination::check_domination;

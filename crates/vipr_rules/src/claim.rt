@@ -4,11 +4,9 @@
 ghost use Rattle.std.specs.Prelude.{◌≡◌, ◌↔◌, ◌++◌, ◌∷◌, [], List, IfOk, IsTrue, option_copied};
 ghost use Rattle.vipr_spec.specs.Constraint.{two, Row, at, IsWholeRow};
 ghost use Rattle.vipr_spec.specs.Certificate.{Named, objective_at, objective_constraint, stays};
-ghost use Rattle.vipr_spec.specs.Certificate.{IsAsGood, MeetsPrimal};
-ghost use Rattle.vipr_spec.specs.Certificate.{dual_bound as dual_bound_by};
+ghost use Rattle.vipr_spec.specs.Certificate.{IsAsGood, MeetsPrimal, dual_bound as dual_bound_by};
 ghost use Rattle.vipr_spec.specs.Certificate.{primal_bound as primal_bound_by};
-ghost use Rattle.vipr_spec.specs.Tests.{finite_primal};
-ghost use Rattle.vipr_spec.specs.Soundness.{IsBestValue};
+ghost use Rattle.vipr_spec.specs.{Soundness.IsBestValue, Tests.finite_primal};
 ghost use Rattle.vipr_linear.specs.Constraint.{sense_of, condition_of};
 ghost use Rattle.vipr_rules.specs.Profile.{profile_of};
 ghost use Rattle.vipr_rules.specs.Claim.{MeetsWhole, IsMetBy, IsTargetIn};

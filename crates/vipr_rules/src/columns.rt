@@ -2,10 +2,9 @@
 
 ghost use Rattle.std.specs.Prelude.{◌≡◌, ◌≢◌, ◌↔◌, ◌⊎◌, ◌+◌, ◌<◌, ℕ, All, IsTrue, IsFalse};
 ghost use Rattle.std.specs.Prelude.{IfOk, IfSome, OnOk, List, length, slice_index_or};
-ghost use Rattle.vipr_spec.specs.Fraction.{zero_ℚ};
 ghost use Rattle.vipr_spec.specs.Constraint.{Constraint as Meant, Row as Entries, Point, at};
 ghost use Rattle.vipr_spec.specs.Constraint.{Compares, NamesBelow, ValueFits};
-ghost use Rattle.vipr_spec.specs.Certificate.{variables, objective_at};
+ghost use Rattle.vipr_spec.specs.{Certificate.variables, Certificate.objective_at, Fraction.zero_ℚ};
 ghost use Rattle.vipr_linear.specs.Constraint.{sense_of, constraint_of};
 ghost use Rattle.vipr_rules.specs.Columns.{nth, given_of, AreColumns, ArePlaces, AreSums};
 ghost use Rattle.vipr_rules.specs.Columns.{AreFalseAtZero, HasRow, IsColumnsOf};

@@ -3,8 +3,7 @@
 ghost use Rattle.std.specs.Prelude.{◌≡◌, IfOk};
 ghost use Rattle.vipr_spec.specs.Certificate.{objective_constraint, reaches, sol as by_sol};
 ghost use Rattle.vipr_linear.specs.Constraint.{condition_of};
-ghost use Rattle.vipr_rules.specs.Soundness.{IsSoundUnder};
-ghost use Rattle.vipr_rules.specs.Apply.{IsRuledIn};
+ghost use Rattle.vipr_rules.specs.{Apply.IsRuledIn, Soundness.IsSoundUnder};
 
 use crate::claim::objective_with;
 use crate::context::Context;

@@ -8,8 +8,7 @@ ghost use Rattle.std.specs.Prelude.{◌≡◌, IfOk, Some, Ok, Err, MatchResult}
 ghost use Rattle.vipr_spec.specs.Causes as cause;
 ghost use Rattle.vipr_spec.specs.Steps.{sum as shown_sum, both, compared};
 ghost use Rattle.vipr_linear.specs.Constraint.{condition_of};
-ghost use Rattle.vipr_rules.specs.Apply.{shown_by};
-ghost use Rattle.vipr_rules.specs.declared.error.RuleError.TheVariants.{Memory};
+ghost use Rattle.vipr_rules.specs.{Apply.shown_by, declared.error.RuleError.TheVariants.Memory};
 
 use std::alloc::{AllocError, Global};
 use vipr_linear::Constraint;

@@ -13,18 +13,16 @@
 //! and [`take_entry`] makes the entry: it moves the constraint out of the derivation. An error is
 //! the first test that fails, with what shows it.
 
-ghost use Rattle.std.specs.Prelude.{◌≡◌, ℕ, length, Some, IfOk, IsOk};
-ghost use Rattle.std.specs.Prelude.{option_copied};
+ghost use Rattle.std.specs.Prelude.{◌≡◌, ℕ, length, Some, IfOk, IsOk, option_copied};
 ghost use Rattle.vipr_spec.specs.Constraint.{Profile as ProfileMeant, one, Condition, Point};
 ghost use Rattle.vipr_spec.specs.Certificate.{Certificate, variables, asm};
 ghost use Rattle.vipr_spec.specs.Certificate.{is_assumption as is_assumption_by};
 ghost use Rattle.vipr_linear.specs.Constraint.{condition_of};
 ghost use Rattle.vipr_cert.specs.Items.{derivation_of, reason_of};
 ghost use Rattle.vipr_table.specs.Table.{DerivedBelow};
-ghost use Rattle.vipr_rules.specs.Profile.{profile_of};
-ghost use Rattle.vipr_rules.specs.Context.{IsContextOf};
 ghost use Rattle.vipr_rules.specs.Soundness.{IsSoundAt, IsTrueUnder};
 ghost use Rattle.vipr_rules.specs.Apply.{IsRuledBy, Applies, entry_resting_on, answer_with_entry};
+ghost use Rattle.vipr_rules.specs.{Context.IsContextOf, Profile.profile_of};
 
 use crate::branches::{Branch, join_branches};
 use crate::context::Context;

@@ -5,19 +5,16 @@
 //! and gives the objective's value. [`test_solution_by_columns`] gives the same answer over the
 //! [`Columns`] of the problem, in less time if the solution lists few of many variables.
 
-ghost use Rattle.std.specs.Prelude.{◌≡◌, ◌↔◌, ◌<◌, ℕ, length, map, None, IsOk, IfOk};
-ghost use Rattle.std.specs.Prelude.{MatchResult};
+ghost use Rattle.std.specs.Prelude.{◌≡◌, ◌↔◌, ◌<◌, ℕ, length, map, None, IsOk, IfOk, MatchResult};
 ghost use Rattle.vipr_spec.specs.Constraint.{Row as Entries, Point, at, IsInteger, NamesBelow};
 ghost use Rattle.vipr_spec.specs.Constraint.{value, ValueFits};
 ghost use Rattle.vipr_spec.specs.Certificate.{Problem as Meant, variables, integer_variables};
 ghost use Rattle.vipr_spec.specs.Certificate.{objective_at};
 ghost use Rattle.vipr_spec.specs.Steps.{FirstFailing};
 ghost use Rattle.vipr_spec.specs.Tests.{PassesSolution, whole_at, given_at, solution_tests};
-ghost use Rattle.vipr_linear.specs.Constraint.{constraint_of};
-ghost use Rattle.vipr_linear.specs.Values.{IsLaidOut};
+ghost use Rattle.vipr_linear.specs.{Constraint.constraint_of, Values.IsLaidOut};
 ghost use Rattle.vipr_rules.specs.Columns.{IsColumnsOf};
-ghost use Rattle.vipr_rules.specs.Solution.{PassesAll, FailsBy, IsValueOf, tests_at};
-ghost use Rattle.vipr_rules.specs.Solution.{tests_below};
+ghost use Rattle.vipr_rules.specs.Solution.{PassesAll, FailsBy, IsValueOf, tests_at, tests_below};
 
 use crate::columns::Columns;
 use vipr_cert::Problem;

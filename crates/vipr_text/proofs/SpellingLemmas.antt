@@ -5,23 +5,19 @@ use Rattle.std.proofs.Common.{Result, Ok, Err, IsSome, inl, inr, refl, sym, ap, 
 use Rattle.std.proofs.Common.{append_assoc, arith}
 use Rattle.std.proofs.lemmas.List.{append-nil, length-append, map_push}
 use Rattle.std.proofs.lemmas.Grind.{flat_map-append}
-use Rattle.vipr_spec.specs.Constraint.{Row}
 use Rattle.vipr_spec.specs.Certificate.{Named, Problem, Derivation}
 use Rattle.vipr_spec.specs.Reading.{Rest, Fault, Read, ◌>>=◌, read_each, problem_read}
 use Rattle.vipr_spec.specs.Reading.{solution_read, derivations_read, derivation_read, end_read}
 use Rattle.vipr_spec.specs.Reading.{certificate_read}
-use Rattle.vipr_spec.specs.Input.{Input}
+use Rattle.vipr_spec.specs.{Constraint.Row, Input.Input}
 use Rattle.vipr_bytes.specs.Known.{text_of, IfKnown}
-use Rattle.vipr_scan.specs.Giving.{rest_of}
-use Rattle.vipr_scan.specs.Faults.{Fails}
-use Rattle.vipr_scan.specs.declared.error.TextError.{TextError}
+use Rattle.vipr_scan.specs.{Faults.Fails, Giving.rest_of, declared.error.TextError.TextError}
 use Rattle.vipr_scan.specs.declared.error.TextError.TheVariants as error
 use Rattle.vipr_read.specs.Items.{Items, Knows, Remembers, HasEnded}
 use Rattle.vipr_read.specs.Parsing.{with_front}
 use Rattle.vipr_write.specs.Canonical.{solution_words, heading, line_text, lines_text}
-use Rattle.vipr_write.specs.Folded.{Begun, with_more_bytes}
 use Rattle.vipr_write.specs.Forms.{problem_lines_in, derivation_words_in, text_in}
-use Rattle.vipr_write.specs.declared.form.Form.{Form}
+use Rattle.vipr_write.specs.{Folded.Begun, Folded.with_more_bytes, declared.form.Form.Form}
 use Rattle.vipr_text.specs.Spelling.{Appends, HasAppended, HasBegun, Respells, RespellsText}
 use Rattle.vipr_text.specs.Spelling.{with_count}
 

@@ -1,21 +1,16 @@
 -- A certificate's text, made while the certificate is read
 use Rattle.std.specs.Prelude.{◌≡◌, ◌≢◌, ℕ, ◌+◌, false, List, ◌++◌, length, map, codes, Option}
 use Rattle.std.specs.Prelude.{Result, Ok, Err, IsSome}
-use Rattle.vipr_spec.specs.Certificate.{Problem, Certificate}
-use Rattle.vipr_spec.specs.Input.{Input}
 use Rattle.vipr_spec.specs.Reading.{Rest, Fault, Read, ◌>>=◌, read_each, problem_read}
 use Rattle.vipr_spec.specs.Reading.{certificate_read}
+use Rattle.vipr_spec.specs.{Certificate.Problem, Certificate.Certificate, Input.Input}
 use Rattle.vipr_bytes.specs.Known.{text_of, IfKnown}
-use Rattle.vipr_scan.specs.Giving.{rest_of}
-use Rattle.vipr_scan.specs.Faults.{Fails}
-use Rattle.vipr_scan.specs.declared.error.TextError.{TextError}
 use Rattle.vipr_scan.specs.declared.error.TextError.TheVariants.{Spent}
-use Rattle.vipr_read.specs.Items.{Items, Knows, Remembers}
-use Rattle.vipr_read.specs.Parsing.{with_front}
+use Rattle.vipr_scan.specs.{Faults.Fails, Giving.rest_of, declared.error.TextError.TextError}
+use Rattle.vipr_read.specs.{Items.Items, Items.Knows, Items.Remembers, Parsing.with_front}
 use Rattle.vipr_write.specs.Canonical.{heading, line_text, lines_text}
-use Rattle.vipr_write.specs.Folded.{Begun, with_more_bytes}
 use Rattle.vipr_write.specs.Forms.{problem_lines_in, text_in}
-use Rattle.vipr_write.specs.declared.form.Form.{Form}
+use Rattle.vipr_write.specs.{Folded.Begun, Folded.with_more_bytes, declared.form.Form.Form}
 
 -- the error is none of a reader that failed before, and if the rest is known it is the fault of
 -- this reading

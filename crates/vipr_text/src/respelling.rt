@@ -3,10 +3,8 @@ ghost use Rattle.std.specs.Prelude.{◌≡◌, false, Ok, IfOk};
 ghost use Rattle.vipr_spec.specs.Certificate.{Problem as ProblemMeant};
 ghost use Rattle.vipr_spec.specs.Reading.{solution_read, derivation_read, end_read};
 ghost use Rattle.vipr_read.specs.Items.{Knows};
-ghost use Rattle.vipr_write.specs.Canonical.{solution_words};
-ghost use Rattle.vipr_write.specs.Forms.{derivation_words_in};
-ghost use Rattle.vipr_text.specs.Spelling.{BeginsText, Appends, Respells, RespellsText};
-ghost use Rattle.vipr_text.specs.Spelling.{with_count};
+ghost use Rattle.vipr_write.specs.{Canonical.solution_words, Forms.derivation_words_in};
+ghost use Rattle.vipr_text.specs.Spelling.{BeginsText, Appends, Respells, RespellsText, with_count};
 
 use std::alloc::Global;
 use vipr_bytes::Source;

@@ -2,16 +2,15 @@
 
 ghost use Rattle.std.specs.Prelude.{Err, Ok, Some, [], codes, pos, ◌∷◌, ◌≡◌};
 ghost use Rattle.vipr_spec.specs.Certificate.{range, sol};
-ghost use Rattle.vipr_spec.specs.Examples.{apart};
 ghost use Rattle.vipr_spec.specs.Fraction.{over, whole, zero_ℚ};
-ghost use Rattle.vipr_spec.specs.GrammarLaws.{whole_text};
 ghost use Rattle.vipr_spec.specs.Reading.{entry_read, refused, unread};
 ghost use Rattle.vipr_spec.specs.Steps.{by_cutoff, earlier, listed, live, reference_tests};
 ghost use Rattle.vipr_spec.specs.Steps.{step_cause, step_tests};
 ghost use Rattle.vipr_spec.specs.Tests.{finite_primal, meets_dual, name_at, of_step};
 ghost use Rattle.vipr_spec.specs.Tests.{solution_cause, spelled, whole_at};
-ghost use Rattle.vipr_spec.specs.Verdict.{at_derivation, found_in, items_read, last_tests};
-ghost use Rattle.vipr_spec.specs.Verdict.{refuses, answer_of_test};
+ghost use Rattle.vipr_spec.specs.Verdict.{at_derivation, found_in, items_read, last_tests, refuses};
+ghost use Rattle.vipr_spec.specs.Verdict.{answer_of_test};
+ghost use Rattle.vipr_spec.specs.{Examples.apart, GrammarLaws.whole_text};
 
 /// The tests of an item.
 pub fn tests()

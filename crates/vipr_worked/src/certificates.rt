@@ -4,12 +4,10 @@
 ghost use Rattle.std.specs.Prelude.{None, Some, [], false, true, ◌≡◌};
 ghost use Rattle.vipr_spec.specs.Certificate.{NamesEarlier, RefersTo, asm, constraint_at, count};
 ghost use Rattle.vipr_spec.specs.Certificate.{count_held, is_assumption, is_live, known_at};
-ghost use Rattle.vipr_spec.specs.Certificate.{last_at};
-ghost use Rattle.vipr_spec.specs.Certificate.{lasts_to, lin, peak, reason_at, sol, no_constraint};
-ghost use Rattle.vipr_spec.specs.Certificate.{uns};
-ghost use Rattle.vipr_spec.specs.Constraint.{at_least};
+ghost use Rattle.vipr_spec.specs.Certificate.{last_at, lasts_to, lin, peak, reason_at, sol};
+ghost use Rattle.vipr_spec.specs.Certificate.{no_constraint, uns};
 ghost use Rattle.vipr_spec.specs.Examples.{both, dropped_example, example};
-ghost use Rattle.vipr_spec.specs.Steps.{before};
+ghost use Rattle.vipr_spec.specs.{Constraint.at_least, Steps.before};
 
 /// What is known by index.
 pub fn by_index()

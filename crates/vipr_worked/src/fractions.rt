@@ -3,8 +3,7 @@
 ghost use Rattle.std.specs.Prelude.{negsuc, pos, ◌-◌, ◌^◌, ◌≡◌};
 ghost use Rattle.vipr_spec.specs.Fraction.{IsBounded, IsWhole, ProductFits, SumFits, most, neg_ℚ};
 ghost use Rattle.vipr_spec.specs.Fraction.{over, whole, zero_ℚ, ◌*ℚ◌, ◌+ℚ◌, ◌≤ℚ◌};
-ghost use Rattle.vipr_spec.specs.Gcd.{euclid, gcd};
-ghost use Rattle.vipr_spec.specs.Lowest.{IsLowest};
+ghost use Rattle.vipr_spec.specs.{Gcd.euclid, Gcd.gcd, Lowest.IsLowest};
 
 /// Greatest common divisors.
 pub fn divisors()

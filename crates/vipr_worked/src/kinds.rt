@@ -1,16 +1,14 @@
 //! Kinds of token, computed.
 
 ghost use Rattle.std.specs.Prelude.{Err, None, Ok, Some, [], codes, false, pos, true, ◌∷◌, ◌≡◌};
-ghost use Rattle.vipr_spec.specs.Causes.{bad_count, count_too_large};
-ghost use Rattle.vipr_spec.specs.Certificate.{maximum};
-ghost use Rattle.vipr_spec.specs.Constraint.{at_least};
-ghost use Rattle.vipr_spec.specs.Fraction.{over, zero_ℚ};
 ghost use Rattle.vipr_spec.specs.Number.{too_large, zero_denominator};
 ghost use Rattle.vipr_spec.specs.Reading.{at_most_or, below, bound_of, by_lin, or_cause, count_of};
 ghost use Rattle.vipr_spec.specs.Reading.{derivation_count_of, has_range_of, is_nonzero, last_of};
 ghost use Rattle.vipr_spec.specs.Reading.{name_of, new_variable_of, number_cause, number_of};
 ghost use Rattle.vipr_spec.specs.Reading.{reference_of, rule_of, some_of, spelled_direction};
 ghost use Rattle.vipr_spec.specs.Reading.{spelled_sense, unless_among, variable_of, word_of};
+ghost use Rattle.vipr_spec.specs.{Causes.bad_count, Causes.count_too_large, Certificate.maximum};
+ghost use Rattle.vipr_spec.specs.{Constraint.at_least, Fraction.over, Fraction.zero_ℚ};
 
 /// What a token means, or its cause.
 pub fn meant()

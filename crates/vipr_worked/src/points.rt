@@ -1,15 +1,13 @@
 //! Constraints and points, computed.
 
 ghost use Rattle.std.specs.Prelude.{Some, [], negsuc, pos, ◌∷◌, ◌≡◌};
-ghost use Rattle.vipr_spec.specs.Certificate.{IsAsGood, NeedsGoal, dual_bound, infeasible};
-ghost use Rattle.vipr_spec.specs.Certificate.{maximum, minimum, primal_bound, reaches, stays};
-ghost use Rattle.vipr_spec.specs.Certificate.{variables};
+ghost use Rattle.vipr_spec.specs.Certificate.{IsAsGood, NeedsGoal, dual_bound, infeasible, maximum};
+ghost use Rattle.vipr_spec.specs.Certificate.{minimum, primal_bound, reaches, stays, variables};
 ghost use Rattle.vipr_spec.specs.Constraint.{Compares, LeavesNone, PartialSumsFit, at_least};
 ghost use Rattle.vipr_spec.specs.Constraint.{at_most, equal, one, pull, signed_multiplier};
 ghost use Rattle.vipr_spec.specs.Constraint.{sum_over, value};
-ghost use Rattle.vipr_spec.specs.Examples.{apart};
 ghost use Rattle.vipr_spec.specs.Fraction.{over, whole, zero_ℚ};
-ghost use Rattle.vipr_spec.specs.Soundness.{point_over};
+ghost use Rattle.vipr_spec.specs.{Examples.apart, Soundness.point_over};
 
 /// Values at points of one or two variables.
 pub fn values()

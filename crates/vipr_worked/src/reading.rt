@@ -1,13 +1,9 @@
 //! What is read from the front of a text, computed. `whole_text` are the tokens of a text that
 //! no failed read cuts short.
 
-ghost use Rattle.std.specs.FinMap.{empty};
-ghost use Rattle.std.specs.FinSet.{from_list};
 ghost use Rattle.std.specs.Prelude.{Err, Ok, [], codes, false, pos, true, ◌∷◌, ◌≡◌};
+ghost use Rattle.std.specs.{FinMap.empty, FinSet.from_list};
 ghost use Rattle.vipr_spec.specs.Certificate.{infeasible, uns};
-ghost use Rattle.vipr_spec.specs.Examples.{apart};
-ghost use Rattle.vipr_spec.specs.Fraction.{over};
-ghost use Rattle.vipr_spec.specs.GrammarLaws.{whole_text};
 ghost use Rattle.vipr_spec.specs.Reading.{by_read, by_uns, claim_read, constraint_read};
 ghost use Rattle.vipr_spec.specs.Reading.{constraints_read, count_of, counted_read};
 ghost use Rattle.vipr_spec.specs.Reading.{derivation_read, derivations_read, end_read};
@@ -16,6 +12,7 @@ ghost use Rattle.vipr_spec.specs.Reading.{keyword_read, names_read, objective_re
 ghost use Rattle.vipr_spec.specs.Reading.{pairs_read, problem_read, range_read, reason_read};
 ghost use Rattle.vipr_spec.specs.Reading.{refused, row_read, solution_read, token_of, vector_read};
 ghost use Rattle.vipr_spec.specs.Reading.{version_read};
+ghost use Rattle.vipr_spec.specs.{Examples.apart, Fraction.over, GrammarLaws.whole_text};
 
 /// The sections of a problem.
 pub fn heads()

@@ -1,8 +1,7 @@
 use Rattle.std.proofs.Common.{Err}
 use Rattle.vipr_command.specs.Run.{DoesJob, outside_of}
 use Rattle.vipr_command.specs.declared.fault.CommandFault.TheVariants.{Read}
-use Rattle.vipr_command.proofs.RunLemmas.{done_with_opened, unopened}
-use Rattle.vipr_command.proofs.RunLemmas.{unread_job}
+use Rattle.vipr_command.proofs.RunLemmas.{done_with_opened, unopened, unread_job}
 use Rattle.vipr_command.proofs.command.do_task_on_file.Goals as goal
 
 pub returns-in-Ok-clause-done : goal.returns-in-Ok-clause-done

@@ -1,9 +1,8 @@
 use Rattle.vipr_command.specs.Show.{Kind, ShowsText}
-use Rattle.vipr_command.proofs.InputLemmas.{of_input}
 use Rattle.vipr_command.proofs.ShowLemmas.{shown_by, spelled_by, none_spelled, never_unread}
-use Rattle.vipr_command.proofs.show.show.Given.{Over}
-use Rattle.vipr_command.proofs.show.show.Goals as goal
 use Rattle.vipr_command.proofs.show.show.Goals.{After-write_text}
+use Rattle.vipr_command.proofs.{InputLemmas.of_input, show.show.Given.Over}
+use Rattle.vipr_command.proofs.show.show.Goals as goal
 
 -- the certificate that was read is shown, as one of each kind that it is of
 shown : (g : Over) (c : After-write_text g) (k : Kind) → k.Spelled c.in-Ok.ensures.0

@@ -1,13 +1,10 @@
-use Rattle.std.proofs.Common.{Ok, Err, refl}
-use Rattle.std.proofs.lemmas.Result.{err_from_is_err_and}
+use Rattle.std.proofs.{Common.Ok, Common.Err, Common.refl, lemmas.Result.err_from_is_err_and}
 use Rattle.vipr_rules.specs.Profile.{profile_of}
 use Rattle.vipr_tighten.specs.declared.outcome.TightenFault.TheVariants as tighten
-use Rattle.vipr_command.specs.Folder.{begun_for}
-use Rattle.vipr_command.specs.Tighten.{WritesFile}
 use Rattle.vipr_command.specs.declared.fault.CommandFault.TheVariants.{Memory}
-use Rattle.vipr_command.proofs.InputLemmas.{of_any}
-use Rattle.vipr_command.proofs.ShowLemmas.{stays}
+use Rattle.vipr_command.specs.{Folder.begun_for, Tighten.WritesFile}
 use Rattle.vipr_command.proofs.TightenLemmas.{settled, unwritten}
+use Rattle.vipr_command.proofs.{InputLemmas.of_any, ShowLemmas.stays}
 use Rattle.vipr_command.proofs.tighten.write_file.Goals as goal
 
 pub returns-in_err-place : goal.returns-in_err-place

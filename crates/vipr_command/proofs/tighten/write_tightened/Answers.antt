@@ -2,8 +2,7 @@ use Rattle.std.proofs.Common.{Ok}
 use Rattle.vipr_rules.specs.Profile.{profile_of}
 use Rattle.vipr_tighten.specs.Tightens.{TightensText}
 use Rattle.vipr_command.specs.Tighten.{WritesTightened}
-use Rattle.vipr_command.proofs.InputLemmas.{of_input}
-use Rattle.vipr_command.proofs.TightenLemmas.{known}
+use Rattle.vipr_command.proofs.{InputLemmas.of_input, TightenLemmas.known}
 use Rattle.vipr_command.proofs.tighten.write_tightened.Goals as goal
 
 pub returns : goal.returns

@@ -3,8 +3,7 @@ use Rattle.std.proofs.lemmas.Result.{err_from_is_err_and, IfOk-weaker}
 use Rattle.vipr_spec.specs.Constraint.{Dominates, IsSplit}
 use Rattle.vipr_spec.specs.Certificate.{Problem, uns}
 use Rattle.vipr_linear.specs.Constraint.{condition_of}
-use Rattle.vipr_rules.specs.Context.{IsSetByReason}
-use Rattle.vipr_rules.specs.Profile.{profile_of}
+use Rattle.vipr_rules.specs.{Context.IsSetByReason, Profile.profile_of}
 use Rattle.vipr_rules.proofs.BranchLemmas.{constraint_tested, joined_set, all_found, branches_ruled}
 use Rattle.vipr_rules.proofs.BranchLemmas.{stops_at_first_conclusion, stops_at_first_assumption}
 use Rattle.vipr_rules.proofs.BranchLemmas.{stops_at_second_conclusion, stops_at_second_assumption}

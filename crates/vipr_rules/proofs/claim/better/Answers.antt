@@ -1,6 +1,5 @@
 use Rattle.std.proofs.Common.{◌++◌, ◌∷◌, [], Some, sym, subst, inl, inr}
-use Rattle.vipr_spec.specs.Certificate.{IsAsGood}
-use Rattle.vipr_spec.specs.Soundness.{IsBestValue}
+use Rattle.vipr_spec.specs.{Certificate.IsAsGood, Soundness.IsBestValue}
 use Rattle.vipr_spec.proofs.Laws.{as_good_total, best_stays, best_moves}
 use Rattle.vipr_rules.proofs.ClaimLemmas.{the_first}
 use Rattle.vipr_rules.proofs.claim.better.Goals as goal

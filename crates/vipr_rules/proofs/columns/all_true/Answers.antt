@@ -1,7 +1,6 @@
 use Rattle.std.proofs.Common.{arith, sym, subst, ◌∙◌, get_or}
 use Rattle.std.proofs.lemmas.List.{get_or_default}
-use Rattle.vipr_spec.specs.Fraction.{zero_ℚ}
-use Rattle.vipr_spec.specs.Constraint.{Compares}
+use Rattle.vipr_spec.specs.{Constraint.Compares, Fraction.zero_ℚ}
 use Rattle.vipr_rules.specs.Columns.{nth, given_of}
 use Rattle.vipr_rules.proofs.columns.all_true.Goals as goal
 

@@ -1,6 +1,5 @@
 use Rattle.std.proofs.Common.{ℕ, ◌<◌, slice_index_or}
-use Rattle.vipr_spec.specs.Fraction.{zero_ℚ}
-use Rattle.vipr_spec.specs.Constraint.{Compares}
+use Rattle.vipr_spec.specs.{Constraint.Compares, Fraction.zero_ℚ}
 use Rattle.vipr_rules.specs.Columns.{nth, given_of}
 use Rattle.vipr_rules.proofs.columns.all_true.Given as goal
 

@@ -1,6 +1,5 @@
 use Rattle.std.proofs.Common.{◌⊎◌, ◌+◌, ap, sym, subst, ◌∙◌, vec_items}
-use Rattle.vipr_spec.specs.Fraction.{zero_ℚ}
-use Rattle.vipr_spec.specs.Constraint.{Constraint, Compares}
+use Rattle.vipr_spec.specs.{Constraint.Constraint, Constraint.Compares, Fraction.zero_ℚ}
 use Rattle.vipr_rules.specs.Columns.{given_of, HasRow, AreFalseAtZero}
 use Rattle.vipr_rules.proofs.ColumnLemmas.{false_next, false_more, given_nth}
 use Rattle.vipr_rules.proofs.columns.false_at_zero.Goals as goal

@@ -1,10 +1,9 @@
 use Rattle.std.proofs.Common.{◌≡◌, Some, None, option_copied, sym, ap, subst, ◌∙◌, inl, inr, refl}
 use Rattle.std.specs.Prelude.{IfSome}
 use Rattle.std.proofs.lemmas.Result.{err_from_is_err_and}
-use Rattle.vipr_spec.specs.Constraint.{IsTrueAt}
 use Rattle.vipr_spec.specs.Certificate.{Problem, variables, objective_at, objective_constraint}
 use Rattle.vipr_spec.specs.Certificate.{reaches, IsAsGood}
-use Rattle.vipr_spec.specs.Soundness.{IsBestValue}
+use Rattle.vipr_spec.specs.{Constraint.IsTrueAt, Soundness.IsBestValue}
 use Rattle.vipr_spec.proofs.Laws.{dominates_true}
 use Rattle.vipr_rules.proofs.CutoffLemmas.{none_listed, listed_passes, cut_ruled, reached}
 use Rattle.vipr_rules.proofs.StepLemmas.{no_set, follows_if_ok}

@@ -1,5 +1,4 @@
-use Rattle.std.proofs.Common.{refl}
-use Rattle.std.proofs.lemmas.Result.{err_from_is_err_and}
+use Rattle.std.proofs.{Common.refl, lemmas.Result.err_from_is_err_and}
 use Rattle.vipr_rules.specs.Profile.{profile_of}
 use Rattle.vipr_rules.proofs.Applying.{applies, applies_not, applies_full}
 use Rattle.vipr_rules.proofs.rules.apply_in.Goals as goal

@@ -1,12 +1,10 @@
 use Rattle.std.proofs.Common.{sym, ap, subst, ◌∙◌, refl}
 use Rattle.std.proofs.lemmas.Result.{IfOk-weaker}
-use Rattle.std.specs.FinSet.{empty, insert, contains}
-use Rattle.std.specs.Prelude.{IsTrue}
+use Rattle.std.specs.{FinSet.empty, FinSet.insert, FinSet.contains, Prelude.IsTrue}
 use Rattle.vipr_spec.specs.Constraint.{IsTrueAt}
 use Rattle.vipr_spec.specs.Certificate.{variables, asm, lin, rnd, count}
 use Rattle.vipr_cert.specs.Items.{reason_of, derivation_of}
-use Rattle.vipr_rules.specs.Context.{IsSetByReason}
-use Rattle.vipr_rules.specs.Apply.{IsRuledBy}
+use Rattle.vipr_rules.specs.{Apply.IsRuledBy, Context.IsSetByReason}
 use Rattle.vipr_rules.proofs.StepLemmas.{own_set, found_or_memory, found_if_ok, assumption_ruled}
 use Rattle.vipr_rules.proofs.rules.test_by_rule.Goals as goal
 

@@ -1,10 +1,8 @@
 use Rattle.std.proofs.Common.{◌≡◌, ◌<◌, ◌≤◌, length, sym, subst}
 use Rattle.std.proofs.lemmas.Result.{err_from_is_err_and}
-use Rattle.vipr_spec.specs.Constraint.{Row, at}
 use Rattle.vipr_spec.specs.Certificate.{Problem, variables}
-use Rattle.vipr_spec.specs.Tests.{given_at}
-use Rattle.vipr_linear.specs.Constraint.{constraint_of}
-use Rattle.vipr_linear.specs.Values.{IsLaidOut}
+use Rattle.vipr_spec.specs.{Constraint.Row, Constraint.at, Tests.given_at}
+use Rattle.vipr_linear.specs.{Constraint.constraint_of, Values.IsLaidOut}
 use Rattle.vipr_rules.specs.Solution.{IsValueOf}
 use Rattle.vipr_rules.proofs.SolutionLemmas.{as_many, given_is, given_below, true_next}
 use Rattle.vipr_rules.proofs.SolutionLemmas.{constraint_fails, all_true}

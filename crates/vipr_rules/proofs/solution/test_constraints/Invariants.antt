@@ -1,5 +1,4 @@
-use Rattle.vipr_spec.specs.Constraint.{Row, at}
-use Rattle.vipr_spec.specs.Certificate.{variables}
+use Rattle.vipr_spec.specs.{Certificate.variables, Constraint.Row, Constraint.at}
 use Rattle.vipr_linear.specs.Values.{IsLaidOut}
 use Rattle.vipr_rules.specs.Solution.{IsValueOf}
 use Rattle.vipr_rules.proofs.SolutionLemmas.{TrueUpTo}

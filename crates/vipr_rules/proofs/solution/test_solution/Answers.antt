@@ -1,8 +1,7 @@
 use Rattle.std.proofs.Common.{Some, None, inl, inr, refl, sym, subst}
 use Rattle.std.proofs.lemmas.Result.{err_from_is_err_and}
 use Rattle.vipr_spec.specs.Constraint.{Row, at, ValueFits}
-use Rattle.vipr_spec.specs.Certificate.{Problem, variables}
-use Rattle.vipr_spec.specs.Tests.{objective_fits}
+use Rattle.vipr_spec.specs.{Certificate.Problem, Certificate.variables, Tests.objective_fits}
 use Rattle.vipr_linear.specs.Values.{IsLaidOut}
 use Rattle.vipr_rules.specs.Solution.{IsValueOf}
 use Rattle.vipr_rules.proofs.SolutionLemmas.{integers_fail, constraints_fail, objective_last}

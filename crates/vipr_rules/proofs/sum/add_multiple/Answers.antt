@@ -1,7 +1,6 @@
 use Rattle.std.proofs.Common.{Err, sym, ap, subst, ◌∙◌, refl, inl, inr, ◌++◌, ◌∷◌, []}
 use Rattle.vipr_spec.specs.Constraint.{at, Entry, NamesBelow}
-use Rattle.vipr_linear.specs.Accumulator.{Holds}
-use Rattle.vipr_linear.specs.Constraint.{condition_of}
+use Rattle.vipr_linear.specs.{Accumulator.Holds, Constraint.condition_of}
 use Rattle.vipr_linear.proofs.Laws.{fits_known, suitable_known, step_held}
 use Rattle.vipr_rules.proofs.sum.add_multiple.Goals as goal
 

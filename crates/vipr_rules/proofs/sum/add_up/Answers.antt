@@ -1,19 +1,15 @@
 use Rattle.std.proofs.Common.{◌+◌, [], ◌∷◌, ◌++◌, Some, None, take, length, sym, ◌∙◌, ap, subst}
 use Rattle.std.proofs.Common.{subst₂, refl, inl, inr}
+use Rattle.std.proofs.{lemmas.List.length-replicate, lemmas.Result.err_from_is_err_and}
 use Rattle.std.specs.Prelude.{flat_map, IsTrue}
-use Rattle.std.specs.FinSet.{FinSet, contains}
-use Rattle.std.specs.Ordering.{nat_cmp}
-use Rattle.std.proofs.lemmas.Result.{err_from_is_err_and}
-use Rattle.std.proofs.lemmas.List.{length-replicate}
-use Rattle.vipr_spec.specs.Fraction.{zero_ℚ}
+use Rattle.std.specs.{FinSet.FinSet, FinSet.contains, Ordering.nat_cmp}
 use Rattle.vipr_spec.specs.Constraint.{condition, at, NamesBelow, IsTrueAt}
-use Rattle.vipr_spec.specs.Certificate.{variables, entries}
 use Rattle.vipr_spec.specs.Steps.{PassesStep, FirstFailing, reference_tests, entry_tests, sum_tests}
 use Rattle.vipr_spec.specs.Steps.{IsSum}
+use Rattle.vipr_spec.specs.{Certificate.variables, Certificate.entries, Fraction.zero_ℚ}
 use Rattle.vipr_spec.proofs.Laws.{not_zero}
 use Rattle.vipr_linear.specs.Accumulator.{Accumulator, Holds, nothing_added, held_condition}
-use Rattle.vipr_linear.specs.Constraint.{condition_of}
-use Rattle.vipr_linear.specs.declared.constraint.Constraint.{Constraint}
+use Rattle.vipr_linear.specs.{Constraint.condition_of, declared.constraint.Constraint.Constraint}
 use Rattle.vipr_linear.proofs.Laws.{zero_test, start_held, held_sum}
 use Rattle.vipr_rules.specs.Context.{IsSetOfAll, set_of, set_found}
 use Rattle.vipr_rules.specs.Apply.{PassesTestsIn, SumStops}

@@ -5,11 +5,9 @@ use Rattle.vipr_spec.specs.Certificate.{Certificate, Derivation, variables, entr
 use Rattle.vipr_spec.specs.Steps.{reference_tests, entry_tests}
 use Rattle.vipr_linear.specs.Accumulator.{Holds}
 use Rattle.vipr_rules.specs.Context.{IsContextOf, IsSetOfAll, set_found, AreJoined}
-use Rattle.vipr_rules.specs.Soundness.{IsSoundAt}
-use Rattle.vipr_rules.specs.Apply.{PassesTestsIn}
+use Rattle.vipr_rules.specs.{Apply.PassesTestsIn, Soundness.IsSoundAt}
 use Rattle.vipr_table.specs.Unions.{union_so_far}
-use Rattle.vipr_rules.proofs.SoundLemmas.{AreTrue}
-use Rattle.vipr_rules.proofs.SumLemmas.{IsTrueSum}
+use Rattle.vipr_rules.proofs.{SoundLemmas.AreTrue, SumLemmas.IsTrueSum}
 use Rattle.vipr_rules.proofs.sum.add_up.Given as goal
 
 abbrev pub invariant-loop-position : goal.invariant-loop-position

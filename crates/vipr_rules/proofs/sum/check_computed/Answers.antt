@@ -1,8 +1,7 @@
 use Rattle.std.proofs.Common.{rules, ◌≡◌, sym, ap, subst, ◌∙◌}
 use Rattle.std.specs.Prelude.{OnOk}
 use Rattle.vipr_spec.specs.Steps.{IsSum}
-use Rattle.vipr_linear.specs.Accumulator.{held_condition}
-use Rattle.vipr_linear.specs.Constraint.{condition_of}
+use Rattle.vipr_linear.specs.{Accumulator.held_condition, Constraint.condition_of}
 use Rattle.vipr_rules.specs.Apply.{DominatesBy}
 use Rattle.vipr_rules.proofs.ComputedLemmas.{computed_passes}
 use Rattle.vipr_rules.proofs.sum.check_computed.Goals as goal

@@ -1,10 +1,8 @@
 use Rattle.std.proofs.Common.{◌≡◌, sym, subst, inl, inr}
 use Rattle.std.specs.Prelude.{◌⊎◌, OnOk, MatchResult}
 use Rattle.std.proofs.lemmas.Result.{MatchResult-weaker}
-use Rattle.vipr_spec.specs.Constraint.{IsWholeRow, DominatesRounded}
-use Rattle.vipr_spec.specs.Steps.{IsSum}
-use Rattle.vipr_linear.specs.Accumulator.{held_condition}
-use Rattle.vipr_linear.specs.Constraint.{condition_of}
+use Rattle.vipr_spec.specs.{Constraint.IsWholeRow, Constraint.DominatesRounded, Steps.IsSum}
+use Rattle.vipr_linear.specs.{Accumulator.held_condition, Constraint.condition_of}
 use Rattle.vipr_rules.specs.declared.error.RuleError.TheVariants.{Memory}
 use Rattle.vipr_rules.specs.Apply.{PassesTestsIn, StopsIn, DominatesBy, computed_tests}
 use Rattle.vipr_rules.proofs.StepLemmas.{laid_out_known, dominated, not_dominated}

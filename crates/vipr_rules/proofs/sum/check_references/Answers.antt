@@ -1,8 +1,6 @@
-use Rattle.std.proofs.Common.{subst}
-use Rattle.std.proofs.lemmas.Result.{err_from_is_err_and}
+use Rattle.std.proofs.{Common.subst, lemmas.Result.err_from_is_err_and}
 use Rattle.std.specs.Prelude.{flat_map}
-use Rattle.vipr_spec.specs.Constraint.{condition}
-use Rattle.vipr_spec.specs.Steps.{PassesStep, reference_tests}
+use Rattle.vipr_spec.specs.{Constraint.condition, Steps.PassesStep, Steps.reference_tests}
 use Rattle.vipr_rules.specs.Apply.{PassesTestsIn}
 use Rattle.vipr_rules.proofs.EntryTests.{references_more, reference_fails, take_all}
 use Rattle.vipr_rules.proofs.sum.check_references.Goals as goal

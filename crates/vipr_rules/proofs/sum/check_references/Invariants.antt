@@ -1,10 +1,8 @@
 use Rattle.std.proofs.Common.{take}
 use Rattle.std.specs.Prelude.{flat_map}
-use Rattle.vipr_spec.specs.Constraint.{Profile}
 use Rattle.vipr_spec.specs.Certificate.{Certificate, Derivation}
-use Rattle.vipr_spec.specs.Steps.{reference_tests}
-use Rattle.vipr_rules.specs.Context.{IsContextOf}
-use Rattle.vipr_rules.specs.Apply.{PassesTestsIn}
+use Rattle.vipr_spec.specs.{Constraint.Profile, Steps.reference_tests}
+use Rattle.vipr_rules.specs.{Apply.PassesTestsIn, Context.IsContextOf}
 use Rattle.vipr_rules.proofs.sum.check_references.Given as goal
 
 abbrev pub invariant-loop-entry : goal.invariant-loop-entry

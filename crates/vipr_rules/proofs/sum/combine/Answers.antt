@@ -1,11 +1,9 @@
 use Rattle.std.proofs.Common.{sym, ap, subst, ◌∙◌, inl, inr}
 use Rattle.std.proofs.lemmas.Result.{IfOk-weaker}
 use Rattle.vipr_spec.specs.Certificate.{Problem, variables}
-use Rattle.vipr_linear.specs.Accumulator.{held_condition}
-use Rattle.vipr_linear.specs.Constraint.{condition_of}
+use Rattle.vipr_linear.specs.{Accumulator.held_condition, Constraint.condition_of}
 use Rattle.vipr_rules.specs.Context.{IsSetOfAll, IsSetByReason}
-use Rattle.vipr_rules.specs.Soundness.{IsSoundUnder}
-use Rattle.vipr_rules.specs.Apply.{DominatesBy, reason_by}
+use Rattle.vipr_rules.specs.{Apply.DominatesBy, Apply.reason_by, Soundness.IsSoundUnder}
 use Rattle.vipr_rules.proofs.SoundLemmas.{AreTrue}
 use Rattle.vipr_rules.proofs.StepLemmas.{found_or_memory, found_if_ok, follows_if_ok}
 use Rattle.vipr_rules.proofs.ComputedLemmas.{adding_stops, computed_ruled, none_free}

@@ -1,7 +1,5 @@
-use Rattle.std.proofs.Common.{Some, sym, ◌∙◌}
-use Rattle.std.proofs.lemmas.Result.{err_from_is_err_and}
-use Rattle.vipr_spec.specs.Constraint.{condition}
-use Rattle.vipr_spec.specs.Steps.{PassesStep}
+use Rattle.std.proofs.{Common.Some, Common.sym, Common.◌∙◌, lemmas.Result.err_from_is_err_and}
+use Rattle.vipr_spec.specs.{Constraint.condition, Steps.PassesStep}
 use Rattle.vipr_rules.proofs.EntryTests.{used_passes, unused_passes}
 use Rattle.vipr_rules.proofs.sum.find_used.Goals as goal
 

@@ -1,10 +1,8 @@
-use Rattle.std.proofs.lemmas.Result.{err_from_is_err_and}
+use Rattle.std.proofs.{Common.ap, Common.◌∙◌, lemmas.Result.err_from_is_err_and}
 use Rattle.vipr_spec.specs.Reading.{derivation_read, end_read}
 use Rattle.vipr_cert.specs.Items.{derivation_of}
-use Rattle.std.proofs.Common.{ap, ◌∙◌}
-use Rattle.vipr_write.specs.Canonical.{line_text}
 use Rattle.vipr_write.specs.Folded.{Begun, with_more_bytes}
-use Rattle.vipr_write.specs.Forms.{derivation_words_in}
+use Rattle.vipr_write.specs.{Canonical.line_text, Forms.derivation_words_in}
 use Rattle.vipr_text.proofs.SpellingLemmas.{none_yet, one_more, still_knows, stops, unspent}
 use Rattle.vipr_text.proofs.respelling.derivation_lines.Goals as goal
 

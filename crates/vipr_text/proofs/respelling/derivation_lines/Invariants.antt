@@ -1,6 +1,5 @@
 use Rattle.std.proofs.Common.{◌≡◌, false}
-use Rattle.vipr_spec.specs.Certificate.{Problem}
-use Rattle.vipr_spec.specs.Reading.{derivation_read}
+use Rattle.vipr_spec.specs.{Certificate.Problem, Reading.derivation_read}
 use Rattle.vipr_read.specs.Items.{Knows}
 use Rattle.vipr_write.specs.Forms.{derivation_words_in}
 use Rattle.vipr_text.specs.Spelling.{HasAppended}

@@ -1,8 +1,7 @@
 use Rattle.std.proofs.Common.{◌++◌, ap, ◌∙◌}
 use Rattle.std.specs.Prelude.{codes}
 use Rattle.vipr_write.specs.Canonical.{heading, line_text, lines_text}
-use Rattle.vipr_write.specs.Folded.{Begun}
-use Rattle.vipr_write.specs.Forms.{problem_lines_in}
+use Rattle.vipr_write.specs.{Folded.Begun, Forms.problem_lines_in}
 use Rattle.vipr_text.proofs.respelling.problem_text.Goals as goal
 
 pub returns : goal.returns

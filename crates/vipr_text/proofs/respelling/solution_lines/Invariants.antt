@@ -1,6 +1,5 @@
 use Rattle.std.proofs.Common.{◌≡◌, false}
-use Rattle.vipr_spec.specs.Certificate.{Problem}
-use Rattle.vipr_spec.specs.Reading.{solution_read}
+use Rattle.vipr_spec.specs.{Certificate.Problem, Reading.solution_read}
 use Rattle.vipr_read.specs.Items.{Knows}
 use Rattle.vipr_write.specs.Canonical.{solution_words}
 use Rattle.vipr_text.specs.Spelling.{HasAppended}

@@ -1,8 +1,4 @@
 use Rattle.std.proofs.Common.{refl}
-use Rattle.vipr_spec.specs.Digits.{natural_after, natural_of}
-use Rattle.vipr_spec.specs.Fraction.{over, ◌*ℚ◌, ◌+ℚ◌}
-use Rattle.vipr_spec.specs.Gcd.{gcd}
-use Rattle.vipr_spec.specs.Number.{number_read}
 use Rattle.vipr_spec.specs.Reading.{bound_of, by_read, claim_read, constraint_read}
 use Rattle.vipr_spec.specs.Reading.{constraints_read, count_of, counted_read, derivation_count_of}
 use Rattle.vipr_spec.specs.Reading.{derivation_read, derivations_read, end_of, entries_read}
@@ -11,10 +7,10 @@ use Rattle.vipr_spec.specs.Reading.{names_read, new_variable_of, objective_read,
 use Rattle.vipr_spec.specs.Reading.{pairs_read, problem_read, range_read, reason_read, reference_of}
 use Rattle.vipr_spec.specs.Reading.{read_each, row_read, rule_of, solution_read, spelled_direction}
 use Rattle.vipr_spec.specs.Reading.{spelled_sense, variable_of, vector_read, version_read}
-use Rattle.vipr_spec.specs.Steps.{entry_tests}
-use Rattle.vipr_spec.specs.Tests.{numbered_tests}
 use Rattle.vipr_spec.specs.Tokens.{is_cut, is_white, token_here, tokens_after_front, tokens_from}
-use Rattle.vipr_spec.specs.Verdict.{found_in, items_read}
+use Rattle.vipr_spec.specs.{Digits.natural_after, Digits.natural_of, Fraction.over, Fraction.◌*ℚ◌}
+use Rattle.vipr_spec.specs.{Fraction.◌+ℚ◌, Gcd.gcd, Number.number_read, Steps.entry_tests}
+use Rattle.vipr_spec.specs.{Tests.numbered_tests, Verdict.found_in, Verdict.items_read}
 use Rattle.vipr_worked.proofs.answers.answers_of_tests.Goals as goal
 
 pub returns : goal.returns

@@ -1,6 +1,5 @@
 use Rattle.std.proofs.Common.{refl, inl, inr, lit<}
-use Rattle.vipr_spec.specs.Fraction.{over, ◌*ℚ◌, ◌+ℚ◌}
-use Rattle.vipr_spec.specs.Gcd.{gcd}
+use Rattle.vipr_spec.specs.{Fraction.over, Fraction.◌*ℚ◌, Fraction.◌+ℚ◌, Gcd.gcd}
 use Rattle.vipr_worked.proofs.certificates.alive.Goals as goal
 
 pub returns : goal.returns

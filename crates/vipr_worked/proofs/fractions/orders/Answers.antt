@@ -1,8 +1,7 @@
 use Rattle.std.proofs.Common.{refl, arith, lit<, lit≤, pos}
 use Rattle.std.proofs.lemmas.Int.{ints}
 use Rattle.vipr_spec.proofs.Laws.{same_ℚ}
-use Rattle.vipr_spec.specs.Fraction.{over, ◌*ℚ◌, ◌+ℚ◌}
-use Rattle.vipr_spec.specs.Gcd.{gcd}
+use Rattle.vipr_spec.specs.{Fraction.over, Fraction.◌*ℚ◌, Fraction.◌+ℚ◌, Gcd.gcd}
 use Rattle.vipr_worked.proofs.fractions.orders.Goals as goal
 
 pub returns : goal.returns

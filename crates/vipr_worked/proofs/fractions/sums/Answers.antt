@@ -1,7 +1,6 @@
 use Rattle.std.proofs.Common.{refl}
 use Rattle.vipr_spec.proofs.Laws.{same_ℚ}
-use Rattle.vipr_spec.specs.Fraction.{neg_ℚ, over, ◌*ℚ◌, ◌+ℚ◌}
-use Rattle.vipr_spec.specs.Gcd.{gcd}
+use Rattle.vipr_spec.specs.{Fraction.neg_ℚ, Fraction.over, Fraction.◌*ℚ◌, Fraction.◌+ℚ◌, Gcd.gcd}
 use Rattle.vipr_worked.proofs.fractions.sums.Goals as goal
 
 pub returns : goal.returns

@@ -1,6 +1,5 @@
 use Rattle.std.proofs.Common.{refl, ◌∷◌, [], codes}
-use Rattle.vipr_spec.specs.Fraction.{over, ◌*ℚ◌, ◌+ℚ◌}
-use Rattle.vipr_spec.specs.Gcd.{gcd}
+use Rattle.vipr_spec.specs.{Fraction.over, Fraction.◌*ℚ◌, Fraction.◌+ℚ◌, Gcd.gcd}
 use Rattle.vipr_worked.proofs.grammar.shapes.Goals as goal
 
 pub returns : goal.returns

@@ -1,10 +1,8 @@
 use Rattle.std.proofs.Common.{refl}
-use Rattle.vipr_spec.specs.Digits.{natural_after, natural_of}
 use Rattle.vipr_spec.specs.Fraction.{over, ◌*ℚ◌, ◌+ℚ◌}
-use Rattle.vipr_spec.specs.Gcd.{gcd}
-use Rattle.vipr_spec.specs.Number.{number_read}
 use Rattle.vipr_spec.specs.Reading.{bound_of, has_range_of, rule_of, spelled_direction}
 use Rattle.vipr_spec.specs.Reading.{spelled_sense}
+use Rattle.vipr_spec.specs.{Digits.natural_after, Digits.natural_of, Gcd.gcd, Number.number_read}
 use Rattle.vipr_worked.proofs.kinds.choices.Goals as goal
 
 pub returns : goal.returns

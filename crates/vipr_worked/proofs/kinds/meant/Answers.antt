@@ -1,9 +1,8 @@
 use Rattle.std.proofs.Common.{refl}
-use Rattle.vipr_spec.specs.Digits.{natural_after, natural_of}
 use Rattle.vipr_spec.specs.Fraction.{over, ◌*ℚ◌, ◌+ℚ◌}
-use Rattle.vipr_spec.specs.Gcd.{gcd}
 use Rattle.vipr_spec.specs.Reading.{count_of, derivation_count_of, last_of, new_variable_of}
 use Rattle.vipr_spec.specs.Reading.{reference_of, variable_of}
+use Rattle.vipr_spec.specs.{Digits.natural_after, Digits.natural_of, Gcd.gcd}
 use Rattle.vipr_worked.proofs.kinds.meant.Goals as goal
 
 pub returns : goal.returns

@@ -1,9 +1,7 @@
 use Rattle.std.proofs.Common.{refl}
 use Rattle.vipr_spec.proofs.Laws.{number_sound}
-use Rattle.vipr_spec.specs.Digits.{natural_after, natural_of}
 use Rattle.vipr_spec.specs.Fraction.{over, ◌*ℚ◌, ◌+ℚ◌}
-use Rattle.vipr_spec.specs.Gcd.{gcd}
-use Rattle.vipr_spec.specs.Number.{number_read}
+use Rattle.vipr_spec.specs.{Digits.natural_after, Digits.natural_of, Gcd.gcd, Number.number_read}
 use Rattle.vipr_worked.proofs.numbers.fractions_read.Goals as goal
 
 pub returns : goal.returns

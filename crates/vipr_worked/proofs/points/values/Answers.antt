@@ -1,8 +1,6 @@
-use Rattle.std.proofs.Common.{refl, arith, lit≤, pos}
-use Rattle.std.proofs.lemmas.Int.{ints}
+use Rattle.std.proofs.{Common.refl, Common.arith, Common.lit≤, Common.pos, lemmas.Int.ints}
 use Rattle.vipr_spec.proofs.Laws.{same_ℚ}
-use Rattle.vipr_spec.specs.Fraction.{neg_ℚ, over, ◌*ℚ◌, ◌+ℚ◌}
-use Rattle.vipr_spec.specs.Gcd.{gcd}
+use Rattle.vipr_spec.specs.{Fraction.neg_ℚ, Fraction.over, Fraction.◌*ℚ◌, Fraction.◌+ℚ◌, Gcd.gcd}
 use Rattle.vipr_worked.proofs.points.values.Goals as goal
 
 pub returns : goal.returns

@@ -1,7 +1,4 @@
-use Rattle.vipr_spec.specs.Digits.{natural_after, natural_of}
 use Rattle.vipr_spec.specs.Fraction.{over, ◌*ℚ◌, ◌+ℚ◌}
-use Rattle.vipr_spec.specs.Gcd.{gcd}
-use Rattle.vipr_spec.specs.Number.{number_read}
 use Rattle.vipr_spec.specs.Reading.{bound_of, claim_read, constraint_read, constraints_read}
 use Rattle.vipr_spec.specs.Reading.{count_of, counted_read, first_token, has_range_of}
 use Rattle.vipr_spec.specs.Reading.{integers_read, names_read, new_variable_of, objective_read}
@@ -9,6 +6,7 @@ use Rattle.vipr_spec.specs.Reading.{pair_read, pairs_read, problem_read, range_r
 use Rattle.vipr_spec.specs.Reading.{row_read, spelled_direction, spelled_sense, variable_of}
 use Rattle.vipr_spec.specs.Reading.{vector_read, version_read}
 use Rattle.vipr_spec.specs.Tokens.{is_cut, is_white, token_here, tokens_after_front, tokens_from}
+use Rattle.vipr_spec.specs.{Digits.natural_after, Digits.natural_of, Gcd.gcd, Number.number_read}
 use Rattle.vipr_worked.proofs.reading.heads.Goals as goal
 
 pub returns : goal.returns

@@ -1,7 +1,5 @@
-use Rattle.std.proofs.Common.{refl, codes, arith}
-use Rattle.std.proofs.lemmas.Int.{ints}
-use Rattle.vipr_spec.specs.Fraction.{over, ◌*ℚ◌, ◌+ℚ◌}
-use Rattle.vipr_spec.specs.Gcd.{gcd}
+use Rattle.std.proofs.{Common.refl, Common.codes, Common.arith, lemmas.Int.ints}
+use Rattle.vipr_spec.specs.{Fraction.over, Fraction.◌*ℚ◌, Fraction.◌+ℚ◌, Gcd.gcd}
 use Rattle.vipr_worked.proofs.short.computed.Goals as goal
 
 pub returns : goal.returns

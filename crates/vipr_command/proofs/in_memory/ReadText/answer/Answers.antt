@@ -1,8 +1,7 @@
 use Rattle.std.proofs.Common.{Ok, Err}
 use Rattle.vipr_check.specs.declared.verdict.Fault.TheVariants.{Read as CheckRead}
 use Rattle.vipr_rules.specs.Profile.{profile_of}
-use Rattle.vipr_command.specs.Answer.{TellsWhole, input_of}
-use Rattle.vipr_command.specs.Known.{known_by}
+use Rattle.vipr_command.specs.{Answer.TellsWhole, Answer.input_of, Known.known_by}
 use Rattle.vipr_command.proofs.AnswerLemmas.{checked_of, no_room, said_of, unanswered}
 use Rattle.vipr_command.proofs.in_memory.ReadText.answer.Goals as goal
 

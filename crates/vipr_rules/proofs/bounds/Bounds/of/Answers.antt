@@ -2,8 +2,7 @@ use Rattle.std.proofs.Common.{sym, subst}
 use Rattle.std.specs.Prelude.{◌↔◌}
 use Rattle.vipr_spec.specs.Constraint.{Constraint, Compares}
 use Rattle.vipr_rules.specs.Columns.{given_of, HasRow, LiesWithin}
-use Rattle.vipr_rules.proofs.BoundLemmas.{bounds_next}
-use Rattle.vipr_rules.proofs.ColumnLemmas.{given_nth}
+use Rattle.vipr_rules.proofs.{BoundLemmas.bounds_next, ColumnLemmas.given_nth}
 use Rattle.vipr_rules.proofs.bounds.Bounds.of.Goals as goal
 
 pub loop-named-preserved : goal.loop-named-preserved

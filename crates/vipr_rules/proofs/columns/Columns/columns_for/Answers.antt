@@ -1,6 +1,5 @@
 use Rattle.std.proofs.Common.{ap, sym, subst, subst₂, ◌∙◌, length, replicate, slice_index_or}
-use Rattle.vipr_spec.specs.Fraction.{zero_ℚ}
-use Rattle.vipr_spec.specs.Constraint.{at, NamesBelow}
+use Rattle.vipr_spec.specs.{Constraint.at, Constraint.NamesBelow, Fraction.zero_ℚ}
 use Rattle.vipr_rules.specs.Columns.{given_in, AreColumns, AreFalseAtZero, AreBounds}
 use Rattle.vipr_rules.proofs.ColumnLemmas.{given_same, count_same, names_within}
 use Rattle.vipr_rules.proofs.columns.Columns.columns_for.Goals as goal

@@ -1,15 +1,13 @@
 use Rattle.std.proofs.Common.{All, ap, sym, subst, subst₂, ◌∙◌, ◌≢◌, ◌<◌, length, get_or}
 use Rattle.std.proofs.lemmas.List.{length-replicate}
-use Rattle.vipr_spec.specs.Fraction.{zero_ℚ}
-use Rattle.vipr_spec.specs.Constraint.{at}
+use Rattle.vipr_spec.specs.{Constraint.at, Fraction.zero_ℚ}
 use Rattle.vipr_rules.specs.Columns.{given_of, AreColumns, AreSums, AreFalseAtZero, AreMet}
 use Rattle.vipr_rules.specs.Columns.{LiesWithin}
 use Rattle.vipr_rules.proofs.ColumnLemmas.{given_same, count_same, as_many, all_met, all_within}
-use Rattle.vipr_rules.proofs.ColumnLemmas.{met}
-use Rattle.vipr_rules.proofs.ColumnLemmas.{sums_start, known_ok}
-use Rattle.vipr_rules.proofs.columns.Columns.find_met.Goals as goal
+use Rattle.vipr_rules.proofs.ColumnLemmas.{met, sums_start, known_ok}
 use Rattle.vipr_rules.proofs.columns.Columns.find_met.Goals.{then-is_ok, else-is_ok}
 use Rattle.vipr_rules.proofs.columns.Columns.find_met.Goals.{then-are_nonzero, else-are_nonzero}
+use Rattle.vipr_rules.proofs.columns.Columns.find_met.Goals as goal
 
 pub add_solution-requires : goal.add_solution-requires
 add_solution-requires c =

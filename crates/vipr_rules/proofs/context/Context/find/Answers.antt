@@ -1,10 +1,9 @@
 use Rattle.std.proofs.Common.{◌≡◌, ◌<◌, All, [], ◌∷◌, sym, ap, subst, ◌∙◌, length, nat_lt, true}
 use Rattle.std.proofs.Common.{false, cond, arith}
 use Rattle.std.proofs.lemmas.Result.{err_from_is_err_and}
-use Rattle.vipr_spec.specs.Constraint.{IsTrueAt, condition}
-use Rattle.vipr_spec.specs.Shape.{ConstraintShape}
-use Rattle.vipr_spec.specs.Certificate.{Problem, variables}
-use Rattle.vipr_spec.specs.Steps.{earlier, live}
+use Rattle.std.proofs.{lemmas.Bool.Decides.nat_tests, lemmas.List.length-map}
+use Rattle.vipr_spec.specs.{Certificate.Problem, Certificate.variables, Constraint.IsTrueAt}
+use Rattle.vipr_spec.specs.{Constraint.condition, Shape.ConstraintShape, Steps.earlier, Steps.live}
 use Rattle.vipr_linear.specs.declared.constraint.Constraint.{Constraint}
 use Rattle.vipr_cert.specs.declared.items.Named.{Named}
 use Rattle.vipr_rules.proofs.GivenLemmas.{given_below, given_true}
@@ -12,8 +11,6 @@ use Rattle.vipr_rules.proofs.ContextLemmas.{given_is_live, given_is_known, deriv
 use Rattle.vipr_rules.proofs.ContextLemmas.{derived_is_known, dropped_is_not, live_passes}
 use Rattle.vipr_rules.proofs.ContextLemmas.{live_stops}
 use Rattle.vipr_rules.proofs.StepLemmas.{stops_first}
-use Rattle.std.proofs.lemmas.Bool.Decides.{nat_tests}
-use Rattle.std.proofs.lemmas.List.{length-map}
 use Rattle.std.specs.FinSet as set
 use Rattle.vipr_rules.specs.Context.{assumptions_at}
 use Rattle.vipr_table.specs.Table.{entry_at}

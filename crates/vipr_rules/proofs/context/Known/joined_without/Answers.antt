@@ -1,6 +1,5 @@
-use Rattle.std.proofs.Common.{sym, ap, ap₂, ◌∙◌}
+use Rattle.std.proofs.{Common.sym, Common.ap, Common.ap₂, Common.◌∙◌, lemmas.Result.IfOk-weaker}
 use Rattle.std.specs.FinSet.{union, remove}
-use Rattle.std.proofs.lemmas.Result.{IfOk-weaker}
 use Rattle.vipr_rules.specs.Context.{set_of}
 use Rattle.vipr_table.proofs.Laws.{remove_none, union_none}
 use Rattle.vipr_rules.proofs.JoinedLemmas.{none_union}
