@@ -1,6 +1,6 @@
 mod RisingLemmas
 mod SetLemmas
-mod PartLemmas
+mod ListsLemmas
 mod ExpiryLemmas
 mod TableLemmas
 mod ExpiryOrderLemmas

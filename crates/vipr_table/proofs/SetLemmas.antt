@@ -23,7 +23,7 @@ use Rattle.std.specs.FinSet.{FinSet, contains, empty, from_list, union, remove, 
 use Rattle.std.specs.FinSet.{nat_cmp-IsAntisymmetric, contains-from_list_nat, contains-union}
 use Rattle.std.specs.FinSet.{contains-remove, contains-empty, contains-insert}
 use Rattle.vipr_table.specs.Rising.{IsRising, RisesWithin, IsUnion, has}
-use Rattle.vipr_table.proofs.RisingLemmas.{has_all_but, rises_order, or_part}
+use Rattle.vipr_table.proofs.RisingLemmas.{has_all_but, rises_order}
 
 same_numbers : (s t : FinSet nat_cmp) → ((q : ℕ) → contains s q ≡ contains t q) → s ≡ t
 same_numbers s t same = same_set nat_cmp_total nat_cmp-IsAntisymmetric s t same
@@ -89,7 +89,7 @@ empty_seen (x ∷ xs) b e = (
     longer : (n : ℕ) → nat_eq (suc n) 0 ≡ false
     longer n = grind (arith, nat_tests)
 
-or_false : (b : Bool) → (b || false) ≡ b
+pub or_false : (b : Bool) → (b || false) ≡ b
 or_false true = refl
 or_false false = refl
 
@@ -111,20 +111,6 @@ union_same s = sym (same_numbers _ _ (λ q. contains-union nat_cmp_total s s q �
 pub remove_none : (k : ℕ) → empty ≡ remove {R = nat_cmp} empty k
 remove_none k = sym (same_numbers _ _ (λ q. contains-remove nat_cmp_total empty k q ∙ ap (λ b. not (eq_by_cmp nat_cmp q k) && b) (contains-empty nat_cmp q) ∙ and_false _ ∙ sym (contains-empty nat_cmp q)))
 
--- nothing is added by what a set has already
-part_or : (a b : Bool) → (a ≡ true → b ≡ true) → b ≡ (a || b)
-part_or true true h = refl
-part_or true false h = absurd (let e = h refl in cc)
-part_or false b h = refl
-
-pub with_part : (xs ys : List ℕ) → ((q : ℕ) → has ys q ≡ true → has xs q ≡ true)
-    → from_list {R = nat_cmp} xs ≡ union (from_list xs) (from_list ys)
-with_part xs ys within = union_by xs ys xs (λ q. or_part (has xs q) (has ys q) (within q))
-
-pub part_with : (xs ys : List ℕ) → ((q : ℕ) → has xs q ≡ true → has ys q ≡ true)
-    → from_list {R = nat_cmp} ys ≡ union (from_list xs) (from_list ys)
-part_with xs ys within = union_by xs ys ys (λ q. part_or (has xs q) (has ys q) (within q))
-
 -- nothing is taken out by what a set doesn't have
 pub remove_absent : (s : FinSet nat_cmp) (k : ℕ) → contains s k ≡ false → s ≡ remove s k
 remove_absent s k absent = sym (same_numbers _ _ (λ q. contains-remove nat_cmp_total s k q ∙ ap (λ b. not b && contains s q) (sym (tied_numbers q k)) ∙ by q (nat_eq q k) refl))
@@ -135,11 +121,6 @@ remove_absent s k absent = sym (same_numbers _ _ (λ q. contains-remove nat_cmp_
     by : (q : ℕ) (b : Bool) → nat_eq q k ≡ b → (not b && contains s q) ≡ contains s q
     by q true e = sym absent ∙ ap (contains s) (sym (same q e))
     by q false e = refl
-
--- ---- a list in two parts
-pub parts_have : (xs ys : List ℕ) (q : ℕ)
-    → contains (from_list {R = nat_cmp} (xs ++ ys)) q ≡ (has xs q || has ys q)
-parts_have xs ys q = contains-from_list_nat (xs ++ ys) q ∙ list_any-append (λ n. nat_eq n q) xs ys
 
 -- a list that goes on
 pub longer_seen : (xs ys zs : List ℕ)

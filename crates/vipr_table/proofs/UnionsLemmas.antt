@@ -5,10 +5,10 @@ use Rattle.std.specs.Cmp.{nat_cmp_total}
 use Rattle.std.specs.Ordering.{nat_cmp}
 use Rattle.std.specs.FinSet.{FinSet, contains, empty, from_list, union, same_set}
 use Rattle.std.specs.FinSet.{nat_cmp-IsAntisymmetric, contains-union, contains-empty}
-use Rattle.vipr_table.specs.Unions.{union_of_all}
+use Rattle.vipr_table.specs.Sets.{union_of_all}
 use Rattle.vipr_table.proofs.SetLemmas.{union_none, longer_seen}
 
-has_of : (s t : FinSet nat_cmp) (q : ℕ) → contains (union s t) q ≡ (contains s q || contains t q)
+pub has_of : (s t : FinSet nat_cmp) (q : ℕ) → contains (union s t) q ≡ (contains s q || contains t q)
 has_of s t q = contains-union nat_cmp_total s t q
 
 or_again : (a b c : Bool) → ((a || b) || c) ≡ (a || (b || c))
@@ -51,7 +51,7 @@ pub no_few : (s : FinSet nat_cmp) (xs : List ℕ) → length xs ≡ 0 → s ≡ 
 no_few s [] e = union_none s
 no_few s (x ∷ xs) e = absurd (omega arith)
 
-one_below : (ss : List (FinSet nat_cmp)) (s : FinSet nat_cmp)
+pub one_below : (ss : List (FinSet nat_cmp)) (s : FinSet nat_cmp)
     → union_of_all (ss ++ s ∷ []) ≡ union (union_of_all ss) s
 one_below [] s = sym (union_none s) ∙ sym (none_union s)
 one_below (r ∷ ss) s = ap (union r) (one_below ss s) ∙ sym (union_assoc r (union_of_all ss) s)

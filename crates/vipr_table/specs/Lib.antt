@@ -1,5 +1,6 @@
 pub mod Rising
 pub mod Merging
+pub mod Sets
 pub mod IndexList
 pub mod Unions
 pub mod Table

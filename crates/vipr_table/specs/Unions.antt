@@ -1,13 +1,10 @@
 -- The union of sets that were added one after another
-use Rattle.std.specs.Prelude.{◌≡◌, ◌⊎◌, ℕ, Bool, List, [], ◌∷◌, IsTrue}
+use Rattle.std.specs.Prelude.{◌≡◌, ◌⊎◌, ℕ, Bool, IsTrue}
 use Rattle.std.specs.BTreeSet as note
 use Rattle.std.specs.FinSet as set
 use Rattle.std.specs.Ordering.{nat_cmp}
+use Rattle.vipr_table.specs.Sets.{union_of_all}
 use Rattle.vipr_table.specs.declared.assumptions.union.Union.{Union}
-
-abbrev pub union_of_all : List (set.FinSet nat_cmp) → set.FinSet nat_cmp
-union_of_all [] = set.empty
-union_of_all (s ∷ ss) = set.union s (union_of_all ss)
 
 abbrev pub union_so_far : Union → set.FinSet nat_cmp
 union_so_far u =

@@ -2,24 +2,27 @@
 //!
 //! [`Assumptions`] is a set of indices. A sum rests on the union of the sets of its constraints,
 //! and a split takes one assumption out of each of its branches. Clones share their indices, so a
-//! long set that many constraints rest on is in memory once. Unions share, too: with a short set it
-//! is a short list that is new, and two long sets that are one list each are both shared.
+//! long set that many constraints rest on is in memory once. Unions share, too: all long lists of
+//! both sets, and a short list is new.
 mod list;
+mod lists;
 mod merge;
 mod union;
 
 ghost use Rattle.std.specs.Prelude.{◌≡◌, ◌↔◌, ℕ, true, IfOk, IfSome, IsOk, IsTrue};
-ghost use Rattle.std.specs.Cow.{cow_slice_items};
 ghost use Rattle.std.specs.FinSet as set;
-ghost use Rattle.vipr_table.specs.IndexList.{listed_items, IsListOf};
+ghost use Rattle.vipr_table.specs.IndexList.{listed_set};
 ghost use Rattle.vipr_table.specs.Rising.{IsRising, has};
+ghost use Rattle.vipr_table.specs.Sets.{IsListOf};
 
-use crate::assumptions::list::IndexList;
+use crate::assumptions::list::{Front, IndexList, front_but_last, front_of};
+use crate::assumptions::lists::Lists;
 use crate::assumptions::merge::{all_but, has_all, is_in, join};
 pub use crate::assumptions::union::Union;
 use std::alloc::{AllocError, Global};
-use std::borrow::CowSlice;
 use std::marker::Model;
+use std::slice;
+use vipr_shared::Shared;
 
 // From how many indices on a list is long.
 const LONG: usize = 1024;
@@ -30,7 +33,6 @@ const FEW: usize = 8;
 /// A set of the constraint indices of assumptions. Its clones share the indices.
 #[derive(Debug, Drop)]
 pub struct Assumptions {
-    // lists in rising order; an index may be in several
     list: IndexList,
 }
 
@@ -38,15 +40,15 @@ impl Model for Assumptions {
     ghost use Rattle.std.specs.Ordering.{nat_cmp};
     ghost use Rattle.std.specs.FinSet as set;
     ghost use Rattle.std.specs.Coded.{coded_ℕ};
-    ghost use Rattle.vipr_table.specs.IndexList.{listed_items, AreRising};
+    ghost use Rattle.vipr_table.specs.IndexList.{listed_set, Rises};
 
     ghost Value = { set.FinSet nat_cmp };
 
     ghost coded = { set.code coded_ℕ };
 
-    ghost view = { λ a. set.from_list (listed_items a.list) };
+    ghost view = { λ a. listed_set a.list };
 
-    ghost invariant = { λ a. AreRising a.list };
+    ghost invariant = { λ a. Rises a.list };
 }
 
 impl Clone for Assumptions {
@@ -87,7 +89,9 @@ impl Assumptions {
     {
         match &self.list {
             IndexList::Nothing => true,
-            list => list.len() == 0,
+            IndexList::One(_) => false,
+            IndexList::Many(count, items) => front_of(*count, items).is_empty(),
+            IndexList::Longer(lists) => lists.as_ref().is_empty(),
         }
     }
 
@@ -95,16 +99,12 @@ impl Assumptions {
     pub fn contains(&self, index: u32) -> bool
         ensures { result ≡ set.contains self.now index }
     {
-        if is_in(self.list.first(), index) {
-            return true;
+        match &self.list {
+            IndexList::Nothing => false,
+            IndexList::One(only) => *only == index,
+            IndexList::Many(count, items) => is_in(front_of(*count, items), index),
+            IndexList::Longer(lists) => lists.as_ref().contains(index),
         }
-        if is_in(self.list.second(), index) {
-            return true;
-        }
-        if is_in(self.list.third(), index) {
-            return true;
-        }
-        is_in(self.list.more(), index)
     }
 
     /// The set of the indices of both.
@@ -124,18 +124,18 @@ impl Assumptions {
         if self.is_one(other) {
             return self.clone();
         }
-        if !self.is_long() && !other.is_long() {
-            return self.joined(alloc, other);
+        if self.has_all(other) {
+            return self.clone();
         }
-        if let Some(union) = self.joined_alike(alloc, other)? {
-            return Ok(union);
+        if other.has_all(self) {
+            return other.clone();
         }
-        if let Some(longer) = self.longer_by(alloc, other)? {
-            return Ok(longer);
-        }
-        match other.longer_by(alloc, self)? {
-            Some(longer) => Ok(longer),
-            None => self.joined(alloc, other),
+        match (self.as_short(), other.as_short()) {
+            (Some(ours), Some(theirs)) => {
+                let items = join(alloc, ours, theirs)?;
+                Assumptions::of_rising(alloc, items)
+            }
+            _ => self.joined(alloc, other),
         }
     }
 
@@ -153,11 +153,10 @@ impl Assumptions {
         if !self.contains(index) {
             return self.clone();
         }
-        if let Some(rest) = self.shortened(alloc, index)? {
-            return Ok(rest);
+        match self.as_one() {
+            Some(items) => Assumptions::of_rising(alloc, all_but(alloc, items, index)?),
+            None => self.shortened(alloc, index),
         }
-        let items = all_but(alloc, self.flat(alloc)?.as_slice(), index)?;
-        Assumptions::of_rising(alloc, items)
     }
 
     /// The set of the indices of both, but for one of each.
@@ -182,24 +181,6 @@ impl Assumptions {
         union
     }
 
-    // The set without an index that only its short list has. Its other lists stay whole.
-    fn shortened(&self, alloc: Global, index: u32) -> Result<Option<Self>, AllocError>
-        ensures { IfOk result (λ o. IfSome o (λ s. s ≡ set.remove self.now index)) }
-    {
-        if is_in(self.list.first(), index) {
-            return Ok(None);
-        }
-        if is_in(self.list.second(), index) {
-            return Ok(None);
-        }
-        if is_in(self.list.third(), index) {
-            return Ok(None);
-        }
-        let more = all_but(alloc, self.list.more(), index)?;
-        let list = self.list.with_more(alloc, more)?;
-        Ok(Some(Assumptions { list }))
-    }
-
     // Whether both share their indices. `true` says that the sets are equal.
     fn is_one(&self, other: &Assumptions) -> bool
         ensures { IsTrue result → self.now ≡ other.now }
@@ -207,57 +188,18 @@ impl Assumptions {
         self.list.is_one(&other.list)
     }
 
-    // The union of two sets whose first two lists are one, so that only the others are joined.
-    fn joined_alike(&self, alloc: Global, other: &Assumptions) -> Result<Option<Self>, AllocError>
-        ensures { IfOk result (λ o. IfSome o (λ s. s ≡ set.union self.now other.now)) }
+    // Whether the set has all indices of another one. `false` says nothing about several lists, nor
+    // about a long one beside them.
+    fn has_all(&self, other: &Assumptions) -> bool
+        ensures { IsTrue result → self.now ≡ set.union self.now other.now }
     {
-        if !self.list.has_pair_of(&other.list) {
-            return Ok(None);
-        }
-        let more = join(alloc, self.list.more(), other.list.more())?;
-        if self.takes(more.len()) && self.list.has_third_of(&other.list) {
-            let list = self.list.with_more(alloc, more)?;
-            return Ok(Some(Assumptions { list }));
-        }
-        if self.takes(more.len()) && other.list.has_third_of(&self.list) {
-            let list = other.list.with_more(alloc, more)?;
-            return Ok(Some(Assumptions { list }));
-        }
-        let thirds = join(alloc, self.list.third(), other.list.third())?;
-        let third = join(alloc, &thirds, &more)?;
-        let list = self.list.with_third(alloc, third)?;
-        Ok(Some(Assumptions { list }))
-    }
-
-    // Whether a list of so many indices is short beside its first one.
-    fn takes(&self, count: usize) -> bool {
-        let len = self.list.first().len();
-        count == 0 || len / count >= count / 8
-    }
-
-    // The union, if the other set is so short that a short list takes its indices. Lists that
-    // aren't long stay whole.
-    fn longer_by(&self, alloc: Global, other: &Assumptions) -> Result<Option<Self>, AllocError>
-        ensures { IfOk result (λ o. IfSome o (λ s. s ≡ set.union self.now other.now)) }
-    {
-        let first = self.list.first();
-        if first.len() < LONG {
-            return Ok(None);
-        }
-        let Some(theirs) = other.list.as_one() else {
-            return Ok(None);
+        let Some(theirs) = other.as_one() else {
+            return false;
         };
-        let count = self.list.more().len() + theirs.len();
-        if count == 0 || !self.takes(count) {
-            return Ok(None);
+        match self.as_one() {
+            Some(ours) => has_all(ours, theirs),
+            None => theirs.len() < LONG && self.has_each(theirs),
         }
-        if self.has_each(theirs) {
-            return Ok(Some(self.clone()?));
-        }
-        let more = join(alloc, self.list.more(), theirs)?;
-        Ok(Some(Assumptions {
-            list: self.list.with_more(alloc, more)?,
-        }))
     }
 
     // Whether each of these indices is in the set.
@@ -273,66 +215,46 @@ impl Assumptions {
         true
     }
 
-    // The union of sets of which none is short, unless one of them has all indices.
+    // The union, which shares the long lists of both.
     fn joined(&self, alloc: Global, other: &Assumptions) -> Result<Self, AllocError>
         ensures { IfOk result (λ s. s ≡ set.union self.now other.now) }
     {
-        let ours = self.flat(alloc)?;
-        let Ok(theirs) = other.flat(alloc) else {
+        let ours = self.lists(alloc)?;
+        let Ok(theirs) = other.lists(alloc) else {
             drop(ours);
             return Err(AllocError);
         };
-        let union = self.joined_lists(alloc, other, ours.as_slice(), theirs.as_slice());
+        let union = ours.as_ref().union(alloc, theirs.as_ref());
         drop(ours);
         drop(theirs);
-        union
+        Assumptions::of_lists(alloc, union?)
     }
 
-    // Joins two sets, whose indices are these.
-    fn joined_lists(
-        &self,
-        alloc: Global,
-        other: &Assumptions,
-        ours: &[u32],
-        theirs: &[u32],
-    ) -> Result<Self, AllocError>
-        requires ours { IsListOf self.now ours.now }
-        requires theirs { IsListOf other.now theirs.now }
-        ensures { IfOk result (λ s. s ≡ set.union self.now other.now) }
+    // The set without an index. It shares the long lists that don't have that.
+    fn shortened(&self, alloc: Global, index: u32) -> Result<Self, AllocError>
+        ensures { IfOk result (λ s. s ≡ set.remove self.now index) }
     {
-        if has_all(ours, theirs) {
-            return self.clone();
-        }
-        if has_all(theirs, ours) {
-            return other.clone();
-        }
-        if let Some(pair) = self.paired(alloc, other)? {
-            return Ok(pair);
-        }
-        let items = join(alloc, ours, theirs)?;
-        Assumptions::of_rising(alloc, items)
-    }
-
-    // The union of two long lists, which it shares.
-    fn paired(&self, alloc: Global, other: &Assumptions) -> Result<Option<Self>, AllocError>
-        ensures { IfOk result (λ o. IfSome o (λ s. s ≡ set.union self.now other.now)) }
-    {
-        if !self.is_long() || !other.is_long() {
-            return Ok(None);
-        }
-        let Some(list) = self.list.paired(alloc, &other.list)? else {
-            return Ok(None);
-        };
-        Ok(Some(Assumptions { list }))
+        let lists = self.lists(alloc)?;
+        let rest = lists.as_ref().without(alloc, index);
+        drop(lists);
+        Assumptions::of_lists(alloc, rest?)
     }
 
     // The set without an index, if that is the last one of one list.
+    #[inline(always)]
     fn without_last(&self, index: u32) -> Result<Option<Self>, AllocError>
         ensures { IfOk result (λ o. IfSome o (λ s. s ≡ set.remove self.now index)) }
     {
-        match self.list.without_last(index)? {
-            Some(list) => Ok(Some(Assumptions { list })),
-            None => Ok(None),
+        match &self.list {
+            IndexList::One(only) if *only == index => {
+                let list = IndexList::Nothing;
+                Ok(Some(Assumptions { list }))
+            }
+            IndexList::Many(count, items) => match front_but_last(*count, items, index)? {
+                Some(list) => Ok(Some(Assumptions { list })),
+                None => Ok(None),
+            },
+            _ => Ok(None),
         }
     }
 
@@ -352,48 +274,100 @@ impl Assumptions {
         requires { IsRising indices.items }
         ensures { IfOk result (λ s. s ≡ set.from_list indices.items) }
     {
+        let list = match indices.as_slice() {
+            [] => IndexList::Nothing,
+            [index] => IndexList::One(*index),
+            _ => {
+                let Ok(count) = u32::try_from(indices.len()) else {
+                    return Err(AllocError);
+                };
+                IndexList::Many(count, Shared::new(alloc, indices)?)
+            }
+        };
+        Ok(Assumptions { list })
+    }
+
+    // The set of these lists. They become one if they are many.
+    fn of_lists(alloc: Global, lists: Lists) -> Result<Self, AllocError>
+        ensures { IfOk result (λ s. s ≡ lists) }
+    {
+        if lists.len() < LONG || !lists.are_few() {
+            let indices = lists.indices(alloc);
+            drop(lists);
+            return Assumptions::of_indices(alloc, indices?);
+        }
+        let lists = if lists.has_few_more() {
+            lists
+        } else {
+            lists.shared(alloc)?
+        };
         Ok(Assumptions {
-            list: IndexList::of(alloc, indices)?,
+            list: IndexList::Longer(Shared::new(alloc, lists)?),
         })
     }
 
-    // All indices, where they are few.
+    // The lists of the set. One that is long is shared.
+    fn lists(&self, alloc: Global) -> Result<Shared<Lists>, AllocError>
+        ensures { IfOk result (λ lists. lists ≡ self.now) }
+    {
+        match &self.list {
+            IndexList::Nothing => Shared::new(alloc, Lists::of_few(alloc, &[])?),
+            IndexList::One(index) => {
+                Shared::new(alloc, Lists::of_few(alloc, slice::from_ref(index))?)
+            }
+            IndexList::Many(count, items) if (*count as usize) < LONG => {
+                Shared::new(alloc, Lists::of_few(alloc, front_of(*count, items))?)
+            }
+            IndexList::Many(count, items) => {
+                Shared::new(
+                    alloc,
+                    Lists::of_front(alloc, Front::sharing(*count, items)?)?,
+                )
+            }
+            IndexList::Longer(lists) => lists.clone(),
+        }
+    }
+
+    // All indices, if they are one list.
+    #[inline(always)]
+    fn as_one(&self) -> Option<&[u32]>
+        ensures { IfSome result (λ items. IsListOf self.now items.now) }
+    {
+        match &self.list {
+            IndexList::Nothing => Some(&[]),
+            IndexList::One(index) => Some(slice::from_ref(index)),
+            IndexList::Many(count, items) => Some(front_of(*count, items)),
+            IndexList::Longer(_) => None,
+        }
+    }
+
+    // All indices, if they are one list that isn't long.
+    fn as_short(&self) -> Option<&[u32]>
+        ensures { IfSome result (λ items. IsListOf self.now items.now) }
+    {
+        match self.as_one() {
+            Some(items) if items.len() < LONG => Some(items),
+            _ => None,
+        }
+    }
+
+    // All indices, if they are few.
     fn as_few(&self) -> Option<&[u32]>
         ensures { IfSome result (λ few. set.from_list few.now ≡ self.now) }
     {
-        match self.list.as_one() {
+        match self.as_one() {
             Some(items) if items.len() <= FEW => Some(items),
             _ => None,
         }
     }
 
-    // All indices as one list.
-    #[inline(always)]
-    fn flat(&self, alloc: Global) -> Result<CowSlice<'_, u32>, AllocError>
-        ensures { IfOk result (λ items. IsListOf self.now (cow_slice_items items)) }
-    {
-        match self.list.as_one() {
-            Some(items) => Ok(CowSlice::Borrowed(items)),
-            None => Ok(CowSlice::Owned(self.merged(alloc)?)),
-        }
-    }
-
-    // The indices of all lists, as one.
-    fn merged(&self, alloc: Global) -> Result<Vec<u32>, AllocError>
-        ensures { IfOk result (λ items. IsListOf self.now items.items) }
-    {
-        let rest = join(alloc, self.list.third(), self.list.more())?;
-        let rest = join(alloc, self.list.second(), &rest)?;
-        join(alloc, self.list.first(), &rest)
-    }
-
-    // Whether its first list is long.
-    fn is_long(&self) -> bool {
-        self.list.first().len() >= LONG
-    }
-
     // How many indices the lists have.
     fn len(&self) -> usize {
-        self.list.len()
+        match &self.list {
+            IndexList::Nothing => 0,
+            IndexList::One(_) => 1,
+            IndexList::Many(count, _) => *count as usize,
+            IndexList::Longer(lists) => lists.as_ref().len(),
+        }
     }
 }

@@ -2,7 +2,8 @@
 
 ghost use Rattle.std.specs.Prelude.{◌≡◌, ℕ, false, IsTrue, IfOk, OnOk};
 ghost use Rattle.std.specs.FinSet as set;
-ghost use Rattle.vipr_table.specs.Unions.{union_of_all, union_so_far, has_noted, NotesAtMost};
+ghost use Rattle.vipr_table.specs.Sets.{union_of_all};
+ghost use Rattle.vipr_table.specs.Unions.{union_so_far, has_noted, NotesAtMost};
 
 use crate::assumptions::Assumptions;
 use std::alloc::{AllocError, Global};

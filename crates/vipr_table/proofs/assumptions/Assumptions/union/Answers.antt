@@ -1,9 +1,9 @@
-use Rattle.std.proofs.Common.{◌∙◌, ap, sym}
-use Rattle.std.proofs.lemmas.Result.{MatchResult-weaker}
+use Rattle.std.proofs.Common.{◌∙◌, ap, ap₂, sym}
+use Rattle.std.proofs.lemmas.Result.{MatchResult-weaker, IfOk-weaker}
 use Rattle.std.specs.FinSet.{union}
-use Rattle.vipr_table.proofs.SetLemmas.{union_none, union_same}
+use Rattle.vipr_table.proofs.SetLemmas.{union_none, union_same, union_seen}
 use Rattle.vipr_table.proofs.UnionsLemmas.{none_union}
-use Rattle.vipr_table.proofs.PartLemmas.{union_turned}
+use Rattle.vipr_table.proofs.ListsLemmas.{union_turned}
 use Rattle.vipr_table.proofs.assumptions.Assumptions.union.Goals as goal
 
 pub returns-then-is_empty : goal.returns-then-is_empty
@@ -21,7 +21,11 @@ returns-then-is_one c =
     let same = union_same c.args.self.now ∙ ap (union c.args.self.now) (c.is_one.ensures c.if-is_one.true) in
     MatchResult-weaker c.clone-then-is_one.result c.clone-then-is_one.ensures.cases (λ s e. e ∙ same) (λ _ _. tt)
 
-pub returns-in-Some-3 : goal.returns-in-Some-3
-returns-in-Some-3 c =
-    let longer = rw c.in-Some-3.is at c.in_ok-longer-2.ensures in
-    longer ∙ union_turned c.args.other.now c.args.self.now
+pub returns-then-has_all-2 : goal.returns-then-has_all-2
+returns-then-has_all-2 c =
+    let same = c.has_all-2.ensures c.if-has_all-2.true ∙ union_turned c.args.other.now c.args.self.now in
+    MatchResult-weaker c.clone-then-has_all-2.result c.clone-then-has_all-2.ensures.cases (λ s e. e ∙ same) (λ _ _. tt)
+
+pub returns-in_ok-items-in-Some-Some : goal.returns-in_ok-items-in-Some-Some
+returns-in_ok-items-in-Some-Some c =
+    IfOk-weaker c.of_rising.result _ _ (λ s e. e ∙ union_seen _ _ _ c.in_ok-items-in-Some-Some.ensures ∙ ap₂ union c.in-Some-Some.ensures.is_set c.in-Some-Some.ensures'.is_set) c.of_rising.ensures

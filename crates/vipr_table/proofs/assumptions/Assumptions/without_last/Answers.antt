@@ -1,12 +1,12 @@
-use Rattle.vipr_table.proofs.PartLemmas.{last_out_rises, last_out_seen}
+use Rattle.std.proofs.Common.{[], ◌∷◌, ◌∙◌, ap, sym, subst, refl}
+use Rattle.std.specs.FinSet.{from_list, remove}
+use Rattle.vipr_table.specs.IndexList.{listed_set, Rises}
+use Rattle.vipr_table.specs.Rising.{IsRising}
+use Rattle.vipr_table.proofs.ListsLemmas.{last_out_seen}
 use Rattle.vipr_table.proofs.assumptions.Assumptions.without_last.Goals as goal
 
-pub invariant_of-result : goal.invariant_of-result
-invariant_of-result c =
-    let rest = rw c.in-Some.is at c.in_ok-list.ensures in
-    last_out_rises c.self.inside.list c.in-Some.list c.args.index c.self.invariant rest.0 rest.1
-
-pub returns-in-Some : goal.returns-in-Some
-returns-in-Some c =
-    let rest = rw c.in-Some.is at c.in_ok-list.ensures in
-    last_out_seen c.self.inside.list c.in-Some.list c.args.index _ c.self.invariant c.self.view_is rest.0 rest.1
+pub returns-in-One : goal.returns-in-One
+returns-in-One c =
+    let k = c.args.index in
+    last_out_seen k (k ∷ []) [] (subst (λ x. IsRising (x ∷ [])) c.if-only-index.true (subst Rises c.in-One.is c.self.invariant)) refl
+    ∙ ap (λ s. remove s k) (ap (λ x. from_list (x ∷ [])) (sym c.if-only-index.true) ∙ sym (ap listed_set c.in-One.is) ∙ c.self.view_is)

@@ -1,19 +1,31 @@
-use Rattle.std.proofs.Common.{◌++◌, ◌∷◌, [], ◌∙◌, ap, sym, refl, arith}
-use Rattle.vipr_table.proofs.PartLemmas.{front_shorter, front_taken}
+use Rattle.std.proofs.Common.{◌≡◌, ◌++◌, ◌∷◌, [], take, length, ◌∙◌, ap, sym, subst, arith}
+use Rattle.std.specs.FinSet.{from_list}
+use Rattle.vipr_table.specs.Rising.{IsRising}
+use Rattle.vipr_table.proofs.ListsLemmas.{rest_rises, front_taken, last_out_rises, last_out_seen, only_item}
 use Rattle.vipr_table.proofs.assumptions.list.front_but_last.Goals as goal
 
-pub overflow_cast-result : goal.overflow_cast-result
-overflow_cast-result c =
+pub returns-in-len1-clause-rises : goal.returns-in-len1-clause-rises
+returns-in-len1-clause-rises c =
     let rest = c.in-Some.rest.now in
-    let front = sym c.front_of.ensures ∙ c.in-Some.ensures.cases.0 ∙ ap (λ x. rest ++ x ∷ []) c.if-last-index.true in
-    let less = front_shorter c.args.count _ _ rest front in
-    omega (arith, less)
+    let front : take c.args.count c.args.items.now.items ≡ rest ++ c.args.index ∷ [] = sym c.front_of.ensures ∙ c.in-Some.ensures.cases.0 ∙ ap (λ x. rest ++ x ∷ []) c.if-last-index.true in
+    let one : length rest ≡ 1 = omega (arith, c.in-len1.len_at_least, c.in-len1.len_below) in
+    subst IsRising (sym (only_item rest one)) (rest_rises rest c.args.index (subst IsRising front c.requires))
 
-pub returns-in_ok-items-in-Some : goal.returns-in_ok-items-in-Some
-returns-in_ok-items-in-Some c =
+pub returns-in-len1-clause-set : goal.returns-in-len1-clause-set
+returns-in-len1-clause-set c =
     let rest = c.in-Some.rest.now in
-    let front = sym c.front_of.ensures ∙ c.in-Some.ensures.cases.0 ∙ ap (λ x. rest ++ x ∷ []) c.if-last-index.true in
-    let same = front_taken c.args.count _ _ rest front in (
-      record { first = refl; second = refl; third = refl; more = refl },
-      rw c.in_ok-items-in-Some.ensures.cases (front ∙ ap (λ xs. xs ++ c.args.index ∷ []) (sym same)),
-    )
+    let front : take c.args.count c.args.items.now.items ≡ rest ++ c.args.index ∷ [] = sym c.front_of.ensures ∙ c.in-Some.ensures.cases.0 ∙ ap (λ x. rest ++ x ∷ []) c.if-last-index.true in
+    let one : length rest ≡ 1 = omega (arith, c.in-len1.len_at_least, c.in-len1.len_below) in
+    ap from_list (only_item rest one) ∙ last_out_seen c.args.index _ rest c.requires front
+
+pub returns-in_ok-items-in-Some-clause-rises : goal.returns-in_ok-items-in-Some-clause-rises
+returns-in_ok-items-in-Some-clause-rises c =
+    let rest = c.in-Some.rest.now in
+    let front : take c.args.count c.args.items.now.items ≡ rest ++ c.args.index ∷ [] = sym c.front_of.ensures ∙ c.in-Some.ensures.cases.0 ∙ ap (λ x. rest ++ x ∷ []) c.if-last-index.true in
+    rw c.in_ok-items-in-Some.ensures.cases (last_out_rises c.args.count c.args.index c.args.items.now.items rest c.requires front)
+
+pub returns-in_ok-items-in-Some-clause-set : goal.returns-in_ok-items-in-Some-clause-set
+returns-in_ok-items-in-Some-clause-set c =
+    let rest = c.in-Some.rest.now in
+    let front : take c.args.count c.args.items.now.items ≡ rest ++ c.args.index ∷ [] = sym c.front_of.ensures ∙ c.in-Some.ensures.cases.0 ∙ ap (λ x. rest ++ x ∷ []) c.if-last-index.true in
+    rw c.in_ok-items-in-Some.ensures.cases (ap from_list (front_taken c.args.count c.args.index c.args.items.now.items rest front) ∙ last_out_seen c.args.index _ rest c.requires front)

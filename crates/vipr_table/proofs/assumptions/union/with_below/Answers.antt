@@ -1,6 +1,6 @@
 use Rattle.std.proofs.Common.{◌≡◌, ◌∙◌, ap, sym, length, arith}
 use Rattle.std.specs.FinSet.{union}
-use Rattle.vipr_table.specs.Unions.{union_of_all}
+use Rattle.vipr_table.specs.Sets.{union_of_all}
 use Rattle.vipr_table.proofs.UnionsLemmas.{top_joined, none_union, no_sets}
 use Rattle.vipr_table.proofs.assumptions.union.with_below.Goals as goal
 

@@ -1,6 +1,6 @@
 use Rattle.std.proofs.Common.{◌≡◌, length}
 use Rattle.std.specs.FinSet.{union}
-use Rattle.vipr_table.specs.Unions.{union_of_all}
+use Rattle.vipr_table.specs.Sets.{union_of_all}
 use Rattle.vipr_table.proofs.assumptions.union.with_below.Given as goal
 
 abbrev pub invariant-loop-top : goal.invariant-loop-top

@@ -2,7 +2,8 @@ use Rattle.std.proofs.Common.{◌≡◌, ℕ, ◌++◌, ◌∙◌, List, Result,
 use Rattle.std.specs.Prelude.{OnOk, if◌then◌else◌, is_ok}
 use Rattle.std.specs.FinSet.{FinSet, union, from_list}
 use Rattle.std.specs.Ordering.{nat_cmp}
-use Rattle.vipr_table.specs.Unions.{union_of_all, union_so_far}
+use Rattle.vipr_table.specs.Sets.{union_of_all}
+use Rattle.vipr_table.specs.Unions.{union_so_far}
 use Rattle.vipr_table.proofs.SetLemmas.{union_none}
 use Rattle.vipr_table.proofs.UnionsLemmas.{few_put}
 use Rattle.vipr_table.proofs.assumptions.union.Union.add.Goals as goal

@@ -1,6 +1,6 @@
 use Rattle.std.proofs.Common.{◌∙◌, ap, sym}
 use Rattle.std.specs.FinSet.{union, from_list}
-use Rattle.vipr_table.specs.Unions.{union_of_all}
+use Rattle.vipr_table.specs.Sets.{union_of_all}
 use Rattle.vipr_table.proofs.UnionsLemmas.{top_joined}
 use Rattle.vipr_table.proofs.assumptions.union.Union.settle.Goals as goal
 

@@ -1,0 +1,172 @@
+-- A set in several lists.
+use Rattle.std.proofs.Common.{◌≡◌, ℕ, zero, suc, ◌+◌, ◌<◌, ◌^◌, Bool, true, false, ◌||◌, ◌&&◌, not, List, [], ◌∷◌}
+use Rattle.std.proofs.Common.{◌++◌, length, take, get_or, min, sym, ap, ap₂, ◌∙◌, refl, subst, arith}
+use Rattle.std.proofs.Common.{nat_eq, slice_index_or}
+use Rattle.std.proofs.lemmas.Bool.Decides.{nat_tests}
+use Rattle.std.proofs.lemmas.List.{take_more, length-append, length-take, take-take, take_at}
+use Rattle.std.specs.Cmp.{nat_cmp_total}
+use Rattle.std.specs.Ordering.{nat_cmp, eq_by_cmp}
+use Rattle.std.specs.FinSet.{FinSet, contains, empty, from_list, union, remove, same_set}
+use Rattle.std.specs.FinSet.{nat_cmp-IsAntisymmetric, contains-empty, contains-remove, contains-from_list_nat}
+use Rattle.vipr_table.specs.Rising.{IsRising, has}
+use Rattle.vipr_table.specs.Sets.{union_of_all}
+use Rattle.vipr_table.proofs.RisingLemmas.{or_part, or_turned, without_last, rises_filter, no_items}
+use Rattle.vipr_table.proofs.SetLemmas.{union_none, longer_seen, remove_seen, empty_seen}
+use Rattle.vipr_table.proofs.UnionsLemmas.{has_of, union_assoc, last_two, one_below}
+
+-- ---- a front without its last item
+
+pub rest_rises : (xs : List ℕ) (k : ℕ) → IsRising (xs ++ k ∷ []) → IsRising xs
+rest_rises xs k r = subst IsRising (sym (without_last k _ xs r refl)) (rises_filter _ 0 (2 ^ 32) _ r)
+
+pub front_shorter : (count k : ℕ) (items rest : List ℕ) → take count items ≡ rest ++ k ∷ []
+    → length rest < count
+front_shorter count k items rest is =
+    let all : length (rest ++ k ∷ []) ≡ min count (length items) = ap length (sym is) ∙ length-take count items in
+    let one = length-append rest (k ∷ []) in
+    omega (arith, all, one)
+
+pub front_taken : (count k : ℕ) (items rest : List ℕ) → take count items ≡ rest ++ k ∷ []
+    → take (length rest) items ≡ rest
+front_taken count k items rest is =
+    sym (take-take (length rest) count items (let less = front_shorter count k items rest is in omega (arith, less)))
+    ∙ ap (take (length rest)) is
+    ∙ take_at rest (k ∷ []) (length rest) refl
+
+pub last_out_rises : (count k : ℕ) (items rest : List ℕ) → IsRising (take count items)
+    → take count items ≡ rest ++ k ∷ [] → IsRising (take (length rest) items)
+last_out_rises count k items rest r is =
+    subst IsRising (sym (front_taken count k items rest is)) (rest_rises rest k (subst IsRising is r))
+
+pub last_out_seen : (k : ℕ) (xs rest : List ℕ) → IsRising xs → xs ≡ rest ++ k ∷ []
+    → from_list {R = nat_cmp} rest ≡ remove (from_list xs) k
+last_out_seen k xs rest r is = ap from_list (without_last k xs rest r is) ∙ remove_seen xs k
+
+-- ---- unions
+
+pub appended : (xs ys : List ℕ) → from_list {R = nat_cmp} (xs ++ ys) ≡ union (from_list xs) (from_list ys)
+appended xs ys = longer_seen [] xs ys
+
+pub union_turned : (s t : FinSet nat_cmp) → union s t ≡ union t s
+union_turned s t = same_set nat_cmp_total nat_cmp-IsAntisymmetric _ _ (λ q.
+    has_of s t q ∙ or_turned (contains s q) (contains t q) ∙ sym (has_of t s q))
+
+pub crossed : (a b c d : FinSet nat_cmp) → union (union a b) (union c d) ≡ union (union a c) (union b d)
+crossed a b c d =
+    sym (union_assoc (union a b) c d) ∙ ap (λ s. union s d) (last_two a b c) ∙ union_assoc (union a c) b d
+
+left_out_of_both : (e a b : Bool) → (not e && (a || b)) ≡ ((not e && a) || (not e && b))
+left_out_of_both true a b = refl
+left_out_of_both false a b = refl
+
+pub remove_union : (s t : FinSet nat_cmp) (k : ℕ)
+    → remove (union s t) k ≡ union (remove s k) (remove t k)
+remove_union s t k = same_set nat_cmp_total nat_cmp-IsAntisymmetric _ _ (λ q.
+    contains-remove nat_cmp_total (union s t) k q
+    ∙ ap (λ b. not (eq_by_cmp nat_cmp q k) && b) (has_of s t q)
+    ∙ left_out_of_both (eq_by_cmp nat_cmp q k) (contains s q) (contains t q)
+    ∙ ap₂ (λ a b. a || b) (sym (contains-remove nat_cmp_total s k q)) (sym (contains-remove nat_cmp_total t k q))
+    ∙ sym (has_of (remove s k) (remove t k) q))
+
+-- nothing is added by indices that a set has already
+pub union_with_part : (s t : FinSet nat_cmp) (ys : List ℕ) → from_list ys ≡ t
+    → ((q : ℕ) → has ys q ≡ true → contains s q ≡ true) → s ≡ union s t
+union_with_part s t ys is within = same_set nat_cmp_total nat_cmp-IsAntisymmetric _ _ (λ q.
+    or_part (contains s q) (contains t q) (λ h. within q (sym (contains-from_list_nat ys q) ∙ ap (λ u. contains u q) is ∙ h))
+    ∙ sym (has_of s t q))
+
+-- ---- one of several sets
+
+or_true : (b : Bool) → (b || true) ≡ true
+or_true true = refl
+or_true false = refl
+
+pub within_all : (ss : List (FinSet nat_cmp)) (i q : ℕ) (s : FinSet nat_cmp) → i < length ss
+    → s ≡ get_or ss i s → contains s q ≡ true → contains (union_of_all ss) q ≡ true
+within_all [] i q s lt is h = absurd (omega arith)
+within_all (r ∷ ss) zero q s lt is h =
+    has_of r (union_of_all ss) q
+    ∙ ap (λ t. contains t q || contains (union_of_all ss) q) (sym is)
+    ∙ ap (λ b. b || contains (union_of_all ss) q) h
+within_all (r ∷ ss) (suc i) q s lt is h =
+    has_of r (union_of_all ss) q
+    ∙ ap (λ b. contains r q || b) (within_all ss i q s (omega arith) is h)
+    ∙ or_true (contains r q)
+
+pub with_one_of : (ss : List (FinSet nat_cmp)) (i : ℕ) (s : FinSet nat_cmp) → i < length ss
+    → s ≡ get_or ss i s → union_of_all ss ≡ union (union_of_all ss) s
+with_one_of ss i s lt is = same_set nat_cmp_total nat_cmp-IsAntisymmetric _ _ (λ q.
+    or_part (contains (union_of_all ss) q) (contains s q) (within_all ss i q s lt is)
+    ∙ sym (has_of (union_of_all ss) s q))
+
+pub one_of_none : (ss : List (FinSet nat_cmp)) (i : ℕ) (s : FinSet nat_cmp) → i < length ss
+    → s ≡ get_or ss i s → union_of_all ss ≡ empty → s ≡ empty
+one_of_none ss i s lt is none = same_set nat_cmp_total nat_cmp-IsAntisymmetric _ _ (λ q. by q (contains s q) refl)
+  where
+    by : (q : ℕ) (b : Bool) → contains s q ≡ b → contains s q ≡ contains (empty {R = nat_cmp}) q
+    by q false e = e ∙ sym (contains-empty nat_cmp q)
+    by q true e = absurd (
+        let here = within_all ss i q s lt is e in
+        let gone = ap (λ t. contains t q) none in
+        let nothing = contains-empty nat_cmp q in
+        cc (here, gone, nothing))
+
+pub parts_of_none : (s t : FinSet nat_cmp) → union s t ≡ empty → (s ≡ empty) × (t ≡ empty)
+parts_of_none s t h =
+    let all : union s (union t empty) ≡ empty = ap (union s) (sym (union_none t)) ∙ h in
+    (one_of_none (s ∷ t ∷ []) 0 s (omega arith) refl all, one_of_none (s ∷ t ∷ []) 1 t (omega arith) refl all)
+
+-- ---- one set more
+
+pub more_united : (ss : List (FinSet nat_cmp)) (i : ℕ) (s : FinSet nat_cmp) → i < length ss
+    → s ≡ get_or ss i s → union_of_all (take (i + 1) ss) ≡ union (union_of_all (take i ss)) s
+more_united ss i s lt is =
+    ap union_of_all (take_more ss i s lt)
+    ∙ one_below (take i ss) (get_or ss i s)
+    ∙ ap (union (union_of_all (take i ss))) (sym is)
+
+pub more_added : (old now next : FinSet nat_cmp) (ss : List (FinSet nat_cmp)) (i : ℕ) (s : FinSet nat_cmp)
+    → i < length ss → s ≡ get_or ss i s → now ≡ union old (union_of_all (take i ss))
+    → next ≡ union now s → next ≡ union old (union_of_all (take (i + 1) ss))
+more_added old now next ss i s lt is so_far step =
+    step ∙ ap (λ t. union t s) so_far ∙ union_assoc old (union_of_all (take i ss)) s
+    ∙ ap (union old) (sym (more_united ss i s lt is))
+
+-- ---- lists, and the sets that they are
+
+pub only_item : (xs : List ℕ) → length xs ≡ 1 → slice_index_or xs 0 0 ∷ [] ≡ xs
+only_item [] e = absurd (omega arith)
+only_item (x ∷ []) e = refl
+only_item (x ∷ y ∷ ys) e = absurd (omega arith)
+
+pub listed_in : (s : FinSet nat_cmp) (xs : List ℕ) (q : ℕ) (b : Bool) → from_list xs ≡ s
+    → b ≡ has xs q → contains s q ≡ b
+listed_in s xs q b is e = ap (λ t. contains t q) (sym is) ∙ contains-from_list_nat xs q ∙ sym e
+
+pub listed_empty : (s : FinSet nat_cmp) (xs : List ℕ) (b : Bool) → from_list xs ≡ s
+    → b ≡ nat_eq (length xs) 0 → (b ≡ true → s ≡ empty) × (s ≡ empty → b ≡ true)
+listed_empty s xs b is e = (λ h. sym is ∙ (empty_seen xs b e).0 h, λ h. (empty_seen xs b e).1 (is ∙ h))
+
+pub length_of_none : (s : FinSet nat_cmp) (xs : List ℕ) → from_list xs ≡ s → s ≡ empty → length xs ≡ 0
+length_of_none s xs is none =
+    let b : nat_eq (length xs) 0 ≡ true = (listed_empty s xs (nat_eq (length xs) 0) is refl).1 none in
+    grind (arith, nat_tests)
+
+pub none_listed : (s : FinSet nat_cmp) (xs : List ℕ) → from_list xs ≡ s → length xs ≡ 0 → s ≡ empty
+none_listed s xs is e = sym is ∙ ap from_list (no_items xs e)
+
+pub lists_have : (ss : List (FinSet nat_cmp)) (xs : List ℕ) (s : FinSet nat_cmp) (q : ℕ)
+    → union (union_of_all ss) (from_list xs) ≡ s
+    → contains s q ≡ (contains (union_of_all ss) q || has xs q)
+lists_have ss xs s q is =
+    ap (λ t. contains t q) (sym is)
+    ∙ has_of (union_of_all ss) (from_list xs) q
+    ∙ ap (λ b. contains (union_of_all ss) q || b) (contains-from_list_nat xs q)
+
+pub lists_empty : (ss : List (FinSet nat_cmp)) (xs : List ℕ) (s : FinSet nat_cmp) (b : Bool)
+    → union (union_of_all ss) (from_list xs) ≡ s → union_of_all ss ≡ empty
+    → b ≡ nat_eq (length xs) 0 → (b ≡ true → s ≡ empty) × (s ≡ empty → b ≡ true)
+lists_empty ss xs s b is none e = (
+  λ h. sym is ∙ ap₂ union none ((empty_seen xs b e).0 h) ∙ sym (union_none empty),
+  λ h. (empty_seen xs b e).1 ((parts_of_none (union_of_all ss) (from_list xs) (is ∙ h)).1),
+)
