@@ -32,6 +32,7 @@ Those of PRODUCTS have a product of large factors in a short text, which a progr
   alternating_sets       a sum that names two large sets of assumptions in turn
   nine_sets              a sum that names nine large sets of assumptions in turn
   joined_sets            sums that join the same two large sets of assumptions, kept to the end
+  split_on_sets          splits whose branches rest on two large sets of assumptions, in turn, kept to the end
   growing_at_the_front   sets of assumptions that grow in front of all others, kept to the end
   growing_in_the_middle  sets of assumptions that grow between all others
   own_in_front          one sum over many sets, each a large one and an assumption of its own before all others
@@ -397,6 +398,21 @@ def joined_sets(size):
     yield from proof(steps + [f'f G 0 0 {lin([(i, 1) for i in tops])} -1'] * count)
 
 
+def split_on_sets(size):
+    count = size // 190 + 1
+    steps, own = gathered(count, 1), []
+    own.append(len(steps))
+    steps += gathered(count, len(steps) + 1)
+    own.append(len(steps))
+    low, high = len(steps) + 1, len(steps) + 2
+    steps += ['l L 0 1 0 1 { asm } -1', 'g G 1 1 0 1 { asm } -1']
+    steps += [f'f G 0 0 {lin([(own[0], 1), (low, -1), (0, 1)])} -1', f'f G 0 0 {lin([(own[1], 1), (high, 1), (0, -1)])} -1']
+    halves = [f'{high + 1} {low}', f'{high + 2} {high}']
+    steps += [f'u G 0 0 {{ uns {" ".join(it)} }} -1' for it in (halves, halves[::-1])] * (count // 2)
+    yield from problem(1, [0], [constraint('c', 'E', 0, unit(1))], 'range -inf inf')
+    yield from proof(steps)
+
+
 def own_in_front(size):
     count = size // 110
     steps = ['a G 0 0 { asm } -1'] * count + gathered(count, count)
@@ -462,7 +478,7 @@ def long_sum(size):
 
 
 PRODUCTS = [objective_tested, columns_and_objective, objective_stated, objective_kept, weak_goals, split_on_objective,
-            same_set, alternating_sets, nine_sets, joined_sets, growing_at_the_front, growing_in_the_middle,
+            same_set, alternating_sets, nine_sets, joined_sets, split_on_sets, growing_at_the_front, growing_in_the_middle,
             own_in_front]
 STEPS = [split_on_rows, wide_divisors]
 KEPT = [names, names_and_solutions, empty_constraints, long_named, short_constraints, long_constraint, integer_indices,

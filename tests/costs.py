@@ -41,10 +41,11 @@ ROOM = 2 << 20
 LESS = {('empty_solutions', 'tighten'): 4}
 # by how many bytes the peak of a run varies, by what the system maps of the program
 NOISE = 256 << 10
-# the lengths of the shorter texts; sets show what they cost in longer ones
-LENGTH, LONG = 8_000, {'same_set': 400_000, 'alternating_sets': 400_000, 'nine_sets': 400_000, 'joined_sets': 400_000,
-                       'own_in_front': 700_000, 'growing': 100_000, 'growing_at_the_front': 100_000,
-                       'growing_in_the_middle': 100_000}
+# the lengths of the shorter texts; sets show what they cost in longer ones, and some at one of several lengths
+LENGTH, LONG = 8_000, {'same_set': [400_000], 'alternating_sets': [400_000], 'nine_sets': [400_000],
+                       'joined_sets': [225_000, 400_000], 'split_on_sets': [200_000, 400_000],
+                       'own_in_front': [700_000], 'growing': [100_000], 'growing_at_the_front': [100_000],
+                       'growing_in_the_middle': [100_000]}
 MEMORY_LENGTH, KEPT_LENGTH, WRITTEN_LENGTH = 200_000, 500_000, 100_000
 # instructions that a text of this length may take whose steps have no shorter way
 STEPS_LENGTH, STEPS_MOST = 20_000, {'split_on_rows': 13_000_000, 'wide_divisors': 300_000_000}
@@ -76,8 +77,8 @@ def file_of(family, command, length):
 
 def growth(task):
     """How much more four times the text costs: instructions, and memory; None for what isn't known."""
-    family, command = task
-    least, found = LONG.get(family.__name__, LENGTH), []
+    family, command, least = task
+    found = []
     for measure, is_there, length, free in ((instructions, VALGRIND, least, 0),
                                             (peak, GNU_TIME, max(least, MEMORY_LENGTH), (EMPTY or 0) - NOISE)):
         files = [file_of(family, command, it) for it in (length, 4 * length)]
@@ -107,20 +108,18 @@ def row(what, command, found):
 def growths(pool):
     """Checks the families of PRODUCTS and HOSTILE, and gives the rows of their table."""
     chosen = families.PRODUCTS + families.HOSTILE
-    tasks = [(family, 'check') for family in chosen] + [(families.objective_tested, 'explain')]
-    tasks += [(family, command) for command in COMPACT for family in chosen]
-    most = {command: [0, 0] for command in COMPACT}
-    for (family, command), found in zip(tasks, pool.map(growth, tasks)):
+    tasks = [(family, command) for command in ('check', *COMPACT) for family in chosen]
+    tasks.insert(len(chosen), (families.objective_tested, 'explain'))
+    tasks = [(*task, length) for task in tasks for length in LONG.get(task[0].__name__, [LENGTH])]
+    rows = {}
+    for (family, command, _), found in zip(tasks, pool.map(growth, tasks)):
         name = family.__name__
         for what, times in zip(('instructions', 'memory'), found):
             check(times is not None, name, command, f'{what}: not verified within {SECONDS} seconds')
             check((times or 0) <= GROWTH, name, command, f'{what}: {times or 0:.1f} times for 4 times the text')
-        if command in COMPACT:
-            most[command] = [max(*pair, key=lambda times: times or 0) for pair in zip(most[command], found)]
-        else:
-            yield row(ABOUT[name], command, found)
-    for command, found in most.items():
-        yield row('the most of all these texts', command, found)
+        of = (ABOUT[name] if command not in COMPACT else 'the most of all these texts'), command
+        rows[of] = [max(*pair, key=lambda times: times or 0) for pair in zip(rows.get(of, (0, 0)), found)]
+    return [row(*of, found) for of, found in rows.items()]
 
 
 def memory(pool):
@@ -244,7 +243,7 @@ def main():
     if not GNU_TIME:
         CHECKS.skip('GNU time', 'no memory is measured')
     with ThreadPoolExecutor(os.cpu_count()) as pool:
-        first = list(growths(pool))
+        first = growths(pool)
         second = list(memory(pool)) if GNU_TIME else []
         steps(pool)
         if VALGRIND:
