@@ -92,7 +92,7 @@ MISTAKES = [
      '.vipr:23:18\n', 'with `rnd` in place of `lin` the derivation follows'),
     # constraint indices counted from 1
     ('knapsack', 'rnd 3 0 13/4 2 1/4 6 1/2', 'rnd 3 1 13/4 3 1/4 7 1/2',
-     '.vipr:23:37\n', 'constraints count from 0: the problem has 7'),
+     '.vipr:23:37\n', 'indices count from 0: the problem has 7 constraints'),
     # variable indices counted from 1
     ('knapsack', '3 0 10 1 13 2 7', '3 1 10 2 13 3 7',
      '.vipr:10:13\n', 'indices count from 0: that of the last variable is 2'),
@@ -339,8 +339,8 @@ SECOND = (b'VER 1.0 VAR 1 x INT 0 OBJ min 1 0 1 CON 2 2\n c G 0 1 0 1\n  d G 1 1
 
 # Texts that are no certificate, or a wrong one, and what is said of them.
 STRANGE = [
-    (SECOND, '.vipr:5:4\n'),
-    (SECOND, '5 |    bee 1 0 1/2 DER 0\n  |    ^^^ this solution\n'),
+    (SECOND, '.vipr:5:12\n'),
+    (SECOND, '5 |    bee 1 0 1/2 DER 0\n  |            ^^^ this value\n'),
     (SECOND, 'constraint 1 `d`: x >= 1  (line 3)\n'),
     (b'', 'the text ends where this is wanted: the keyword `VER`'),
     (b'\x1f\x8b\x08\0', 'gzip -dc FILE | vipr explain'),
@@ -378,7 +378,7 @@ TRUE = [
      ['1 x [1], which is not before this derivation\n', 'the problem has 0'], ["isn't one of this text"]),
     # many entries name the constraint at fault: one is marked
     ([], 'VER 1.0 VAR 0 INT 0 OBJ min 0 CON 1 0 c G 0 0 RTP infeas SOL 0 DER 1 a G 1 0 { lin 600' + ' 7 1' * 600
-     + ' } -1', ['(600 entries)', 'constraints count from 0', '= see: docs/FORMAT.md, cause 31'], ['<-- entry']),
+     + ' } -1', ['(600 entries)', 'indices count from 0: the problem', '= see: docs/FORMAT.md, cause 31'], ['<-- entry']),
     # an entry with multiplier 0 needs nothing
     ([], 'VER 1.0 VAR 0 INT 0 OBJ min 0 CON 1 0 c G 0 0 RTP infeas SOL 0 DER 3 a G 1 0 { asm } 1 '
      'b G 1 0 { asm } 1 d G 1 0 { asm } -1 e G 1 0 { lin 3 1 0 0 1 1 1 } -1'.replace('{ asm } 1', '{ lin 0 } 1')

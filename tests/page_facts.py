@@ -137,7 +137,8 @@ class Facts:
     def read_tokens(self):
         """Walks the tokens up to the one at a fault of the text: `role` and `token` are what is wanted there, and it."""
         self.names, self.lasts, self.counts, self.claims, self.tokens = {}, {}, {}, {}, {}
-        refused = self.number() if self.refused is not None and self.place.startswith('DER') else -1
+        kind, _, number = self.place.partition(' ') if self.refused is not None else ('', '', '')
+        refused = kind, int(number) if kind in ('SOL', 'DER') else -1
         self.token = self.name = NOTHING
         end = int(self.place.split()[1]) if self.is_text_fault() else len(self.text) + 1
         walk = roles()
@@ -154,7 +155,7 @@ class Facts:
             kind = 'SOL' if role.section == 'SOL' else 'CON'
             if role.section == 'RTP':
                 self.claims[role.wanted] = self.token
-            if role.section == 'DER' and item == refused:
+            if (role.section, item) == refused:
                 self.tokens[role.wanted, role.part] = self.token
             if role.wanted == 'name':
                 self.name = self.token
@@ -220,6 +221,20 @@ class Facts:
         """A constraint in the lines of `explain`, as `G 1 1 0 2`."""
         sense, bound, _, *words = self.details[label].split()
         return {int(index): Fraction(value) for index, value in zip(words[::2], words[1::2])}, sense, Fraction(bound)
+
+    def dual_tokens(self):
+        """The part of the claim that a constraint has to prove."""
+        if self.checker.bounds is None:
+            return [self.claims[it] for it in ('keyword', 'claim')]
+        return [self.claims['lower bound' if self.checker.minimizes else 'upper bound']]
+
+    def value_at_fault(self):
+        """The value of a solution that is at fault alone, None if there is none."""
+        alone = list(self.plain(int(self.details['constraint'].split()[0]))[0]) if self.refused == 22 else []
+        variable = int(self.details['variable'].split()[0]) if self.refused == 21 else alone[0] if len(alone) == 1 else None
+        pairs = [part for wanted, part in self.tokens if wanted == 'row index']
+        found = [part for part in pairs if count_of(self.tokens['row index', part].bytes) == variable]
+        return self.tokens['row coefficient', found[0]] if found else None
 
     def entry_at_fault(self):
         """The position of the entry of a sum that is at fault, None if no entry alone is."""

@@ -12,7 +12,7 @@ from math import ceil, floor
 
 from page_facts import (
     EMPTY, ITEMS, KEYWORDS, MOST_CARETS, MOST_ENTRIES, MOST_NEAR, MOST_OF_SET, MOST_SHOWN, MOST_VALUES,
-    NOTHING, NUMBER, SIGNS, algebra, constraint_shown, difference, measured, rounded, rules, same, shown, shown_name, true, variable,
+    NOTHING, NUMBER, SIGNS, algebra, constraint_shown, difference, measured, place_of, rounded, rules, same, shown, shown_name, true, variable,
 )
 
 
@@ -59,7 +59,7 @@ WANTED = {
     'claim': '`infeas` or `range`', 'lower bound': 'the lower bound, a number or `-inf`',
     'upper bound': 'the upper bound, a number or `inf`', 'open brace': '`{{`, a token of its own',
     'reason': 'a reason: `asm`, `lin`, `rnd`, `uns` or `sol`', 'entry count': 'the number of entries, a count in digits',
-    'entry index': "the constraint's index of entry {part} (of {parts}, counted from 0)",
+    'entry index': "the constraint's index in entry {part} (of {parts}, counted from 0)",
     'multiplier': 'the multiplier of entry {part} (of {parts}, counted from 0)', 'close brace': '`}}`, a token of its own',
     'last reference': "the last reference: a constraint's index or -1",
 }
@@ -98,9 +98,12 @@ def bar(page, margin: str):
     same('the margin', len(margin), len(str(page.line)))
 
 
-@form(r'(\d+) \| (.*)')
-def excerpt(page, line, text: str):
-    same('the line', line, page.line)
+@form(r'( *)(\d+) \| (.*)')
+def excerpt(page, margin: str, line, text: str):
+    if page.said['carets'] % 2 and page.facts.refused == 22:
+        page.place = page.facts.names['CON', int(page.facts.details['constraint'].split()[0])].at
+    same('the line', line, place_of(page.facts.text, page.place)[0])
+    same('the margin', len(margin) + len(str(line)), len(str(page.line)))
     page.excerpt = text
 
 
@@ -115,13 +118,22 @@ def mended(page, line, text: str):
 
 @form(r'( *) \| ( *)(\^+) (.+)')
 def carets(page, margin: str, front: str, marks: str, label: str):
-    facts = page.facts
-    same('the margin', len(margin), len(str(page.line)))
     page.said[f'label {label.split()[0]}'] += 1
     tokens = labelled(page, label)
     true(page.place in [it.at for it in tokens], f'the place of {label!r} is another one')
+    test_marks(page, margin, front, marks, next(it for it in tokens if it.at == page.place))
+
+
+@form(r'( *) \| ( *)(-+) this constraint')
+def other_place(page, margin: str, front: str, marks: str):
+    test_marks(page, margin, front, marks, page.facts.names['CON', int(page.facts.details['constraint'].split()[0])])
+
+
+def test_marks(page, margin, front, marks, token):
+    """Tests that the marks are below a token, and the excerpt is of its line."""
+    facts = page.facts
+    same('the margin', len(margin), len(str(page.line)))
     true(page.excerpt is not None, 'no excerpt is in front of this')
-    token = next(it for it in tokens if it.at == page.place)
     # where the part of the line that is shown begins follows from the column of the carets
     begin = facts.text.rfind(b'\n', 0, token.at) + 1
     end = re.compile(rb'[\r\n]|$').search(facts.text, token.at).start()
@@ -138,7 +150,7 @@ def carets(page, margin: str, front: str, marks: str, label: str):
                 ends.add(len(page.excerpt) - 2)
     page.front = len(front)
     true(ends, f'the excerpt {page.excerpt!r} is not of the line, or the carets are at another place of it')
-    same('the carets', len(marks), max(1, min(MOST_CARETS, len(shown(token.bytes)), max(ends) - len(front))))
+    same('the marks', len(marks), max(1, min(MOST_CARETS, len(shown(token.bytes)), max(ends) - len(front))))
 
 
 def labelled(page, label):
@@ -151,10 +163,13 @@ def labelled(page, label):
         true(facts.is_text_fault() and facts.is_end, 'the text does not end here')
         same('whether there is a token', label != 'no token is here', facts.token != NOTHING)
         return [facts.token]
-    if label == 'this solution':
-        return [facts.names['SOL', facts.number()]]
+    if label in ('this solution', 'this value'):
+        value = facts.value_at_fault()
+        same('whether a value is at fault', label == 'this value', value is not None)
+        return [value or facts.names['SOL', facts.number()]]
     if label == "this isn't proved":
-        return dual_tokens(facts)
+        same('the cause', facts.refused, 51)
+        return facts.dual_tokens()
     if label == 'the primal bound':
         same('the cause', facts.refused, 52)
         return [facts.claims['upper bound' if facts.checker.minimizes else 'lower bound']]
@@ -186,14 +201,6 @@ def is_at_fault(facts, kind, part):
     if facts.entry_at_fault() is not None:
         return part == facts.entry_at_fault()
     return kind == ('branch' if facts.refused == 37 else 'name' if facts.refused == 38 else 'reason') and part in (None, 1)
-
-
-def dual_tokens(facts):
-    """The part of the claim that no constraint proves."""
-    same('the cause', facts.refused, 51)
-    if facts.checker.bounds is None:
-        return [facts.claims[it] for it in ('keyword', 'claim')]
-    return [facts.claims['lower bound' if facts.checker.minimizes else 'upper bound']]
 
 
 @form(r'  = reading: (\w+)(?:, ([a-z ]+) (\d+) \((\d+) of (\d+)\)(?:, `(\S*)`)?)?')
@@ -529,10 +536,10 @@ def other_constraint(page, index):
     same('the constraint', index, int(page.facts.details['index']))
 
 
-@form(r'  = help: constraints count from 0: the problem has (none|\d+), so the first derivation is (\d+); is this line in front of one that it needs\?')
+@form(r'  = help: indices count from 0: the problem has (\d+) constraints?, so the first derivation is (\d+); is this line in front of one that it needs\?')
 def from_zero(page, count, first):
     facts = page.facts
-    same('the constraints', (facts.refused, 0 if count == 'none' else count, first), (31, facts.given, facts.given))
+    same('the constraints', (facts.refused, count, first), (31, facts.given, facts.given))
 
 
 NAMED = r'\[(\d+)\] (\S+)'

@@ -14,8 +14,10 @@ from page_lines import FORMS, OFFERS, Page, first_past, is_at_fault, is_second, 
 
 def required(facts, said):
     """What a page has to say: the kind of a line, and how many lines of it there are, None for one or more."""
-    yield from {'excerpt': said['arrow'], 'carets': said['arrow'], 'bar': 2 * said['arrow']}.items()
     cause = facts.refused
+    others = int(cause == 22)
+    excerpts = said['arrow'] + others
+    yield from {'excerpt': excerpts, 'carets': said['arrow'], 'other_place': others, 'bar': excerpts + said['arrow']}.items()
     if cause is None:
         yield 'claim', 1
         yield ('no_goal' if facts.lines[-1] == 'goal none' else 'goal'), 1

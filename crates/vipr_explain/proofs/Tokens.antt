@@ -1,14 +1,15 @@
 -- The tokens of a text, as they are read one by one
 use Rattle.std.proofs.Common.{◌≡◌, ℕ, ◌+◌, ◌<◌, ◌≤◌, false, true, List, [], ◌∷◌, length, take}
 use Rattle.std.proofs.Common.{drop, get_or, inl, inr, refl, sym, ap, ◌∙◌, arith}
-use Rattle.std.proofs.lemmas.List.{at_drop_more, get_or-drop, length-drop}
+use Rattle.std.proofs.lemmas.List.{at_drop_more, get_or-drop, length-drop, length-take-le}
 use Rattle.std.proofs.lemmas.Bool.{cases_lt, false≢true}
 use Rattle.vipr_spec.specs.Tokens.{Token, is_white, tokens_after_front, tokens_from}
 use Rattle.vipr_spec.proofs.Laws.{token_whole}
 use Rattle.vipr_scan.specs.Places.{tokens_in}
 use Rattle.vipr_scan.specs.declared.place.Position.{Position}
 use Rattle.vipr_scan.specs.declared.place.Position.TheVariants.{Front, Comment, Past}
-use Rattle.vipr_explain.specs.Words.{GivesFirst, IsAtByte, words_at}
+use Rattle.vipr_explain.specs.Places.{place_at}
+use Rattle.vipr_explain.specs.Words.{GivesFirst, IsAtByte, sized, words_at}
 use Rattle.vipr_explain.specs.declared.words.TextWord.{TextWord}
 use Rattle.vipr_explain.specs.declared.words.Words.{Words}
 
@@ -65,10 +66,10 @@ pub word_taken : (text : List ℕ) (ts : List Token) (n size : ℕ) (p : Positio
     (w : TextWord) → p ≡ Past → IsAtByte text n mid → 0 < size → size ≤ length mid.rest.now
     → ((k : ℕ) → k < size → is_white (get_or mid.rest.now k 0) ≡ false)
     → (size < length mid.rest.now → is_white (get_or mid.rest.now size 0) ≡ true)
-    → words_at p n mid.rest.now ≡ ts → w.bytes.now ≡ take size mid.rest.now → w.spot ≡ mid.spot
+    → words_at p n mid.rest.now ≡ ts → w.bytes.now ≡ take size mid.rest.now → w.span ≡ sized size mid.here
     → IsAtByte text (n + size) new → new.position ≡ Past → new.rest.now ≡ drop size mid.rest.now
     → GivesFirst text ts new w
-word_taken text ts n size p mid new w past at some within solid white are bytes spot behind same rest =
+word_taken text ts n size p mid new w past at some within solid white are bytes span behind same rest =
     let xs = mid.rest.now in
     let all = token_whole false n xs size some within solid white (λ _. refl) in
     record {
@@ -76,7 +77,7 @@ word_taken text ts n size p mid new w past at some within solid white are bytes 
       others = tokens_from false false (n + size) (drop size xs);
       tokens = sym are ∙ ap (λ q. words_at q n xs) past ∙ all;
       bytes = bytes;
-      place = spot ∙ at.place;
+      span = span ∙ ap (sized size) at.place ∙ ap (λ k. sized k (place_at text n)) (sym (length-take-le size xs within));
       left = record {
         n = n + size;
         at = behind;

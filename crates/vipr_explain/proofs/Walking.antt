@@ -1,9 +1,8 @@
 -- Walks over the tokens of a text
 use Rattle.std.proofs.Common.{◌≡◌, ℕ, Bool, true, false, List, [], ◌∷◌, refl, sym, ap, ◌∙◌}
 use Rattle.vipr_spec.specs.Tokens.{Token}
-use Rattle.vipr_explain.specs.Words.{AreLeft, GivesFirst, span_in, span_of, walked}
+use Rattle.vipr_explain.specs.Words.{AreLeft, GivesFirst, span_in, walked}
 use Rattle.vipr_explain.specs.declared.text.Span.{Span}
-use Rattle.vipr_explain.specs.declared.text.Spot.{Spot}
 use Rattle.vipr_explain.specs.declared.words.TextWord.{TextWord}
 use Rattle.vipr_explain.specs.declared.words.Words.{Words}
 
@@ -17,12 +16,12 @@ pub record WalksFrom (S : Type 0) (stops : S → Bool) (next : S → List ℕ �
 pub walks_on : {S : Type 0} {stops : S → Bool} {next : S → List ℕ → Span → S} {text : List ℕ} {all s : S}
     {old : Words} (new : Words) (w : TextWord) → (h : WalksFrom S stops next text all s old)
     → stops s ≡ false → GivesFirst text h.others new w
-    → WalksFrom S stops next text all (next s w.bytes.now (span_of w.spot w.bytes.now)) new
+    → WalksFrom S stops next text all (next s w.bytes.now w.span) new
 walks_on {stops = stops} {next = next} {text = text} {s = s} new w h goes gives = record {
   others = gives.others;
   left = gives.left;
-  same = ap (λ b. walked stops next text (next s b (span_of w.spot b)) gives.others) gives.bytes
-      ∙ ap (λ (at : Spot). walked stops next text (next s gives.token.bytes (span_of at gives.token.bytes)) gives.others) gives.place
+  same = ap (λ b. walked stops next text (next s b w.span) gives.others) gives.bytes
+      ∙ ap (λ (at : Span). walked stops next text (next s gives.token.bytes at) gives.others) gives.span
       ∙ sym (one gives.token gives.others) ∙ ap (walked stops next text s) (sym gives.tokens) ∙ h.same;
 }
   where

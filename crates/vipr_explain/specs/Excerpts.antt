@@ -2,20 +2,19 @@
 use Rattle.std.specs.Prelude.{◌≡◌, ℕ, ◌-◌, min, Bool, not, ◌||◌, ◌==◌, nat_lt, List, length, take}
 use Rattle.std.specs.Prelude.{drop, take_while}
 use Rattle.vipr_explain.specs.declared.text.Span.{Span}
-use Rattle.vipr_explain.specs.declared.text.Spot.{Spot}
-use Rattle.vipr_explain.specs.declared.excerpt.KnownPlace.{KnownPlace}
+use Rattle.vipr_explain.specs.declared.excerpt.Excerpt.{Excerpt}
 
 -- the bytes of a text that this token has
 abbrev pub part_of : List ℕ → Span → List ℕ
-part_of text span = take span.size (drop span.spot.offset text)
+part_of text span = take span.size (drop span.offset text)
 
 -- the most bytes that are shown before a place, and from it on
 abbrev pub most_shown : ℕ
 most_shown = 60
 
 -- how many bytes are shown before a place: those of its line, but not more than 60
-abbrev pub shown_before : Spot → ℕ
-shown_before spot = min (spot.column - 1) most_shown
+abbrev pub shown_before : Span → ℕ
+shown_before span = min (span.column - 1) most_shown
 
 -- no end of a line
 abbrev pub is_in_line : ℕ → Bool
@@ -25,10 +24,9 @@ abbrev pub line_of : List ℕ → List ℕ
 line_of bytes = take_while is_in_line bytes
 
 -- the part of the line round this place of this text, which has so many bytes
-pub record IsPlaceAt (text : List ℕ) (span : Span) (p : KnownPlace) : Type 0 where
-  pub spot : p.spot ≡ span.spot
-  pub size : p.size ≡ span.size
+pub record IsExcerptAt (text : List ℕ) (span : Span) (p : Excerpt) : Type 0 where
+  pub place : p.span ≡ span
   pub before : p.before.now
-      ≡ take (shown_before span.spot) (drop (span.spot.offset - shown_before span.spot) text)
-  pub behind : p.behind.now ≡ take most_shown (line_of (drop span.spot.offset text))
-  pub cut : p.is_cut ≡ nat_lt most_shown (length (line_of (drop span.spot.offset text)))
+      ≡ take (shown_before span) (drop (span.offset - shown_before span) text)
+  pub behind : p.behind.now ≡ take most_shown (line_of (drop span.offset text))
+  pub cut : p.is_cut ≡ nat_lt most_shown (length (line_of (drop span.offset text)))

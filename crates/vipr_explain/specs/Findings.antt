@@ -11,10 +11,10 @@ use Rattle.vipr_check.specs.declared.verdict.Verdict.TheVariants as verdict
 use Rattle.vipr_explain.specs.Claims.{IsGoalRead, IsUnproved}
 use Rattle.vipr_explain.specs.Found.{IsListedSolution, text_rest}
 use Rattle.vipr_explain.specs.Marked.{IsItemPlace}
-use Rattle.vipr_explain.specs.Refused.{IsPlaceFor, IsRefusedStep}
+use Rattle.vipr_explain.specs.Refused.{IsExcerptFor, IsRefusedStep}
 use Rattle.vipr_explain.specs.Syntax.{IsFoundAt}
 use Rattle.vipr_explain.specs.Values.{AreListedValues}
-use Rattle.vipr_explain.specs.declared.excerpt.KnownPlace.{KnownPlace}
+use Rattle.vipr_explain.specs.declared.excerpt.Excerpt.{Excerpt}
 use Rattle.vipr_explain.specs.declared.marks.ItemPlace.{ItemPlace}
 use Rattle.vipr_explain.specs.declared.marks.ItemSort.TheVariants as kind
 use Rattle.vipr_explain.specs.declared.marks.ItemPart.{ItemPart}
@@ -22,9 +22,9 @@ use Rattle.vipr_explain.specs.declared.whole.Findings.{Findings}
 use Rattle.vipr_explain.specs.declared.whole.Findings.TheVariants as found
 
 -- this is the place of a part of the claim
-abbrev pub IsClaimPlace : List ℕ → ItemPart → Option KnownPlace → Type 0
+abbrev pub IsClaimPlace : List ℕ → ItemPart → Option Excerpt → Type 0
 IsClaimPlace text x place = (item : Option ItemPlace) × IsItemPlace text kind.Claim 0 x item
-    × IsPlaceFor text (option_map (λ m. m.part) item) place
+    × IsExcerptFor text (option_map (λ m. m.part) item) place
 
 -- the detail isn't one of a refusal at this place
 abbrev pub IsOther : Place → Detail → Type 0
@@ -41,7 +41,7 @@ ExplainsAt P text cause (at.Byte offset) x (found.Text fault c) =
 ExplainsAt P text cause (at.Sol number) x (found.Solution s d) =
     IsListedSolution number (text_rest text) s.problem (solution_of s.solution) × (d.now ≡ x)
 ExplainsAt P text cause (at.Der index) (detail.Step name what) (found.Step s fault) =
-    IsRefusedStep P text index what s × (fault.index ≡ index) × (fault.cause ≡ cause)
+    IsRefusedStep P text cause index what s × (fault.index ≡ index) × (fault.cause ≡ cause)
 ExplainsAt P text cause at.End (detail.NoProof needed) (found.NoProof claim place) =
     IsUnproved P text claim
 ExplainsAt P text cause at.End (detail.NoPrimal needed) (found.NoPrimal values bound place) =

@@ -54,21 +54,22 @@ is_past_head wanted.Count = false
 is_past_head wanted.BoundCount = false
 is_past_head _ = true
 
--- whether a token is this part of an item, by what is wanted there and its position
-abbrev pub is_part_at : ItemPart → Wanted → ℕ → Bool
-is_part_at part.LowerBound wanted.LowerBound n = true
-is_part_at part.UpperBound wanted.UpperBound n = true
-is_part_at part.Sense wanted.Sense n = true
-is_part_at part.RightHandSide wanted.RightHandSide n = true
-is_part_at part.Reason wanted.Reason n = true
-is_part_at part.LastReference wanted.LastReference n = true
-is_part_at (part.Reference k) wanted.EntryIndex n = n == k
-is_part_at (part.Reference k) wanted.Branch n = n == k
-is_part_at (part.Multiplier k) wanted.EntryMultiplier n = n == k
-is_part_at _ _ n = false
+-- whether a token is this part of an item, by what is wanted there and how far the text was read
+abbrev pub is_part_at : ItemPart → Wanted → TextProgress → Bool
+is_part_at part.LowerBound wanted.LowerBound p = true
+is_part_at part.UpperBound wanted.UpperBound p = true
+is_part_at part.Sense wanted.Sense p = true
+is_part_at part.RightHandSide wanted.RightHandSide p = true
+is_part_at part.Reason wanted.Reason p = true
+is_part_at part.LastReference wanted.LastReference p = true
+is_part_at (part.Value j) wanted.RowCoefficient p = p.variable == j
+is_part_at (part.Reference k) wanted.EntryIndex p = p.part == k
+is_part_at (part.Reference k) wanted.Branch p = p.part == k
+is_part_at (part.Multiplier k) wanted.EntryMultiplier p = p.part == k
+is_part_at _ _ p = false
 
 abbrev pub is_part : ItemPart → TextProgress → Bool
-is_part x p = is_part_at x p.wanted p.part
+is_part x p = is_part_at x p.wanted p
 
 -- the part that is looked for in the last item, and that in the others
 abbrev pub part_of_used : Option ℕ → ℕ → ItemPart

@@ -56,6 +56,7 @@ at_start = record {
   items = 0;
   part = 0;
   parts = 0;
+  variable = 0;
 }
 
 -- the index of the item among all constraints, if it is a derivation; 0 for the claim; else the
@@ -139,7 +140,8 @@ passed_at wanted.Direction p word = wants p wanted.RowCount
 passed_at wanted.Sense p word = wants p wanted.RightHandSide
 passed_at wanted.RightHandSide p word = wants p wanted.RowCount
 passed_at wanted.RowCount p word = part_begun wanted.RowIndex 0 (count_spelled word) p
-passed_at wanted.RowIndex p word = wants p wanted.RowCoefficient
+passed_at wanted.RowIndex p word =
+    record p { variable = count_spelled word; wanted = wanted.RowCoefficient }
 passed_at wanted.RowCoefficient p word = part_ended wanted.RowIndex p
 passed_at wanted.Claim p word = if bytes_eq word (codes "range") then wants p wanted.LowerBound
     else section_ended p

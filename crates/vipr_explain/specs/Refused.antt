@@ -1,11 +1,13 @@
 -- What is found of a derivation or a listed solution that is refused
-use Rattle.std.specs.Prelude.{◌≡◌, ◌↔◌, ℕ, ⊤, List, IsTrue, Option}
+use Rattle.std.specs.Prelude.{◌≡◌, ◌↔◌, ℕ, ⊤, List, [], ◌∷◌, IsTrue, Option}
 use Rattle.std.specs.Prelude.{Some, None, All, find, option_map, ◌==◌}
 use Rattle.std.specs.Prelude.{if◌then◌else◌, slice_get}
+use Rattle.std.specs.FinMap.{entries}
 use Rattle.std.specs.Option.{option_or}
 use Rattle.vipr_spec.specs.Causes.{dropped}
 use Rattle.vipr_spec.specs.Constraint.{Constraint, Ints, IsSplit, Profile, two}
-use Rattle.vipr_spec.specs.Certificate.{Derivation, Problem}
+use Rattle.vipr_spec.specs.Certificate.{Derivation, Named, Problem}
+use Rattle.vipr_spec.specs.Fraction.{ℚ}
 use Rattle.vipr_spec.specs.Reading.{Rest, problem_read}
 use Rattle.vipr_linear.specs.Constraint.{condition_of, constraint_of}
 use Rattle.vipr_cert.specs.Items.{derivation_of}
@@ -23,16 +25,16 @@ use Rattle.vipr_check.specs.declared.verdict.Verdict.TheVariants as verdict
 use Rattle.vipr_page.specs.Differences.{row_differences}
 use Rattle.vipr_page.specs.RowFaults.{row_faults}
 use Rattle.vipr_explain.specs.Changes.{FollowEach}
-use Rattle.vipr_explain.specs.Excerpts.{IsPlaceAt, part_of}
+use Rattle.vipr_explain.specs.Excerpts.{IsExcerptAt, part_of}
 use Rattle.vipr_explain.specs.Found.{LacksListed, text_rest}
 use Rattle.vipr_explain.specs.Marked.{AreMarksIn, IsItemPlace, place_found}
 use Rattle.vipr_explain.specs.Near.{IsStepOf, LacksBefore, LacksGoal, LacksStep}
 use Rattle.vipr_explain.specs.Near.{without_solutions}
-use Rattle.vipr_explain.specs.declared.drops.LastUse.{LastUse}
-use Rattle.vipr_explain.specs.declared.excerpt.KnownPlace.{KnownPlace}
+use Rattle.vipr_explain.specs.declared.excerpt.Excerpt.{Excerpt}
 use Rattle.vipr_explain.specs.declared.marks.ItemPlace.{ItemPlace}
 use Rattle.vipr_explain.specs.declared.marks.ItemSort.TheVariants as kind
 use Rattle.vipr_explain.specs.declared.marks.Marks.{Marks}
+use Rattle.vipr_explain.specs.declared.marks.ItemPart.{ItemPart}
 use Rattle.vipr_explain.specs.declared.marks.ItemPart.TheVariants as part
 use Rattle.vipr_explain.specs.declared.marks.Sought.{Sought}
 use Rattle.vipr_explain.specs.declared.shown.PlacedItems.{PlacedItems}
@@ -43,30 +45,20 @@ use Rattle.vipr_explain.specs.declared.step.StepFacts.TheVariants as fact
 use Rattle.vipr_explain.specs.declared.text.Span.{Span}
 
 -- the place of this part of a text, none if it wasn't found
-abbrev pub IsPlaceFor : List ℕ → Option Span → Option KnownPlace → Type 0
-IsPlaceFor text (Some span) (Some place) = IsPlaceAt text span place
-IsPlaceFor text None None = ⊤
-IsPlaceFor text _ _ = ⊥
+abbrev pub IsExcerptFor : List ℕ → Option Span → Option Excerpt → Type 0
+IsExcerptFor text (Some span) (Some place) = IsExcerptAt text span place
+IsExcerptFor text None None = ⊤
+IsExcerptFor text _ _ = ⊥
 
 -- the place of the part of an item that was looked for in a text
-abbrev pub IsPartPlace : List ℕ → Marks → ℕ → Option KnownPlace → Type 0
+abbrev pub IsPartPlace : List ℕ → Marks → ℕ → Option Excerpt → Type 0
 IsPartPlace text marks index place =
-    IsPlaceFor text (option_map (λ m. m.part) (place_found marks.places.items index)) place
+    IsExcerptFor text (option_map (λ m. m.part) (place_found marks.places.items index)) place
 
 -- these are the places of the constraints of these indices
 abbrev pub AreNamesOf : List ℕ → List ℕ → Marks → Type 0
 AreNamesOf text wanted marks = (s : Sought) × (s.kind ≡ kind.Constraints)
     × (s.items.now ≡ wanted) × AreMarksIn text s marks
-
--- the last use of this constraint, and the place of its last reference
-pub record IsLastUseIn (text : List ℕ) (index : ℕ) (l : LastUse) : Type 0 where
-  pub index_is : l.index ≡ index
-  pub sought : Sought
-  pub used : sought.used ≡ Some index
-  pub marks : Marks
-  pub are : AreMarksIn text sought marks
-  pub last : l.last ≡ marks.user
-  pub place : IsPartPlace text marks index l.place
 
 -- the constraint whose last use is looked for, if the cause is that it was dropped
 abbrev pub used_by : ℕ → StepDetail → Option ℕ
@@ -74,22 +66,19 @@ used_by cause (what.Index index) = if cause == dropped then Some index else None
 used_by cause _ = None
 
 -- what is behind the fault of a derivation: where the rows of a computed and a stated constraint
--- differ, what keeps a sum or the row of two assumptions from being whole, whether these are a
--- split by the second profile, or the last use of a constraint
-abbrev pub AreFacts : List ℕ → Ints → StepDetail → StepFacts → Type 0
-AreFacts text integers (what.Rows computed stated) (fact.Rows differences) =
+-- differ, what keeps a sum or the row of two assumptions from being whole, and whether these are a
+-- split by the second profile
+abbrev pub AreFacts : Ints → StepDetail → StepFacts → Type 0
+AreFacts integers (what.Rows computed stated) (fact.Rows differences) =
     differences.items ≡ row_differences computed.row stated.row
-AreFacts text integers (what.Sum sum) (fact.Sum faults) =
-    faults.items ≡ row_faults integers sum.row
-AreFacts text integers (what.Pair first second) (fact.Pair faults is_split) =
+AreFacts integers (what.Sum sum) (fact.Sum faults) = faults.items ≡ row_faults integers sum.row
+AreFacts integers (what.Pair first second) (fact.Pair faults is_split) =
     (faults.items ≡ row_faults integers first.row)
     × (IsTrue is_split ↔ IsSplit two integers (condition_of first) (condition_of second))
-AreFacts text integers (what.Index index) (fact.Dropped last) =
-    IsLastUseIn text index last
-AreFacts text integers (what.Index index) fact.Nothing = ⊤
-AreFacts text integers (what.Entry entry) fact.Nothing = ⊤
-AreFacts text integers what.Nothing fact.Nothing = ⊤
-AreFacts text integers _ _ = ⊥
+AreFacts integers (what.Index index) fact.Nothing = ⊤
+AreFacts integers (what.Entry entry) fact.Nothing = ⊤
+AreFacts integers what.Nothing fact.Nothing = ⊤
+AreFacts integers _ _ = ⊥
 
 -- a derivation of a text by its constraint's index
 pub record IsNumberedIn (text : Rest) (n : Numbered) : Type 0 where
@@ -97,24 +86,26 @@ pub record IsNumberedIn (text : Rest) (n : Numbered) : Type 0 where
   pub before : List Derivation
   pub step : IsStepOf text problem before n.index (Some (derivation_of n.derivation))
 
--- the places of the constraints that a derivation names, what is behind its fault, and those of
--- these that were dropped
-pub record AreNamedBy (text : List ℕ) (integers : Ints) (what : StepDetail) (marks : Marks)
-    (found : StepFacts) (kept : List Numbered) : Type 0 where
+-- the places of the constraints that a derivation names, the last use of the one that was dropped,
+-- if that is the cause, what is behind its fault, and those constraints that were dropped
+pub record AreNamedBy (text : List ℕ) (integers : Ints) (cause : ℕ) (what : StepDetail)
+    (marks : Marks) (found : StepFacts) (kept : List Numbered) : Type 0 where
   pub sought : Sought
+  pub used : sought.used ≡ used_by cause what
   pub marked : AreMarksIn text sought marks
-  pub facts : AreFacts text integers what found
+  pub facts : AreFacts integers what found
   pub lost : All (IsNumberedIn (text_rest text)) kept
 
--- the derivation of constraint k, behind those before it, of which the live ones are kept
-pub record IsRefusedStep (P : Profile) (text : List ℕ) (k : ℕ) (detail : StepDetail)
+-- the derivation of constraint k, which is refused for this cause, behind those before it, of which
+-- the live ones are kept
+pub record IsRefusedStep (P : Profile) (text : List ℕ) (cause k : ℕ) (detail : StepDetail)
     (s : RefusedStep) : Type 0 where
   pub before : List Derivation
   pub own : IsStepOf (text_rest text) s.known.problem before k (Some (derivation_of s.own))
   pub rows : IsTableOf (without_solutions s.known.problem before) s.rows
   pub text_is : s.known.text.now ≡ text
-  pub named : AreNamedBy text s.known.problem.integers detail s.known.marks s.facts s.dropped.items
-  pub place : IsPartPlace text s.known.marks k s.place
+  pub named : AreNamedBy text s.known.problem.integers cause detail s.known.marks s.facts
+      s.dropped.items
   pub changes : FollowEach P (without_solutions s.known.problem before) (derivation_of s.own)
       s.changes
 
@@ -147,11 +138,21 @@ abbrev pub LacksItem : Profile → List ℕ → Verdict → Type 0
 LacksItem P text (verdict.Verified report) = LacksGoal P (text_rest text) report.goal
 LacksItem P text (verdict.Refused refusal) = LacksPlace P text refusal.place
 
--- the place of a solution's name
-abbrev pub IsSolutionPlace : List ℕ → ℕ → Option KnownPlace → Type 0
-IsSolutionPlace text number place = (found : Option ItemPlace)
-    × IsItemPlace text kind.Solutions number part.Name found
-    × IsPlaceFor text (option_map (λ m. m.name) found) place
+-- the part of a solution that is at fault: its name, or a value, if that is at fault alone, as that
+-- of a row with one entry is
+abbrev pub value_alone : List (ℕ × ℚ) → ItemPart
+value_alone (e ∷ []) = part.Value e.0
+value_alone _ = part.Name
+
+abbrev pub value_in : Option (Named Constraint) → ItemPart
+value_in (Some n) = value_alone (entries n.item.row)
+value_in None = part.Name
+
+abbrev pub part_at_fault : Problem → Detail → ItemPart
+part_at_fault p (detail.NotWhole name variable _ _) = part.Value variable
+part_at_fault p (detail.Breaks name constraint _ _ _ _) =
+    value_in (slice_get p.constraints constraint)
+part_at_fault p _ = part.Name
 
 -- the place of the constraint that a solution breaks, if that is the fault
 abbrev pub IsBroken : List ℕ → Detail → Option ItemPlace → Type 0

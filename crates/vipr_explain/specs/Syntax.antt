@@ -1,10 +1,10 @@
 -- The token at a fault of a text
 use Rattle.std.specs.Prelude.{◌≡◌, ℕ, true, false, not, List, [], nat_le, if◌then◌else◌}
 use Rattle.vipr_spec.specs.Tokens.{text_tokens}
-use Rattle.vipr_explain.specs.Excerpts.{IsPlaceAt, part_of}
+use Rattle.vipr_explain.specs.Excerpts.{IsExcerptAt, part_of}
 use Rattle.vipr_explain.specs.Places.{place_behind}
 use Rattle.vipr_explain.specs.Progress.{at_start, passed}
-use Rattle.vipr_explain.specs.Words.{span_of, walked}
+use Rattle.vipr_explain.specs.Words.{walked}
 use Rattle.vipr_explain.specs.declared.syntax.FaultToken.{FaultToken}
 use Rattle.vipr_explain.specs.declared.syntax.TextFault.{TextFault}
 use Rattle.vipr_explain.specs.declared.text.Span.{Span}
@@ -14,8 +14,8 @@ use Rattle.vipr_explain.specs.declared.wanted.Wanted.TheVariants as wanted
 abbrev pub found_at_start : FaultToken
 found_at_start = record {
   progress = at_start;
-  name = span_of (place_behind []) [];
-  word = span_of (place_behind []) [];
+  name = place_behind [];
+  word = place_behind [];
   is_end = true;
 }
 
@@ -26,7 +26,7 @@ named_at _ name span = name
 -- one more token: it is the one at the fault if it begins at this byte or behind it, else it is
 -- passed
 abbrev pub found_behind : ℕ → FaultToken → List ℕ → Span → FaultToken
-found_behind offset f word span = if nat_le offset span.spot.offset
+found_behind offset f word span = if nat_le offset span.offset
     then record f { word = span; is_end = false }
     else record f {
       progress = passed f.progress word;
@@ -44,4 +44,4 @@ pub record IsFoundAt (text : List ℕ) (offset : ℕ) (f : TextFault) : Type 0 w
   pub found : f.found ≡ found_at text offset
   pub name : f.name.now ≡ part_of text f.found.name
   pub word : f.word.now ≡ part_of text f.found.word
-  pub place : IsPlaceAt text f.found.word f.place
+  pub place : IsExcerptAt text f.found.word f.place

@@ -6,16 +6,16 @@ use Rattle.vipr_scan.specs.Places.{tokens_in}
 use Rattle.vipr_scan.specs.declared.place.Position.{Position}
 use Rattle.vipr_explain.specs.Places.{place_at}
 use Rattle.vipr_explain.specs.declared.text.Span.{Span}
-use Rattle.vipr_explain.specs.declared.text.Spot.{Spot}
 use Rattle.vipr_explain.specs.declared.words.TextWord.{TextWord}
 use Rattle.vipr_explain.specs.declared.words.Words.{Words}
 
--- the place of a token and its size
-abbrev pub span_of : Spot → List ℕ → Span
-span_of spot bytes = record { spot = spot; size = length bytes }
+-- so many bytes at this place
+abbrev pub sized : ℕ → Span → Span
+sized n here = record here { size = n }
 
+-- the place of a token
 abbrev pub span_in : List ℕ → Token → Span
-span_in text t = span_of (place_at text t.offset) t.bytes
+span_in text t = sized (length t.bytes) (place_at text t.offset)
 
 -- the tokens behind n bytes of a text, the rest of which is this
 abbrev pub words_at : Position → ℕ → List ℕ → List Token
@@ -25,7 +25,7 @@ words_at position n rest = tokens_in position false n rest
 pub record IsAtByte (text : List ℕ) (n : ℕ) (w : Words) : Type 0 where
   pub within : n ≤ length text
   pub rest : w.rest.now ≡ drop n text
-  pub place : w.spot ≡ place_at text n
+  pub place : w.here ≡ place_at text n
 
 -- these tokens of a text are to come
 pub record AreLeft (text : List ℕ) (ts : List Token) (w : Words) : Type 0 where
@@ -39,7 +39,7 @@ pub record GivesFirst (text : List ℕ) (ts : List Token) (new : Words) (w : Tex
   pub others : List Token
   pub tokens : ts ≡ token ∷ others
   pub bytes : w.bytes.now ≡ token.bytes
-  pub place : w.spot ≡ place_at text token.offset
+  pub span : w.span ≡ span_in text token
   pub left : AreLeft text others new
 
 abbrev pub GivesWord : List ℕ → List Token → Words → Option TextWord → Type 0

@@ -1,9 +1,9 @@
 //! A part of a line with carets below a place in it.
 ghost use Rattle.std.specs.Prelude.{◌≡◌, length, decimal, take, drop};
-ghost use Rattle.vipr_explain.specs.Excerpts.{IsPlaceAt, is_in_line, line_of, part_of};
+ghost use Rattle.vipr_explain.specs.Excerpts.{IsExcerptAt, is_in_line, line_of, part_of};
 ghost use Rattle.vipr_page.specs.Page.{line_byte};
 
-use crate::text::{Span, Spot};
+use crate::text::Span;
 use itoa::Buffer;
 use std::fmt::Display;
 use vipr_page::{Page, StrangeBytes};
@@ -11,32 +11,29 @@ use vipr_page::{Page, StrangeBytes};
 /// How many bytes of a line are shown before a place, and from it on.
 const MOST_SHOWN: u64 = 60;
 
-/// How many carets are shown.
-const MOST_CARETS: usize = 40;
+/// How many carets or dashes are shown below a place.
+const MOST_MARKS: usize = 40;
 
 /// A place in the text: what is before it in its line, what is there, and whether more is behind
 /// that; and how many bytes belong to the place.
 #[derive(Clone, Copy)]
-pub(crate) struct KnownPlace<'a> {
-    spot: Spot,
-    size: usize,
+pub(crate) struct Excerpt<'a> {
+    span: Span,
     before: &'a [u8],
     behind: &'a [u8],
     is_cut: bool,
 }
 
-impl<'a> KnownPlace<'a> {
+impl<'a> Excerpt<'a> {
     /// The part of the line round a place.
-    pub(crate) fn of(text: &'a [u8], span: Span) -> KnownPlace<'a>
-        ensures { IsPlaceAt text.now span result }
+    pub(crate) fn of(text: &'a [u8], span: Span) -> Excerpt<'a>
+        ensures { IsExcerptAt text.now span result }
     {
-        let spot = span.spot;
-        let count = spot.column.saturating_sub(1).min(MOST_SHOWN);
-        let line = line_of(from(text, spot.offset));
-        KnownPlace {
-            spot,
-            size: span.size,
-            before: first(from(text, spot.offset.saturating_sub(count)), count),
+        let count = span.column.saturating_sub(1).min(MOST_SHOWN);
+        let line = line_of(from(text, span.offset));
+        Excerpt {
+            span,
+            before: first(from(text, span.offset.saturating_sub(count)), count),
             behind: first(line, MOST_SHOWN),
             is_cut: line.len() as u64 > MOST_SHOWN,
         }
@@ -44,31 +41,53 @@ impl<'a> KnownPlace<'a> {
 
     /// Writes the place in a file of this name, with carets and a label below it.
     pub(crate) fn write<L: Display + Drop>(&self, page: &mut Page, file: &[u8], label: L) {
-        let line = self.spot.line;
-        let column = self.spot.column;
+        let line = self.span.line;
+        let column = self.span.column;
         let margin = digits_of(line);
         write_copies(page, " ", margin, "--> ");
         let file = StrangeBytes(file);
         write!(page, "{file}:{line}:{column}\n");
         write_copies(page, " ", margin, " |\n");
-        let token = &self.behind[..self.size.min(self.behind.len())];
+        self.write_marked(page, margin, "^", label);
+    }
+
+    /// Writes another place below this one, which is not in a later line.
+    pub(crate) fn write_other(&self, page: &mut Page, other: Excerpt<'_>, label: &str) {
+        other.write_marked(page, digits_of(self.span.line), "-", label);
+    }
+
+    // Writes the line of the place, with marks and a label below it.
+    fn write_marked<L: Display + Drop>(
+        &self,
+        page: &mut Page,
+        margin: usize,
+        mark: &str,
+        label: L,
+    ) {
+        let indent = margin.saturating_sub(digits_of(self.span.line));
+        write_copies(page, " ", indent, "");
+        let token = &self.behind[..self.span.size.min(self.behind.len())];
         self.write_front(page, "|");
         write!(page, "{}", StrangeBytes(token));
         self.write_rest(page);
-        let front = if column > MOST_SHOWN + 1 { 2 } else { 0 };
+        let front = if self.span.column > MOST_SHOWN + 1 {
+            2
+        } else {
+            0
+        };
         let width = width_of_all(self.before).saturating_add(front);
-        let carets = width_of_all(token);
+        let marks = width_of_all(token);
         write_copies(page, " ", margin, " | ");
         write_copies(page, " ", width, "");
-        write_copies(page, "^", carets.max(1).min(MOST_CARETS), " ");
+        write_copies(page, mark, marks.max(1).min(MOST_MARKS), " ");
         write!(page, "{label}\n");
         write_copies(page, " ", margin, " |\n");
     }
 
     /// Writes what is before the place in its line.
     pub(crate) fn write_front(&self, page: &mut Page, mark: &str) {
-        let line = self.spot.line;
-        let is_behind = self.spot.column > MOST_SHOWN + 1;
+        let line = self.span.line;
+        let is_behind = self.span.column > MOST_SHOWN + 1;
         let front = if is_behind { ".." } else { "" };
         let before = StrangeBytes(self.before);
         write!(page, "{line} {mark} {front}{before}");
@@ -76,7 +95,7 @@ impl<'a> KnownPlace<'a> {
 
     /// Writes what is behind the place in its line.
     pub(crate) fn write_rest(&self, page: &mut Page) {
-        let rest = StrangeBytes(&self.behind[self.size.min(self.behind.len())..]);
+        let rest = StrangeBytes(&self.behind[self.span.size.min(self.behind.len())..]);
         let end = if self.is_cut { ".." } else { "" };
         write!(page, "{rest}{end}\n");
     }
@@ -86,7 +105,7 @@ impl<'a> KnownPlace<'a> {
 pub(crate) fn part_of(text: &[u8], span: Span) -> &[u8]
     ensures { result.now ≡ part_of text.now span }
 {
-    first(from(text, span.spot.offset), span.size as u64)
+    first(from(text, span.offset), span.size as u64)
 }
 
 // The bytes of a text from an offset on.

@@ -7,7 +7,7 @@ ghost use Rattle.vipr_explain.specs.Claims.{IsGoalFound, IsGoalRead, IsUnproved}
 ghost use Rattle.vipr_explain.specs.Refused.{AreNamesOf};
 ghost use Rattle.vipr_explain.specs.Values.{AreListedValues};
 
-use crate::excerpt::KnownPlace;
+use crate::excerpt::Excerpt;
 use crate::items::open_problem;
 use crate::marks::Marks;
 use crate::near::{Join, Near, NearSearch, find_near, find_step, is_turned};
@@ -191,7 +191,7 @@ impl<'a> UnprovedClaim<'a> {
     }
 
     /// Writes the page of a claim that no constraint proves, whose dual bound is at this place.
-    pub(crate) fn write(&self, page: &mut Page, place: Option<KnownPlace<'_>>, file: &[u8]) {
+    pub(crate) fn write(&self, page: &mut Page, place: Option<Excerpt<'_>>, file: &[u8]) {
         page.put("error: no constraint proves the claim\n");
         if let Some(place) = place {
             place.write(page, file, "this isn't proved");

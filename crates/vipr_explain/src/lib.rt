@@ -2,7 +2,6 @@
 #![tactic(auto)]
 
 mod changes;
-mod drops;
 mod excerpt;
 mod goal;
 mod hints;

@@ -51,6 +51,8 @@ pub(crate) enum ItemPart {
     UpperBound,
     Sense,
     RightHandSide,
+    /// The value or the coefficient of this variable.
+    Value(u32),
     /// The constraint of this position that the reason refers to.
     Reference(usize),
     /// The multiplier of the entry of this position.
@@ -71,6 +73,7 @@ impl ItemPart {
             | (ItemPart::RightHandSide, Wanted::RightHandSide)
             | (ItemPart::Reason, Wanted::Reason)
             | (ItemPart::LastReference, Wanted::LastReference) => true,
+            (ItemPart::Value(variable), Wanted::RowCoefficient) => progress.variable == variable,
             (ItemPart::Reference(position), Wanted::EntryIndex | Wanted::Branch)
             | (ItemPart::Multiplier(position), Wanted::EntryMultiplier) => {
                 progress.part as usize == position
@@ -113,6 +116,13 @@ pub(crate) struct ItemPlace {
     pub(crate) part: Span,
 }
 
+impl ItemPlace {
+    /// Whether the part that is looked for was found.
+    pub(crate) fn has_part(&self) -> bool {
+        self.part.offset != self.name.offset
+    }
+}
+
 /// The places of items, and the last derivation that refers to a constraint, 0 if none does.
 #[derive(Drop)]
 pub(crate) struct Marks {
@@ -134,7 +144,7 @@ impl Marks {
             let Some(word) = words.next() else {
                 break;
             };
-            mark(&mut places, sought, &progress, end, word.span())?;
+            mark(&mut places, sought, &progress, end, word.span)?;
             user = later_user(user, sought.used, &progress, word.bytes);
             progress.pass(word.bytes);
         }

@@ -2,7 +2,7 @@
 ghost use Rattle.std.specs.Prelude.{◌≡◌, IfOk, option_map};
 ghost use Rattle.vipr_explain.specs.Refused.{AreNamesOf, IsPartPlace, known_name};
 
-use crate::excerpt::{KnownPlace, part_of};
+use crate::excerpt::{Excerpt, part_of};
 use crate::marks::{ItemPart, ItemPlace, ItemSort, Marks, Sought};
 use crate::text::Subject;
 use std::alloc::AllocError;
@@ -26,6 +26,16 @@ impl<'a> PlacedItems<'a> {
         match self.problem.cons().get(index as usize) {
             Some(named) => Some(named.name.as_bytes()),
             None => Some(part_of(self.text, self.marks.place(index)?.name)),
+        }
+    }
+
+    /// The place of the part of a constraint that was looked for.
+    pub(crate) fn part(&self, index: u32) -> Option<Excerpt<'a>>
+        ensures { IsPartPlace self.now.text.now self.now.marks index result }
+    {
+        match self.marks.place(index) {
+            Some(place) => Some(Excerpt::of(self.text, place.part)),
+            None => None,
         }
     }
 
@@ -66,20 +76,27 @@ pub(crate) fn find_names(subject: Subject<'_>, wanted: &[u32]) -> Result<Marks, 
     Marks::find(subject.alloc, subject.text, sought)
 }
 
-/// The place of the part of an item that was looked for.
-pub(crate) fn part_place<'a>(text: &'a [u8], marks: &Marks, index: u32) -> Option<KnownPlace<'a>>
-    ensures { IsPartPlace text.now marks.now index result }
-{
-    match marks.place(index) {
-        Some(place) => Some(KnownPlace::of(text, place.part)),
-        None => None,
+/// Writes the place of the last reference of a constraint that was dropped, and what would do
+/// there.
+pub(crate) fn write_last_use(page: &mut Page, known: &PlacedItems<'_>, index: u32, file: &[u8]) {
+    write!(
+        page,
+        "  constraint {index} was dropped behind the last reference that it states\n"
+    );
+    if let Some(place) = known.part(index) {
+        let last = known.marks.user;
+        place.write(page, file, format_args!("write {last} or -1 here"));
+        write!(
+            page,
+            "  = help: or is a constraint other than [{index}] meant?\n"
+        );
     }
 }
 
 /// Writes the line of a constraint, if its place is known.
 pub(crate) fn write_line(page: &mut Page, place: Option<ItemPlace>) {
     if let Some(place) = place {
-        let line = place.name.spot.line;
+        let line = place.name.line;
         write!(page, "  (line {line})");
     }
 }

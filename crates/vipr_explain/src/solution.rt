@@ -7,10 +7,12 @@ ghost use Rattle.vipr_spec.specs.Certificate.{Named as NamedMeant, variables};
 ghost use Rattle.vipr_spec.specs.Reading.{problem_read};
 ghost use Rattle.vipr_explain.specs.Found.{AreSolutionsRead, Because, IsListedSolution};
 ghost use Rattle.vipr_explain.specs.Found.{LacksListed, Missed, head_read, text_rest};
-ghost use Rattle.vipr_explain.specs.Refused.{IsBroken, IsSolutionPlace};
+ghost use Rattle.vipr_explain.specs.Marked.{IsItemPlace};
+ghost use Rattle.vipr_explain.specs.Refused.{IsBroken, part_at_fault};
+ghost use Rattle.vipr_explain.specs.declared.marks.ItemSort.TheVariants as kind;
 ghost use Rattle.vipr_explain.specs.Values.{AreListedValues, AreValues, IsExchanged, is_first};
 
-use crate::excerpt::KnownPlace;
+use crate::excerpt::Excerpt;
 use crate::items::{open_problem, read_solution};
 use crate::marks::{ItemPart, ItemPlace, ItemSort, find_item};
 use crate::shown::write_line;
@@ -32,13 +34,15 @@ const MOST_SOLUTIONS: u32 = 10;
 
 const MOST_VALUES: usize = 10;
 
-/// A listed solution that is refused: its place, and that of the constraint that it breaks.
+/// A listed solution that is refused: its place with that of the value at fault, if it is one, and
+/// that of the constraint that it breaks.
 #[derive(Drop)]
 pub(crate) struct RefusedSolution<'a> {
     problem: Problem,
     solution: Named<Solution>,
     number: u32,
-    place: Option<KnownPlace<'a>>,
+    text: &'a [u8],
+    place: Option<ItemPlace>,
     broken: Option<ItemPlace>,
 }
 
@@ -53,21 +57,30 @@ impl<'a> RefusedSolution<'a> {
             (text_rest subject.entry.text.now) s.problem (solution_of s.solution)) }
         ensures missing { IfErr result (λ m. Because m
             (LacksListed number (problem_read (text_rest subject.entry.text.now)))) }
-        ensures place { IfOk result
-            (λ s. IsSolutionPlace subject.entry.text.now number s.place) }
+        ensures text { IfOk result (λ s. s.text.now ≡ subject.entry.text.now) }
+        ensures place { IfOk result (λ s. IsItemPlace subject.entry.text.now kind.Solutions number
+            (part_at_fault s.problem detail.now) s.place) }
         ensures broken { IfOk result
             (λ s. IsBroken subject.entry.text.now detail.now s.broken) }
     {
-        let place = find_item(subject, ItemSort::Solutions, number, ItemPart::Name)?;
         let broken = broken_place(subject, detail)?;
         let (problem, solution) = read_solution(subject.alloc, subject.text, number)?;
-        Ok(RefusedSolution {
-            problem,
-            solution,
-            number,
-            place: place.map(|place| KnownPlace::of(subject.text, place.name)),
-            broken,
-        })
+        let part = part_at_fault(&problem, detail);
+        match find_item(subject, ItemSort::Solutions, number, part) {
+            Ok(place) => Ok(RefusedSolution {
+                problem,
+                solution,
+                number,
+                text: subject.text,
+                place,
+                broken,
+            }),
+            Err(error) => {
+                drop(solution);
+                drop(problem);
+                Err(error.into())
+            }
+        }
     }
 
     /// Writes the page of the solution, which is refused so.
@@ -81,7 +94,16 @@ impl<'a> RefusedSolution<'a> {
         };
         write!(page, "error: solution {number} `{name}` {fault}\n");
         if let Some(place) = self.place {
-            place.write(page, file, "this solution");
+            let label = if place.has_part() {
+                "this value"
+            } else {
+                "this solution"
+            };
+            let place = Excerpt::of(self.text, place.part);
+            place.write(page, file, label);
+            if let Some(broken) = self.broken {
+                place.write_other(page, Excerpt::of(self.text, broken.name), "this constraint");
+            }
         }
         match detail {
             Detail::NotWhole { variable, .. } => write_not_whole(page, self, *variable),
@@ -104,6 +126,24 @@ impl<'a> RefusedSolution<'a> {
                 write_past_limit(page, self, self.problem.objective());
             }
         }
+    }
+}
+
+// The part of a solution that is at fault: its name, or a value, if that is at fault alone.
+fn part_at_fault(problem: &Problem, detail: &Detail) -> ItemPart
+    ensures { result ≡ part_at_fault problem.now detail.now }
+{
+    let index = match detail {
+        Detail::NotWhole { variable, .. } => return ItemPart::Value(*variable),
+        Detail::Breaks { constraint, .. } => *constraint as usize,
+        _ => return ItemPart::Name,
+    };
+    match problem.cons().get(index) {
+        Some(broken) => match broken.item.row.entries() {
+            [entry] => ItemPart::Value(entry.0),
+            _ => ItemPart::Name,
+        },
+        None => ItemPart::Name,
     }
 }
 
@@ -277,7 +317,7 @@ impl ListedValues {
         &self,
         page: &mut Page,
         bound: Frac,
-        place: Option<KnownPlace<'_>>,
+        place: Option<Excerpt<'_>>,
         file: &[u8],
     ) {
         page.put("error: no listed solution attains the primal bound\n");

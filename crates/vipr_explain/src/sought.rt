@@ -3,7 +3,6 @@ ghost use Rattle.std.specs.Prelude.{◌≡◌, length};
 ghost use Rattle.vipr_spec.specs.Certificate.{variables};
 
 use crate::changes::Change;
-use crate::drops::has_entry;
 use crate::near::{Join, is_turned};
 use crate::text::Subject;
 use std::alloc::{AllocError, Global};
@@ -333,7 +332,8 @@ fn among_all(
                 add_exchange(&mut exchanges, sum, index, constraint, replacement)?;
             }
             if let Some((multiplier, off)) = factor_for(constraint, missing) {
-                if let (Some(rank), false) = (rank_of(sum, off), has_entry(entries, index)) {
+                let is_entry = entries.iter().any(|entry| entry.0 == index);
+                if let (Some(rank), false) = (rank_of(sum, off), is_entry) {
                     let change = Change::Entry(entries.len(), index, multiplier);
                     additions.add(rank, change)?;
                 }

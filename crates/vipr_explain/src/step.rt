@@ -14,23 +14,20 @@ ghost use Rattle.vipr_explain.specs.Marked.{AreMarksIn};
 ghost use Rattle.vipr_explain.specs.Near.{HasReplayed, LacksStep, read_to, without_solutions};
 ghost use Rattle.vipr_explain.specs.Refused.{AreFacts, AreNamedBy, IsNumberedIn, IsRefusedStep};
 ghost use Rattle.vipr_explain.specs.Refused.{dropped_as, known_constraint, used_by};
-ghost use Rattle.vipr_explain.specs.declared.marks.Sought.{Sought as SoughtMeant};
 
 use crate::changes::{Changes, Replay};
-use crate::drops::LastUse;
-use crate::excerpt::KnownPlace;
 use crate::items::open_derivations;
 use crate::marks::{ItemSort, Marks, Sought};
 use crate::near::{find_step, is_turned, passed_to};
 use crate::reason::{label_of, part_at_fault, step_indices, write_reason, write_sources};
-use crate::shown::{PlacedItems, part_place};
+use crate::shown::{PlacedItems, write_last_use};
 use crate::solution::PAST_LIMIT;
 use crate::text::{Reread, Subject};
-use std::alloc::AllocError;
+use std::alloc::{AllocError, Global};
 use vipr_cert::{Derivation, Problem, Reason, References};
 use vipr_check::{StepDetail, Table, cause};
 use vipr_frac::Frac;
-use vipr_linear::{Constraint, Sense, covers};
+use vipr_linear::{Constraint, Ints, Sense, covers};
 use vipr_page::{
     Algebra, Difference, Page, RowFault, ShownName, row_differences, row_faults, sign_of,
     write_differences, write_faults, write_if_past,
@@ -56,15 +53,14 @@ pub(crate) struct Numbered {
     derivation: Derivation,
 }
 
-/// A derivation that is refused, its place, the constraints that are live there, and what is behind
-/// the fault.
+/// A derivation that is refused, the constraints that are live there, the places of those that are
+/// shown, and what is behind the fault.
 #[derive(Drop)]
 pub(crate) struct RefusedStep<'a> {
     own: Derivation,
     rows: Table,
     pub(crate) known: PlacedItems<'a>,
-    place: Option<KnownPlace<'a>>,
-    facts: StepFacts<'a>,
+    facts: StepFacts,
     /// Changes with which it follows.
     changes: Changes,
     /// The constraints that it names and that were dropped.
@@ -74,14 +70,13 @@ pub(crate) struct RefusedStep<'a> {
 
 /// What is behind the fault of a derivation.
 #[derive(Drop)]
-enum StepFacts<'a> {
+enum StepFacts {
     Rows(Vec<Difference>),
     /// What keeps a sum from being whole.
     Sum(Vec<RowFault>),
     /// What keeps the row of two assumptions from being whole, and whether they are a split by the
     /// second profile.
     Pair(Vec<RowFault>, bool),
-    Dropped(LastUse<'a>),
     Nothing,
 }
 
@@ -90,7 +85,7 @@ impl<'a> RefusedStep<'a> {
     pub(crate) fn find(subject: Subject<'a>, fault: StepFault<'_>) -> Reread<RefusedStep<'a>>
         ensures found { IfOk result
             (IsRefusedStep (profile_of subject.entry.profile) subject.entry.text.now
-            fault.entry.index fault.entry.what.now) }
+            fault.entry.cause fault.entry.index fault.entry.what.now) }
         ensures missing { IfErr result (λ m. Because m
             (LacksStep (profile_of subject.entry.profile) (text_rest subject.entry.text.now)
             fault.entry.index)) }
@@ -108,7 +103,6 @@ impl<'a> RefusedStep<'a> {
                 Ok(RefusedStep {
                     own,
                     rows,
-                    place: part_place(subject.text, &marks, fault.index),
                     known: PlacedItems {
                         text: subject.text,
                         problem,
@@ -162,7 +156,7 @@ impl<'a> RefusedStep<'a> {
             write!(page, " {at}");
         }
         page.put(behind);
-        if let Some(place) = self.place {
+        if let Some(place) = self.known.part(index) {
             let part = part_at_fault(fault, &own.reason, &self.changes);
             place.write(page, file, label_of(fault, part, &self.changes));
             if self.changes.has_token() {
@@ -177,8 +171,8 @@ impl<'a> RefusedStep<'a> {
         if self.changes.is_empty() {
             write_help(page, fault.cause, problem.cons().len());
         }
-        if let StepFacts::Dropped(dropped) = &self.facts {
-            dropped.write(page, file);
+        if let Some(dropped) = used_by(fault) {
+            write_last_use(page, &self.known, dropped, file);
         }
         if !matches!(fault.what, StepDetail::Rows { .. }) {
             write_labelled(page, problem, "  it states    ", &own.constraint);
@@ -215,16 +209,16 @@ fn changes_for(
 
 // Finds the places of the constraints that a derivation names, what is behind its fault, changes of
 // it, and those of these constraints that were dropped.
-fn find_behind<'a>(
-    subject: Subject<'a>,
+fn find_behind(
+    subject: Subject<'_>,
     fault: StepFault<'_>,
     problem: &Problem,
     replay: &mut Replay,
     step: &Derivation,
-) -> Reread<(Marks, StepFacts<'a>, Changes, Vec<Numbered>)>
+) -> Reread<(Marks, StepFacts, Changes, Vec<Numbered>)>
     requires { (ds : List DerivationMeant) × HasReplayed problem.now ds replay.old }
     ensures named { IfOk result (λ x. AreNamedBy subject.entry.text.now problem.now.integers
-        fault.entry.what.now x.0 x.1 x.3.items) }
+        fault.entry.cause fault.entry.what.now x.0 x.1 x.3.items) }
     ensures changes { (ds : List DerivationMeant) → HasReplayed problem.now ds replay.old
         → IfOk result (λ x. FollowEach (profile_of subject.entry.profile)
         (without_solutions problem.now ds) (derivation_of step.now) x.2) }
@@ -259,19 +253,18 @@ fn find_behind<'a>(
 }
 
 // Finds the places of constraints, and what is behind the fault of a derivation that names them.
-fn find_facts<'a>(
-    subject: Subject<'a>,
+fn find_facts(
+    subject: Subject<'_>,
     fault: StepFault<'_>,
     problem: &Problem,
     sought: Sought<'_>,
-) -> Result<(Marks, StepFacts<'a>), AllocError>
-    requires { sought.used ≡ used_by fault.cause fault.what.now }
+) -> Result<(Marks, StepFacts), AllocError>
     ensures marked { IfOk result (λ x. AreMarksIn subject.entry.text.now sought.entry x.0) }
-    ensures facts { IfOk result (λ x. AreFacts subject.entry.text.now problem.now.integers
-        fault.entry.what.now x.1) }
+    ensures facts { IfOk result
+        (λ x. AreFacts problem.now.integers fault.entry.what.now x.1) }
 {
     let marks = Marks::find(subject.alloc, subject.text, sought)?;
-    match StepFacts::find(subject, fault, problem, &marks) {
+    match StepFacts::find(subject.alloc, fault.what, problem.ints()) {
         Ok(facts) => Ok((marks, facts)),
         Err(error) => {
             drop(marks);
@@ -367,22 +360,12 @@ fn used_by(fault: StepFault<'_>) -> Option<u32>
     }
 }
 
-impl<'a> StepFacts<'a> {
-    // Finds what is behind the fault of a derivation, which names constraints at these places.
-    fn find(
-        subject: Subject<'a>,
-        fault: StepFault<'_>,
-        problem: &Problem,
-        marks: &Marks,
-    ) -> Result<StepFacts<'a>, AllocError>
-        ensures { (s : SoughtMeant) → AreMarksIn subject.entry.text.now s marks.now
-            → s.used ≡ used_by fault.entry.cause fault.entry.what.now
-            → IfOk result (AreFacts subject.entry.text.now problem.now.integers
-            fault.entry.what.now) }
+impl StepFacts {
+    // Finds what is behind the fault of a derivation.
+    fn find(alloc: Global, what: &StepDetail, ints: &Ints) -> Result<StepFacts, AllocError>
+        ensures { IfOk result (AreFacts ints.now what.now) }
     {
-        let alloc = subject.alloc;
-        let ints = problem.ints();
-        match fault.what {
+        match what {
             StepDetail::Rows { computed, stated } => {
                 let differences = row_differences(alloc, &computed.row, &stated.row)?;
                 Ok(StepFacts::Rows(differences))
@@ -394,9 +377,6 @@ impl<'a> StepFacts<'a> {
             StepDetail::Pair(first, second) => {
                 let faults = row_faults(alloc, ints, &first.row)?;
                 Ok(StepFacts::Pair(faults, covers(first, second, ints)))
-            }
-            StepDetail::Index(index) if fault.cause == cause::DROPPED => {
-                Ok(StepFacts::Dropped(LastUse::of(subject.text, marks, *index)))
             }
             _ => Ok(StepFacts::Nothing),
         }
@@ -545,9 +525,14 @@ fn write_help(page: &mut Page, cause: u8, count: usize) {
         cause::NOT_EARLIER => {
             write!(
                 page,
-                "  = help: constraints count from 0: the problem has {count}, "
+                "  = help: indices count from 0: the problem has {count} "
             );
-            write!(page, "so the first derivation is {count}; ");
+            page.put(if count == 1 {
+                "constraint"
+            } else {
+                "constraints"
+            });
+            write!(page, ", so the first derivation is {count}; ");
             "is this line in front of one that it needs?\n"
         }
         cause::NOT_ASSUMPTION => {

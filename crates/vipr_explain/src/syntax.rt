@@ -1,11 +1,10 @@
 //! A fault of a text: its place, and what is wanted there.
 ghost use Rattle.std.specs.Prelude.{◌≡◌, ◌+◌, ◌↔◌, IsTrue, length};
 ghost use Rattle.vipr_explain.specs.Syntax.{IsFoundAt, found_at_start, found_behind};
-ghost use Rattle.vipr_explain.specs.Words.{span_of};
 
-use crate::excerpt::{KnownPlace, part_of};
+use crate::excerpt::{Excerpt, part_of};
 use crate::hints::write_hint;
-use crate::text::{Span, Spot};
+use crate::text::Span;
 use crate::wanted::{Section, TextProgress, Wanted};
 use crate::wanted_words::write_wanted;
 use crate::words::{TextWord, Words};
@@ -28,10 +27,7 @@ impl FaultToken {
     fn start() -> FaultToken
         ensures { result ≡ found_at_start }
     {
-        let nothing = Span {
-            spot: Spot::start(),
-            size: 0,
-        };
+        let nothing = Span::start();
         FaultToken {
             progress: TextProgress::start(),
             name: nothing,
@@ -43,10 +39,10 @@ impl FaultToken {
     // Takes the next token, which is passed if it is before this byte.
     fn take(&mut self, word: TextWord<'_>, offset: u64)
         ensures { self.new ≡ found_behind offset self.old word.entry.bytes.now
-            (span_of word.entry.spot word.entry.bytes.now) }
+            word.entry.span }
     {
-        self.word = word.span();
-        if word.spot.offset >= offset {
+        self.word = word.span;
+        if word.span.offset >= offset {
             self.is_end = false;
             return;
         }
@@ -65,7 +61,7 @@ pub(crate) struct TextFault<'a> {
     pub(crate) word: &'a [u8],
     /// Whether the text ends with the token's last byte.
     is_last: bool,
-    place: KnownPlace<'a>,
+    place: Excerpt<'a>,
 }
 
 impl<'a> TextFault<'a> {
@@ -86,7 +82,7 @@ impl<'a> TextFault<'a> {
             name: part_of(text, found.name),
             word: part_of(text, found.word),
             is_last: ends_text(found.word, text),
-            place: KnownPlace::of(text, found.word),
+            place: Excerpt::of(text, found.word),
         }
     }
 
@@ -126,9 +122,9 @@ impl<'a> TextFault<'a> {
 
 // Whether a text ends with the last byte of a token.
 fn ends_text(span: Span, text: &[u8]) -> bool
-    ensures { IsTrue result ↔ (span.spot.offset + span.size ≡ length text.now) }
+    ensures { IsTrue result ↔ (span.offset + span.size ≡ length text.now) }
 {
-    span.spot.offset.checked_add(span.size as u64) == Some(text.len() as u64)
+    span.offset.checked_add(span.size as u64) == Some(text.len() as u64)
 }
 
 // Writes which part of which item was being read.

@@ -17,62 +17,60 @@ pub(crate) struct Subject<'a> {
     pub(crate) text: &'a [u8],
 }
 
-/// A place in a text: a byte's offset, counted from 0, its line and its column, counted from 1.
+/// A place in a text: the offset of a byte, counted from 0, its line and its column, counted from
+/// 1, and how many bytes from it on belong to the place.
 #[derive(Clone, Copy)]
-pub(crate) struct Spot {
+pub(crate) struct Span {
     pub(crate) offset: u64,
     pub(crate) line: u64,
     pub(crate) column: u64,
-}
-
-/// The place of a token's first byte, and how many bytes it has.
-#[derive(Clone, Copy)]
-pub(crate) struct Span {
-    pub(crate) spot: Spot,
     pub(crate) size: usize,
 }
 
-impl Spot {
-    /// The start of a text.
-    pub(crate) fn start() -> Spot
+impl Span {
+    /// The start of a text, without a byte.
+    pub(crate) fn start() -> Span
         ensures { result ≡ place_behind [] }
     {
-        Spot {
+        Span {
             offset: 0,
             line: 1,
             column: 1,
+            size: 0,
         }
     }
 
     /// The place behind bytes that are here.
-    pub(crate) fn behind(self, bytes: &[u8]) -> Spot
+    pub(crate) fn behind(self, bytes: &[u8]) -> Span
         ensures { (front : List ℕ) → self ≡ place_behind front
             → result ≡ place_behind (front ++ bytes.now) }
     {
-        let mut spot = self;
+        let mut here = self;
         for byte in bytes {
-            spot = spot.after(*byte);
+            here = here.after(*byte);
         }
-        spot
+        here
     }
 
     // The place behind a byte that is here.
-    fn after(self, byte: u8) -> Spot
+    fn after(self, byte: u8) -> Span
         ensures { (front : List ℕ) → self ≡ place_behind front
             → result ≡ place_behind (front ++ byte ∷ []) }
     {
         let offset = self.offset.saturating_add(1);
         if byte == b'\n' {
-            Spot {
+            Span {
                 offset,
                 line: self.line.saturating_add(1),
                 column: 1,
+                size: 0,
             }
         } else {
-            Spot {
+            Span {
                 offset,
                 line: self.line,
                 column: self.column.saturating_add(1),
+                size: 0,
             }
         }
     }

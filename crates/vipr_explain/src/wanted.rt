@@ -61,6 +61,8 @@ pub(crate) struct TextProgress {
     /// The position of the pair, the entry or the number in the item, and how many there are.
     pub(crate) part: u32,
     pub(crate) parts: u32,
+    /// The variable of the last pair.
+    pub(crate) variable: u32,
 }
 
 /// The keywords of the sections, in their order.
@@ -124,6 +126,7 @@ impl TextProgress {
             items: 0,
             part: 0,
             parts: 0,
+            variable: 0,
         }
     }
 
@@ -162,7 +165,10 @@ impl TextProgress {
             Wanted::Sense => self.wanted = Wanted::RightHandSide,
             Wanted::Direction | Wanted::RightHandSide => self.wanted = Wanted::RowCount,
             Wanted::RowCount => self.begin_part(Wanted::RowIndex, 0, count_of(word)),
-            Wanted::RowIndex => self.wanted = Wanted::RowCoefficient,
+            Wanted::RowIndex => {
+                self.variable = count_of(word);
+                self.wanted = Wanted::RowCoefficient;
+            }
             Wanted::RowCoefficient => self.begin_part(Wanted::RowIndex, next_part, self.parts),
             Wanted::Claim if is_word(word, "range") => self.wanted = Wanted::LowerBound,
             Wanted::LowerBound => self.wanted = Wanted::UpperBound,

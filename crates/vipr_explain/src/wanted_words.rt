@@ -23,7 +23,7 @@ const WORDS: [&str; 24] = [
     "`{`, a token of its own",
     "a reason: `asm`, `lin`, `rnd`, `uns` or `sol`",
     "the number of entries, a count in digits",
-    "the constraint's index of entry",
+    "the constraint's index in entry",
     "the multiplier of entry",
     "",
     "`}`, a token of its own",

@@ -5,7 +5,7 @@ ghost use Rattle.vipr_explain.specs.Found.{Because};
 ghost use Rattle.vipr_explain.specs.Findings.{ExplainsVerdict, IsClaimPlace};
 ghost use Rattle.vipr_explain.specs.Refused.{LacksItem};
 
-use crate::excerpt::KnownPlace;
+use crate::excerpt::Excerpt;
 use crate::goal::{ProvedClaim, UnprovedClaim};
 use crate::marks::{ItemPart, ItemSort, find_item};
 use crate::solution::{ListedValues, RefusedSolution};
@@ -29,9 +29,9 @@ enum Findings<'a> {
     Solution(RefusedSolution<'a>, &'a Detail),
     Step(RefusedStep<'a>, StepFault<'a>),
     /// And the place of the dual bound.
-    NoProof(UnprovedClaim<'a>, Option<KnownPlace<'a>>),
+    NoProof(UnprovedClaim<'a>, Option<Excerpt<'a>>),
     /// And the primal bound, and its place.
-    NoPrimal(ListedValues, Frac, Option<KnownPlace<'a>>),
+    NoPrimal(ListedValues, Frac, Option<Excerpt<'a>>),
     /// The detail is of another verdict.
     Nothing,
 }
@@ -131,14 +131,11 @@ fn dual_part(needed: &Option<Constraint>) -> ItemPart {
 }
 
 // The place of a part of the claim.
-fn claim_place<'a>(
-    subject: Subject<'a>,
-    part: ItemPart,
-) -> Result<Option<KnownPlace<'a>>, AllocError>
+fn claim_place<'a>(subject: Subject<'a>, part: ItemPart) -> Result<Option<Excerpt<'a>>, AllocError>
     ensures { IfOk result (IsClaimPlace subject.entry.text.now part) }
 {
     let place = find_item(subject, ItemSort::Claim, 0, part)?;
-    Ok(place.map(|place| KnownPlace::of(subject.text, place.part)))
+    Ok(place.map(|place| Excerpt::of(subject.text, place.part)))
 }
 
 // Writes what was found.

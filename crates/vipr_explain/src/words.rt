@@ -3,36 +3,24 @@ ghost use Rattle.std.specs.Prelude.{◌≡◌, ◌+◌, ◌<◌, ◌≤◌, ℕ,
 ghost use Rattle.std.specs.Prelude.{IfSome, false, slice_index};
 ghost use Rattle.vipr_spec.specs.Tokens.{Token, is_white, text_tokens};
 ghost use Rattle.vipr_scan.specs.declared.place.Position.TheVariants.{Past};
-ghost use Rattle.vipr_explain.specs.Words.{AreLeft, GivesWord, IsAtByte, span_of, words_at};
+ghost use Rattle.vipr_explain.specs.Words.{AreLeft, GivesWord, IsAtByte, words_at};
 
-use crate::text::{Span, Spot};
+use crate::text::Span;
 use vipr_scan::{Position, run_end, step};
 
-/// A token of a text: its bytes, and the place of the first one.
+/// A token of a text: its bytes, and its place.
 #[derive(Clone, Copy)]
 pub(crate) struct TextWord<'a> {
     pub(crate) bytes: &'a [u8],
-    pub(crate) spot: Spot,
-}
-
-impl TextWord<'_> {
-    /// Its place and its size.
-    pub(crate) fn span(&self) -> Span
-        ensures { result ≡ span_of self.now.spot self.now.bytes.now }
-    {
-        Span {
-            spot: self.spot,
-            size: self.bytes.len(),
-        }
-    }
+    pub(crate) span: Span,
 }
 
 /// Reads the tokens of a text one by one.
 #[derive(Clone, Copy)]
 pub(crate) struct Words<'a> {
     rest: &'a [u8],
-    /// The place of the first byte of the rest.
-    spot: Spot,
+    /// The place of the first byte of the rest, without a byte.
+    here: Span,
     position: Position,
 }
 
@@ -43,7 +31,7 @@ impl<'a> Words<'a> {
     {
         Words {
             rest: text,
-            spot: Spot::start(),
+            here: Span::start(),
             position: Position::Front,
         }
     }
@@ -64,7 +52,7 @@ impl<'a> Words<'a> {
         }
         let word = TextWord {
             bytes: &self.rest[..size],
-            spot: self.spot,
+            span: Span { size, ..self.here },
         };
         self.skip(size);
         Some(word)
@@ -78,7 +66,7 @@ impl<'a> Words<'a> {
         ensures at { (text : List ℕ) (n : ℕ) → IsAtByte text n self.old
             → IsAtByte text (n + count) self.new }
     {
-        self.spot = self.spot.behind(&self.rest[..count]);
+        self.here = self.here.behind(&self.rest[..count]);
         self.rest = &self.rest[count..];
     }
 }

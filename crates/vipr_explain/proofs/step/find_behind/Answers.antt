@@ -5,6 +5,7 @@ use Rattle.vipr_explain.proofs.step.find_behind.Goals as goal
 pub returns-in-Ok-clause-named : goal.returns-in-Ok-clause-named
 returns-in-Ok-clause-named c = record {
   sought = _;
+  used = c.used_by.ensures;
   marked = c.in-Ok.ensures.marked;
   facts = c.in-Ok.ensures.facts;
   lost = c.in_ok-dropped.ensures.found;

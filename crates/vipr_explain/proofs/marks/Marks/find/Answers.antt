@@ -17,7 +17,7 @@ loop-words-preserved c =
     let l = c.loop-words in
     let goes = ap (is_past c.args.sought l.progress) (sym c.greatest-end.ensures) ∙ sym c.is_past.ensures ∙ c.loop-words-test.true in
     let next = walks_on c.next.new.self c.in-Some.word l.invariant goes (c.in-Some.ensures.given c.args.text.now l.invariant.others l.invariant.left) in
-    rw (c.pass.ensures, c.in_ok-mark.ensures, c.later_user-user.ensures, c.span.ensures, c.greatest-end.ensures) next
+    rw (c.pass.ensures, c.in_ok-mark.ensures, c.later_user-user.ensures, c.greatest-end.ensures) next
 
 pub returns : goal.returns
 returns c =

@@ -17,7 +17,6 @@ returns-in-Ok-clause-found c =
       rows = subst (IsTableOf (without_solutions p read.0)) (sym c.find_behind.ensures.rows) read.1.rows;
       text_is = refl;
       named = c.in-Ok.ensures.named;
-      place = c.part_place.ensures;
       changes = c.in-Ok.ensures.changes read.0 read.1;
     }
 

@@ -1,8 +1,0 @@
-use Rattle.std.proofs.Common.{◌==◌, rules, tests}
-use Rattle.std.proofs.lemmas.Iterator.{YieldsList-from_slice}
-use Rattle.std.proofs.lemmas.Iterator.Search.{any_from_yields_List}
-use Rattle.vipr_explain.proofs.drops.has_entry.Goals as goal
-
-pub returns : goal.returns
-returns c =
-    any_from_yields_List (λ e. e.0 == c.args.index) _ _ _ c.any.ensures.ran (YieldsList-from_slice c.args.entries.now cc) (λ x b q k. search (rules, tests))
