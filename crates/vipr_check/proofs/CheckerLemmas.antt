@@ -2,29 +2,25 @@
 use Rattle.std.proofs.Common.{◌≡◌, ℕ, ◌≤◌, Bool, true, false, List, [], ◌∷◌, ◌++◌, length, Option}
 use Rattle.std.proofs.Common.{Some, None, Result, Ok, Err, refl, sym, ◌∙◌, ap, subst, inl, inr}
 use Rattle.std.specs.Prelude.{◌⊎◌, MatchOption}
-use Rattle.vipr_spec.specs.Fraction.{ℚ}
 use Rattle.vipr_spec.specs.Constraint.{Profile, Row}
 use Rattle.vipr_spec.specs.Certificate.{Named, Problem, Derivation, Certificate, IsProof, count}
 use Rattle.vipr_spec.specs.Verdict.{refuses, at_solution, at_derivation}
-use Rattle.vipr_spec.specs.Steps.{step_tests, with_next}
 use Rattle.vipr_spec.specs.Tests.{solution_tests, solution_cause, Passes as PassesTest, meets_dual}
-use Rattle.vipr_rules.specs.Apply.{PassesTestsIn, StopsIn}
-use Rattle.vipr_table.specs.Table.{Table, advance_table, held_count}
-use Rattle.vipr_rules.specs.Solution.{test_of, FailsBy}
+use Rattle.vipr_spec.specs.{Fraction.ℚ, Steps.step_tests, Steps.with_next}
 use Rattle.vipr_rules.specs.declared.solution.SolutionError.{SolutionError}
 use Rattle.vipr_rules.specs.declared.error.RuleError.{RuleError}
+use Rattle.vipr_rules.specs.{Apply.PassesTestsIn, Apply.StopsIn, Solution.test_of, Solution.FailsBy}
+use Rattle.vipr_table.specs.Table.{Table, advance_table, held_count}
 use Rattle.vipr_rules.specs.declared.error.RuleError.TheVariants as rule
-use Rattle.vipr_check.specs.declared.halt.Stop.{Stop}
-use Rattle.vipr_check.specs.declared.halt.Halt.{Halt}
 use Rattle.vipr_check.specs.declared.halt.Halt.TheVariants.{Refused, Memory}
 use Rattle.vipr_check.specs.View.{refusal_of, place_of}
 use Rattle.vipr_check.specs.Halts.{halt_answer, later_answer, step_detail_of, rule_shown}
 use Rattle.vipr_check.specs.Halts.{IsSolutionHalt, IsStepHalt, solution_halt, CanShow, CanShowHalt}
 use Rattle.vipr_check.specs.Progress.{Progress, HasSolutions, HasSteps}
 use Rattle.vipr_check.specs.State.{State, IsReached, HaltsBy, StopsSolution, StopsStep, TakesStep}
-use Rattle.vipr_check.proofs.CauseLemmas.{cause_is}
-use Rattle.vipr_check.proofs.ProgressLemmas.{held_next}
+use Rattle.vipr_check.specs.{declared.halt.Halt.Halt, declared.halt.Stop.Stop}
 use Rattle.vipr_check.proofs.ShownLemmas.{failing_within}
+use Rattle.vipr_check.proofs.{CauseLemmas.cause_is, ProgressLemmas.held_next}
 
 -- where a call went on, nothing had stopped it
 pub runs_of : (halt : Option Halt) (x : Unit {0}) → MatchOption halt

@@ -4,12 +4,10 @@ use Rattle.std.specs.Fmt.{decimal}
 use Rattle.vipr_spec.specs.Causes.{cause_name}
 use Rattle.vipr_cert.specs.Text.{name_text}
 use Rattle.vipr_check.specs.Explanation.{behind_item, detail_text, explained_text, refused_name}
-use Rattle.vipr_check.specs.Text.{verdict_text}
-use Rattle.vipr_check.specs.declared.detail.Detail.{Detail}
 use Rattle.vipr_check.specs.declared.verdict.Place.TheVariants.{Der}
-use Rattle.vipr_check.specs.declared.verdict.Refusal.{Refusal}
-use Rattle.vipr_check.specs.declared.verdict.Verdict.{Verdict}
 use Rattle.vipr_check.specs.declared.verdict.Verdict.TheVariants.{Refused}
+use Rattle.vipr_check.specs.{Text.verdict_text, declared.detail.Detail.Detail}
+use Rattle.vipr_check.specs.{declared.verdict.Refusal.Refusal, declared.verdict.Verdict.Verdict}
 
 pub derivation_explained : (v : Verdict) (x : Detail) (r : Refusal) (i : ℕ) (name cause : List ℕ)
     → v ≡ Refused r → r.place ≡ Der i → Some name ≡ refused_name x → cause ≡ cause_name r.cause

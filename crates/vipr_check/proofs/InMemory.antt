@@ -1,17 +1,12 @@
 -- What a verdict on bytes in memory says of them.
 use Rattle.std.proofs.Common.{◌≡◌, ◌↔◌, ◌<◌, ◌^◌, ℕ, List, length, Result, Ok, Err, Some, Bool, false}
 use Rattle.std.proofs.Common.{IfOk, IsTrue, refl, subst}
-use Rattle.vipr_check.specs.Checks.{Checks}
-use Rattle.vipr_check.specs.declared.verdict.Fault.{Fault}
-use Rattle.vipr_check.specs.declared.verdict.Refusal.{Refusal}
-use Rattle.vipr_check.specs.declared.verdict.Report.{Report}
-use Rattle.vipr_check.specs.declared.verdict.Verdict.{Verdict}
 use Rattle.vipr_check.specs.declared.verdict.Verdict.TheVariants.{Verified, Refused}
-use Rattle.vipr_spec.specs.Constraint.{Profile, one}
+use Rattle.vipr_check.specs.{Checks.Checks, Promises.SpellsProof, Promises.SpellsTruth}
+use Rattle.vipr_check.specs.{declared.verdict.Fault.Fault, declared.verdict.Refusal.Refusal}
+use Rattle.vipr_check.specs.{declared.verdict.Report.Report, declared.verdict.Verdict.Verdict}
 use Rattle.vipr_spec.specs.Certificate.{Certificate, IsProof}
-use Rattle.vipr_spec.specs.Grammar.{Spells}
-use Rattle.vipr_spec.specs.Short.{Means}
-use Rattle.vipr_check.specs.Promises.{SpellsProof, SpellsTruth}
+use Rattle.vipr_spec.specs.{Constraint.Profile, Constraint.one, Grammar.Spells, Short.Means}
 
 abbrev pub Answers : List ℕ → Result Verdict Fault → Type 0
 Answers bytes result = Checks (Some (record { bytes = bytes; fails = false })) result

@@ -4,47 +4,39 @@ use Rattle.std.proofs.Common.{◌++◌, Some, None, Result, Ok, Err, inl, inr, a
 use Rattle.std.proofs.Common.{ap, subst}
 use Rattle.std.specs.Prelude.{◌⊎◌, IsSome, IfSome, IfOk, Option}
 use Rattle.std.specs.Result.{result_transpose}
-use Rattle.vipr_scan.specs.Giving.{rest_of}
+use Rattle.vipr_scan.specs.{Faults.Fails, Giving.rest_of, declared.error.TextError.TextError}
 use Rattle.std.proofs.lemmas.List.{length-append}
 use Rattle.vipr_spec.specs.Constraint.{Profile, Row, NamesBelow}
 use Rattle.vipr_spec.specs.Certificate.{Named, Problem, variables, Derivation, Certificate}
 use Rattle.vipr_spec.specs.Certificate.{MeetsPrimal, IsProof}
 use Rattle.vipr_spec.specs.Reading.{Rest, problem_read, solution_read, derivations_read}
 use Rattle.vipr_spec.specs.Reading.{derivation_read, end_read}
-use Rattle.vipr_spec.specs.Steps.{step_tests, with_next, FirstFailing}
-use Rattle.vipr_spec.specs.Checking.{start}
+use Rattle.vipr_spec.specs.Steps.{step_tests, with_next, FirstFailing, FirstFailing}
 use Rattle.vipr_spec.specs.Tests.{spelled, PassesSolution, solution_tests, Detail, none, step}
 use Rattle.vipr_spec.specs.Tests.{no_proof, no_primal, solution_detail, goal_needed_by}
-use Rattle.vipr_spec.specs.Steps.{FirstFailing}
-use Rattle.vipr_rules.specs.Apply.{PassesTestsIn}
 use Rattle.vipr_spec.specs.Verdict.{Reports, Answer, verified, refuses, answer_of_test, Explained}
 use Rattle.vipr_spec.specs.Verdict.{IsExplained}
-use Rattle.vipr_spec.specs.Shape.{ReasonShape}
 use Rattle.vipr_spec.specs.Progress.{derivations_from, solutions_from}
+use Rattle.vipr_spec.specs.{Checking.start, Shape.ReasonShape}
+use Rattle.vipr_rules.specs.{Apply.PassesTestsIn, Solution.test_of}
 use Rattle.vipr_spec.proofs.Laws.{count_next, problem_fault, problem_ok, solution_fault}
 use Rattle.vipr_spec.proofs.Laws.{solution_passes, solution_fails, solutions_unmet}
 use Rattle.vipr_spec.proofs.Laws.{derivations_fault, derivations_begin, derivation_fault}
 use Rattle.vipr_spec.proofs.Laws.{derivation_passes, derivation_fails, end_fault, end_unproved}
 use Rattle.vipr_spec.proofs.Laws.{end_verified}
-use Rattle.vipr_scan.specs.Faults.{Fails}
-use Rattle.vipr_scan.specs.declared.error.TextError.{TextError}
 use Rattle.vipr_read.specs.Items.{Items, Knows, Remembers}
-use Rattle.vipr_rules.specs.Solution.{test_of}
-use Rattle.vipr_check.specs.declared.verdict.Report.{Report}
-use Rattle.vipr_check.specs.declared.halt.Stop.{Stop}
-use Rattle.vipr_check.specs.declared.halt.Stop.TheVariants as stop
-use Rattle.vipr_check.specs.declared.halt.Halt.{Halt}
 use Rattle.vipr_check.specs.declared.halt.Halt.TheVariants.{Refused, Memory}
-use Rattle.vipr_check.specs.declared.no_proof.NoProof.{NoProof}
-use Rattle.vipr_check.specs.declared.no_proof.NoProof.TheVariants as reason
-use Rattle.vipr_check.specs.View.{report_of, refusal_of}
 use Rattle.vipr_check.specs.Shown.{finding_shown, primal_shown, halt_shown, state_shown}
-use Rattle.vipr_check.specs.Halts.{halt_answer, step_detail_of}
 use Rattle.vipr_check.specs.Progress.{HasSolutions, HasSteps}
 use Rattle.vipr_check.specs.State.{State, HaltsBy, StopsSolution, TakesSolution, StopsEnd}
 use Rattle.vipr_check.specs.State.{EndsSolutions, StopsStep, TakesStep, StopsFinish, Finishes}
 use Rattle.vipr_check.specs.Reasons.{stop_reason, text_reason, SaysWhy}
 use Rattle.vipr_check.specs.Run.{IsAmong, HasListed, IsAt, HasReached, Goes, SaysWith}
+use Rattle.vipr_check.specs.{Halts.halt_answer, Halts.step_detail_of, View.report_of}
+use Rattle.vipr_check.specs.{View.refusal_of, declared.halt.Halt.Halt, declared.halt.Stop.Stop}
+use Rattle.vipr_check.specs.{declared.no_proof.NoProof.NoProof, declared.verdict.Report.Report}
+use Rattle.vipr_check.specs.declared.halt.Stop.TheVariants as stop
+use Rattle.vipr_check.specs.declared.no_proof.NoProof.TheVariants as reason
 use Rattle.vipr_check.proofs.Answering.{SaysWhy-by, SaysWith-by, text_says}
 use Rattle.vipr_check.proofs.ShownLemmas.{missed_bound, stop_shown, halted_shown, unshown}
 

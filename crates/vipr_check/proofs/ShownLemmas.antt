@@ -4,20 +4,16 @@ use Rattle.std.proofs.Common.{length, map, get_or, Option, Some, None, IfSome, R
 use Rattle.std.proofs.Common.{IfOk, MatchResult, All, Contains, ◌⊎◌, if◌then◌else◌, refl, sym, ◌∙◌}
 use Rattle.std.proofs.Common.{ap, subst, inl, inr, arith}
 use Rattle.std.specs.Prelude.{option_map, unwrap_or}
-use Rattle.std.specs.List.{flat_map, range_with_len}
-use Rattle.std.specs.FinSet.{contains}
+use Rattle.std.specs.{FinSet.contains, List.flat_map, List.range_with_len}
 use Rattle.std.proofs.lemmas.List.{length-append, length-map, get_or-map}
 use Rattle.std.proofs.lemmas.List.Elements.{All-nil, All-cons, All-tail, All-append, All-map}
 use Rattle.std.proofs.lemmas.List.Elements.{All-filter, All-from_recursion}
 use Rattle.std.proofs.lemmas.List.FromFn.{length-range_with_len, get_or-range_with_len}
-use Rattle.vipr_spec.specs.Fraction.{ℚ}
 use Rattle.vipr_spec.specs.Constraint.{Profile, Row, at, Condition, condition}
 use Rattle.vipr_spec.specs.Certificate.{Named, Problem, variables, integer_variables, Claim}
 use Rattle.vipr_spec.specs.Certificate.{infeasible, range, primal_bound, objective_at, IsAsGood}
 use Rattle.vipr_spec.specs.Certificate.{MeetsPrimal, Reason, asm, lin, rnd, uns, sol, Derivation}
 use Rattle.vipr_spec.specs.Certificate.{Certificate}
-use Rattle.vipr_spec.specs.Reading.{most_count, is_nonzero}
-use Rattle.vipr_spec.specs.Shape.{ReasonShape}
 use Rattle.vipr_spec.specs.Steps.{PassesStep, StepTest, earlier, live, assumed, suitable, fitting}
 use Rattle.vipr_spec.specs.Steps.{roundable, split, listed, by_sum, by_rounding, by_constraint}
 use Rattle.vipr_spec.specs.Steps.{by_cutoff, StepDetail, index, position, sum, both, compared}
@@ -26,19 +22,14 @@ use Rattle.vipr_spec.specs.Steps.{sum_tests, step_tests}
 use Rattle.vipr_spec.specs.Tests.{SolutionTest, whole_at, value_fits, holds, objective_fits}
 use Rattle.vipr_spec.specs.Tests.{PassesSolution, solution_tests, finite_primal, name_at, names_of}
 use Rattle.vipr_spec.specs.Tests.{none}
-use Rattle.vipr_linear.specs.Constraint.{constraint_of}
-use Rattle.vipr_linear.specs.declared.constraint.Constraint.{Constraint}
-use Rattle.vipr_cert.specs.Items.{named_of}
-use Rattle.vipr_cert.specs.declared.items.Named.{Named as NamedItem}
-use Rattle.vipr_rules.specs.Apply.{shown_by, StopsIn}
-use Rattle.vipr_rules.specs.declared.error.RuleError.{RuleError}
-use Rattle.vipr_check.specs.declared.halt.Stop.{Stop}
-use Rattle.vipr_check.specs.declared.halt.Halt.{Halt}
-use Rattle.vipr_check.specs.declared.halt.Halt.TheVariants.{Memory}
-use Rattle.vipr_check.specs.Halts.{capped, rule_shown, IsTestOf}
-use Rattle.vipr_check.specs.Shown.{halt_shown, state_shown}
+use Rattle.vipr_spec.specs.{Fraction.ℚ, Reading.most_count, Reading.is_nonzero, Shape.ReasonShape}
+use Rattle.vipr_linear.specs.{Constraint.constraint_of, declared.constraint.Constraint.Constraint}
+use Rattle.vipr_cert.specs.{Items.named_of, declared.items.Named.Named as NamedItem}
+use Rattle.vipr_rules.specs.{Apply.shown_by, Apply.StopsIn, declared.error.RuleError.RuleError}
+use Rattle.vipr_check.specs.{Halts.capped, Halts.rule_shown, Halts.IsTestOf, Shown.halt_shown}
+use Rattle.vipr_check.specs.{Shown.state_shown, State.State, State.HaltsBy, declared.halt.Halt.Halt}
+use Rattle.vipr_check.specs.{declared.halt.Halt.TheVariants.Memory, declared.halt.Stop.Stop}
 use Rattle.vipr_table.specs.Table.{advance_table}
-use Rattle.vipr_check.specs.State.{State, HaltsBy}
 use Rattle.vipr_check.proofs.Failures.{failing_has}
 
 -- ---- the variable or the constraint is one of the problem

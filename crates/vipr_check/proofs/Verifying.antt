@@ -1,11 +1,9 @@
 -- What is verified is of a proof, whether or not the source tells its bytes
 use Rattle.std.proofs.Common.{◌≡◌, Ok, subst}
-use Rattle.vipr_spec.specs.Constraint.{Profile}
 use Rattle.vipr_spec.specs.Certificate.{Certificate, IsProof}
-use Rattle.vipr_spec.specs.Verdict.{Reports}
+use Rattle.vipr_spec.specs.{Constraint.Profile, Verdict.Reports}
 use Rattle.vipr_check.specs.declared.verdict.Report.{Report}
-use Rattle.vipr_check.specs.View.{report_of, IsOfProof}
-use Rattle.vipr_check.specs.State.{State, Finishes}
+use Rattle.vipr_check.specs.{State.State, State.Finishes, View.report_of, View.IsOfProof}
 
 pub report_of_proof : (P : Profile) (c : Certificate) (k l : State) (r : Report)
     → k.progress.profile ≡ P → Finishes c k l (Ok r) → IsOfProof P r

@@ -1,18 +1,15 @@
 -- How a verdict is printed with what shows why it is so. Each line has its line feed
 use Rattle.std.specs.Prelude.{ℕ, List, [], ◌++◌, Option, Some, None, codes, decimal}
-use Rattle.vipr_spec.specs.Number.{number_text}
-use Rattle.vipr_spec.specs.Causes.{cause_name}
+use Rattle.vipr_spec.specs.{Causes.cause_name, Number.number_text}
 use Rattle.vipr_linear.specs.Text.{constraint_text, sense_text}
 use Rattle.vipr_cert.specs.Text.{name_text}
-use Rattle.vipr_check.specs.declared.detail.Detail.{Detail}
-use Rattle.vipr_check.specs.declared.detail.Detail.TheVariants as detail
 use Rattle.vipr_check.specs.declared.detail.StepDetail.{StepDetail}
-use Rattle.vipr_check.specs.declared.detail.StepDetail.TheVariants as step
-use Rattle.vipr_check.specs.declared.verdict.Place.{Place}
 use Rattle.vipr_check.specs.declared.verdict.Place.TheVariants.{Byte, Sol, Der, End}
-use Rattle.vipr_check.specs.declared.verdict.Verdict.{Verdict}
 use Rattle.vipr_check.specs.declared.verdict.Verdict.TheVariants.{Verified, Refused}
-use Rattle.vipr_check.specs.Text.{verdict_text}
+use Rattle.vipr_check.specs.{Text.verdict_text, declared.detail.Detail.Detail}
+use Rattle.vipr_check.specs.{declared.verdict.Place.Place, declared.verdict.Verdict.Verdict}
+use Rattle.vipr_check.specs.declared.detail.Detail.TheVariants as detail
+use Rattle.vipr_check.specs.declared.detail.StepDetail.TheVariants as step
 
 abbrev pub goal_text : Option ℕ → List ℕ
 goal_text (Some index) = decimal index

@@ -1,9 +1,7 @@
 -- What is promised of bytes in memory
 use Rattle.std.specs.Prelude.{ℕ, List}
-use Rattle.vipr_spec.specs.Constraint.{one}
 use Rattle.vipr_spec.specs.Certificate.{Certificate, IsProof}
-use Rattle.vipr_spec.specs.Grammar.{Spells, SpellsOnly}
-use Rattle.vipr_spec.specs.Soundness.{IsShown}
+use Rattle.vipr_spec.specs.{Constraint.one, Grammar.Spells, Grammar.SpellsOnly, Soundness.IsShown}
 
 -- the bytes spell a certificate that is a proof
 abbrev pub SpellsProof : List ℕ → Type 0

@@ -5,16 +5,13 @@ use Rattle.vipr_spec.specs.Verdict.{Answer, refuses, cut_short}
 use Rattle.vipr_scan.specs.declared.error.TextError.{TextError}
 use Rattle.vipr_scan.specs.declared.error.TextError.TheVariants as text
 use Rattle.vipr_check.specs.declared.verdict.Place.TheVariants.{Byte}
-use Rattle.vipr_check.specs.declared.verdict.Report.{Report}
-use Rattle.vipr_check.specs.declared.verdict.Verdict.{Verdict}
-use Rattle.vipr_check.specs.declared.verdict.Verdict.TheVariants as verdict
-use Rattle.vipr_check.specs.declared.verdict.Fault.{Fault}
-use Rattle.vipr_check.specs.declared.verdict.Fault.TheVariants as fault
-use Rattle.vipr_check.specs.declared.halt.Stop.{Stop}
-use Rattle.vipr_check.specs.declared.halt.Stop.TheVariants as stop
 use Rattle.vipr_check.specs.declared.no_proof.NoProof.{NoProof}
 use Rattle.vipr_check.specs.declared.no_proof.NoProof.TheVariants.{Refused, Read, Memory}
-use Rattle.vipr_check.specs.View.{refusal_of}
+use Rattle.vipr_check.specs.{View.refusal_of, declared.halt.Stop.Stop, declared.verdict.Fault.Fault}
+use Rattle.vipr_check.specs.{declared.verdict.Report.Report, declared.verdict.Verdict.Verdict}
+use Rattle.vipr_check.specs.declared.verdict.Verdict.TheVariants as verdict
+use Rattle.vipr_check.specs.declared.verdict.Fault.TheVariants as fault
+use Rattle.vipr_check.specs.declared.halt.Stop.TheVariants as stop
 
 -- if a checker stopped
 abbrev pub stop_reason : Stop → NoProof

@@ -1,25 +1,18 @@
 -- A checker run over a text, item by item
 use Rattle.std.specs.Prelude.{⊤, ◌≡◌, ◌+◌, ◌<◌, ◌^◌, true, false, List, length, Option, Some, None}
-use Rattle.std.specs.Prelude.{Result, Ok, Err}
-use Rattle.std.specs.Prelude.{IsSome}
-use Rattle.vipr_spec.specs.Constraint.{Profile, Row}
+use Rattle.std.specs.Prelude.{Result, Ok, Err, IsSome}
 use Rattle.vipr_spec.specs.Certificate.{Named, Problem, Certificate, count}
-use Rattle.vipr_spec.specs.Tests.{Detail as DetailMeant, none}
 use Rattle.vipr_spec.specs.Verdict.{Answer, verified, cut_short, Explained}
-use Rattle.vipr_spec.specs.Progress.{solutions_from, derivations_from}
+use Rattle.vipr_spec.specs.{Constraint.Profile, Constraint.Row, Progress.solutions_from}
+use Rattle.vipr_spec.specs.{Progress.derivations_from, Tests.Detail as DetailMeant, Tests.none}
 use Rattle.vipr_scan.specs.Giving.{rest_of}
 use Rattle.vipr_read.specs.Items.{Items, Knows}
-use Rattle.vipr_check.specs.declared.verdict.Report.{Report}
-use Rattle.vipr_check.specs.declared.verdict.Verdict.{Verdict}
-use Rattle.vipr_check.specs.declared.verdict.Fault.{Fault}
 use Rattle.vipr_check.specs.declared.verdict.Fault.TheVariants.{Read, Memory}
-use Rattle.vipr_check.specs.declared.detail.Detail.{Detail}
-use Rattle.vipr_check.specs.declared.no_proof.NoProof.{NoProof}
-use Rattle.vipr_check.specs.Reasons.{SaysWhy}
-use Rattle.vipr_check.specs.View.{answer_of, report_of}
 use Rattle.vipr_check.specs.Shown.{detail_of, state_shown, last_shown}
-use Rattle.vipr_check.specs.Progress.{HasSolutions, HasSteps}
-use Rattle.vipr_check.specs.State.{State}
+use Rattle.vipr_check.specs.{Progress.HasSolutions, Progress.HasSteps, Reasons.SaysWhy, State.State}
+use Rattle.vipr_check.specs.{View.answer_of, View.report_of, declared.detail.Detail.Detail}
+use Rattle.vipr_check.specs.{declared.no_proof.NoProof.NoProof, declared.verdict.Fault.Fault}
+use Rattle.vipr_check.specs.{declared.verdict.Report.Report, declared.verdict.Verdict.Verdict}
 
 -- ---- what is answered
 

@@ -1,19 +1,15 @@
 -- What is shown of a verdict, as the detail of the definitions
 use Rattle.std.specs.Prelude.{Option, Some, None, option_map}
-use Rattle.vipr_spec.specs.Fraction.{ℚ}
-use Rattle.vipr_spec.specs.Certificate.{Problem}
-use Rattle.vipr_spec.specs.Tests as is
 use Rattle.vipr_spec.specs.Tests.{goal_needed_by, finite_primal}
+use Rattle.vipr_spec.specs.{Certificate.Problem, Fraction.ℚ}
+use Rattle.vipr_spec.specs.Tests as is
 use Rattle.vipr_linear.specs.Constraint.{sense_of, condition_of}
 use Rattle.vipr_rules.specs.Solution.{solution_shown}
-use Rattle.vipr_check.specs.declared.detail.Detail.{Detail}
-use Rattle.vipr_check.specs.declared.detail.Detail.TheVariants as detail
-use Rattle.vipr_check.specs.declared.halt.Finding.{Finding}
 use Rattle.vipr_check.specs.declared.halt.Finding.TheVariants.{Solution, Primal, Derived, Proof}
-use Rattle.vipr_check.specs.declared.halt.Halt.{Halt}
 use Rattle.vipr_check.specs.declared.halt.Halt.TheVariants.{Refused, Memory}
-use Rattle.vipr_check.specs.Halts.{step_detail_of}
-use Rattle.vipr_check.specs.State.{State}
+use Rattle.vipr_check.specs.{Halts.step_detail_of, State.State, declared.detail.Detail.Detail}
+use Rattle.vipr_check.specs.{declared.halt.Finding.Finding, declared.halt.Halt.Halt}
+use Rattle.vipr_check.specs.declared.detail.Detail.TheVariants as detail
 
 abbrev pub detail_of : Detail → is.Detail
 detail_of detail.None = is.none

@@ -2,32 +2,26 @@
 use Rattle.std.specs.Prelude.{◌≡◌, ◌≢◌, ◌⊎◌, ◌≤◌, Bool, true, false, List, ◌∷◌, ◌++◌, [], length}
 use Rattle.std.specs.Prelude.{Option, Some, None, Result, Ok, Err, refl}
 use Rattle.std.specs.Coded.{Coded, code_by, coded×, coded_bool, coded_option}
-use Rattle.vipr_spec.specs.Constraint.{Profile, Row}
 use Rattle.vipr_spec.specs.Certificate.{Named, Problem, MeetsPrimal, Derivation, Certificate}
 use Rattle.vipr_spec.specs.Certificate.{IsProof, count, count_held}
 use Rattle.vipr_spec.specs.Steps.{with_next, step_tests, FirstFailing}
-use Rattle.vipr_spec.specs.Checking.{start}
-use Rattle.vipr_spec.specs.Soundness.{IsShown}
 use Rattle.vipr_spec.specs.Tests.{Test, of_solution, of_step, meets_primal, meets_dual}
 use Rattle.vipr_spec.specs.Tests.{Passes as PassesTest, PassesSolution, solution_tests}
 use Rattle.vipr_spec.specs.Verdict.{Reports, refuses, answer_of_test}
-use Rattle.vipr_rules.specs.Apply.{PassesTestsIn, StopsIn}
-use Rattle.vipr_table.specs.Table.{advance_table, held_count as held_in}
-use Rattle.vipr_rules.specs.Solution.{test_of, FailsBy}
+use Rattle.vipr_spec.specs.{Checking.start, Constraint.Profile, Constraint.Row, Soundness.IsShown}
 use Rattle.vipr_rules.specs.declared.solution.SolutionError.{SolutionError}
 use Rattle.vipr_rules.specs.declared.error.RuleError.{RuleError}
-use Rattle.vipr_check.specs.declared.verdict.Refusal.{Refusal}
-use Rattle.vipr_check.specs.declared.verdict.Report.{Report}
-use Rattle.vipr_check.specs.declared.halt.Stop.{Stop}
+use Rattle.vipr_rules.specs.{Apply.PassesTestsIn, Apply.StopsIn, Solution.test_of, Solution.FailsBy}
+use Rattle.vipr_table.specs.Table.{advance_table, held_count as held_in}
 use Rattle.vipr_check.specs.declared.halt.Finding.TheVariants.{Solution, Primal, Derived, Proof}
-use Rattle.vipr_check.specs.declared.halt.Halt.{Halt}
 use Rattle.vipr_check.specs.declared.halt.Halt.TheVariants.{Refused, Memory}
-use Rattle.vipr_check.specs.contracts.halt.Halt as halt
-use Rattle.vipr_check.specs.View.{refusal_of, report_of}
-use Rattle.vipr_check.specs.declared.detail.StepDetail.{StepDetail}
 use Rattle.vipr_check.specs.Halts.{halt_answer, later_answer, step_detail_of, rule_shown}
 use Rattle.vipr_check.specs.Halts.{CanShowHalt}
 use Rattle.vipr_check.specs.Progress.{Progress, progress_code, HasSolutions, HasSteps}
+use Rattle.vipr_check.specs.{View.refusal_of, View.report_of, declared.detail.StepDetail.StepDetail}
+use Rattle.vipr_check.specs.{declared.halt.Halt.Halt, declared.halt.Stop.Stop}
+use Rattle.vipr_check.specs.{declared.verdict.Refusal.Refusal, declared.verdict.Report.Report}
+use Rattle.vipr_check.specs.contracts.halt.Halt as halt
 
 pub record State : Type 0 where
   pub progress : Progress

@@ -1,14 +1,12 @@
 -- How a verdict is printed, and its exit status. The text has no line feed at its end
 use Rattle.std.specs.Prelude.{ℕ, List, ◌++◌, codes, decimal}
 use Rattle.vipr_cert.specs.Text.{claim_text}
-use Rattle.vipr_check.specs.declared.verdict.Fault.{Fault}
 use Rattle.vipr_check.specs.declared.verdict.Fault.TheVariants.{Memory, Read}
-use Rattle.vipr_check.specs.declared.verdict.Place.{Place}
 use Rattle.vipr_check.specs.declared.verdict.Place.TheVariants.{Byte, Sol, Der, End}
-use Rattle.vipr_check.specs.declared.verdict.Refusal.{Refusal}
-use Rattle.vipr_check.specs.declared.verdict.Report.{Report}
 use Rattle.vipr_check.specs.declared.verdict.Verdict.{Verdict}
 use Rattle.vipr_check.specs.declared.verdict.Verdict.TheVariants.{Verified, Refused}
+use Rattle.vipr_check.specs.{declared.verdict.Fault.Fault, declared.verdict.Place.Place}
+use Rattle.vipr_check.specs.{declared.verdict.Refusal.Refusal, declared.verdict.Report.Report}
 
 abbrev pub place_text : Place → List ℕ
 place_text (Byte offset) = codes "byte " ++ decimal offset

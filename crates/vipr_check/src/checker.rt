@@ -7,12 +7,11 @@ ghost use Rattle.vipr_spec.specs.Constraint.{one, Row, at, NamesBelow};
 ghost use Rattle.vipr_cert.specs.Items.{solution_of, derivation_of};
 ghost use Rattle.vipr_rules.specs.Profile.{profile_of};
 ghost use Rattle.vipr_table.specs.Table.{held_count as held_in};
-ghost use Rattle.vipr_check.specs.Sound.{KeepsSoundness};
 ghost use Rattle.vipr_check.specs.Halts.{halt_answer, later_answer, IsOwnStepHalt};
 ghost use Rattle.vipr_check.specs.Progress.{HasSolutions, HasSteps};
 ghost use Rattle.vipr_check.specs.State.{Repeats, TakesSolution, EndsSolutions, TakesStep};
 ghost use Rattle.vipr_check.specs.State.{Finishes};
-ghost use Rattle.vipr_check.specs.Shown.{detail_of, state_shown};
+ghost use Rattle.vipr_check.specs.{Shown.detail_of, Shown.state_shown, Sound.KeepsSoundness};
 
 use crate::cause;
 use crate::detail::{Detail, of_halt};

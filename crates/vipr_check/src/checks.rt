@@ -6,14 +6,12 @@
 //! [`check_with`] takes the table that derived constraints are kept in.
 
 ghost use Rattle.std.specs.Prelude.{◌≡◌, IfOk};
-ghost use Rattle.vipr_spec.specs.Constraint.{one};
-ghost use Rattle.vipr_spec.specs.Verdict.{IsExplained};
+ghost use Rattle.vipr_spec.specs.{Constraint.one, Verdict.IsExplained};
 ghost use Rattle.vipr_bytes.specs.Known.{text_of, IfKnown};
 ghost use Rattle.vipr_rules.specs.Profile.{profile_of};
-ghost use Rattle.vipr_check.specs.Checks.{Checks, ChecksIn};
-ghost use Rattle.vipr_check.specs.Reasons.{verdict_by};
 ghost use Rattle.vipr_check.specs.Run.{SaysInDetail, verdict_in};
 ghost use Rattle.vipr_check.specs.Shown.{detail_of, last_shown};
+ghost use Rattle.vipr_check.specs.{Checks.Checks, Checks.ChecksIn, Reasons.verdict_by};
 
 use crate::Table;
 use crate::checker::Checker;

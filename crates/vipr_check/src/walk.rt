@@ -3,18 +3,16 @@
 ghost use Rattle.std.specs.Prelude.{◌≡◌, ◌+◌, ◌<◌, ◌^◌, true, false, suc, List, Ok, Err};
 ghost use Rattle.std.specs.Prelude.{IfOk, IfNone, IfSome, IsSome};
 ghost use Rattle.vipr_scan.specs.Giving.{rest_of};
-ghost use Rattle.vipr_spec.specs.Constraint.{Profile as ProfileMeant, Row};
-ghost use Rattle.vipr_spec.specs.Certificate.{Named as NamedMeant, Problem as ProblemMeant};
-ghost use Rattle.vipr_spec.specs.Certificate.{Certificate};
-ghost use Rattle.vipr_spec.specs.Reading.{Rest, problem_read};
-ghost use Rattle.vipr_spec.specs.Verdict.{Explained, IsExplained};
 ghost use Rattle.vipr_spec.specs.Progress.{derivations_from, solutions_from};
+ghost use Rattle.vipr_spec.specs.{Certificate.Named as NamedMeant};
+ghost use Rattle.vipr_spec.specs.{Certificate.Problem as ProblemMeant, Certificate.Certificate};
+ghost use Rattle.vipr_spec.specs.{Constraint.Profile as ProfileMeant, Constraint.Row, Reading.Rest};
+ghost use Rattle.vipr_spec.specs.{Reading.problem_read, Verdict.Explained, Verdict.IsExplained};
 ghost use Rattle.vipr_rules.specs.Profile.{profile_of};
 ghost use Rattle.vipr_read.specs.Items.{Knows};
 ghost use Rattle.vipr_bytes.specs.Known.{text_of, IfKnown};
-ghost use Rattle.vipr_check.specs.Shown.{state_shown};
 ghost use Rattle.vipr_check.specs.Run.{IsAmong, GoesAmong, IsAt, Goes, SaysWith, SaysAtEnd};
-ghost use Rattle.vipr_check.specs.View.{IsOfProof};
+ghost use Rattle.vipr_check.specs.{Shown.state_shown, View.IsOfProof};
 
 use crate::checker::Checker;
 use crate::no_proof::NoProof;

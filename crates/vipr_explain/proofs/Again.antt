@@ -2,16 +2,12 @@
 use Rattle.std.proofs.Common.{◌≡◌, ℕ, zero, suc, ◌+◌, ◌-◌, ◌<◌, inl, inr, ◌⊎◌, List, [], ◌∷◌, ◌++◌}
 use Rattle.std.proofs.Common.{length, Option, Some, None, Result, Ok, Err, refl, ap}
 use Rattle.std.proofs.Common.{◌∙◌, arith, subst, IfOk, OnOk}
-use Rattle.std.specs.Option.{IsSome}
-use Rattle.std.specs.Result.{result_and}
+use Rattle.std.specs.{Option.IsSome, Result.result_and}
 use Rattle.std.proofs.lemmas.List.{length-append}
-use Rattle.vipr_spec.specs.Certificate.{Named, Problem}
-use Rattle.vipr_spec.specs.Constraint.{Row}
-use Rattle.vipr_spec.specs.Reading.{Rest, Fault, Read, ◌>>=◌, read_each}
-use Rattle.vipr_spec.specs.Reading.{derivations_read, problem_read}
-use Rattle.vipr_scan.specs.Faults.{Fails}
-use Rattle.vipr_scan.specs.Giving.{rest_of}
-use Rattle.vipr_scan.specs.declared.error.TextError.{TextError}
+use Rattle.vipr_spec.specs.Reading.{Rest, Fault, Read, ◌>>=◌, read_each, derivations_read}
+use Rattle.vipr_spec.specs.Reading.{problem_read}
+use Rattle.vipr_spec.specs.{Certificate.Named, Certificate.Problem, Constraint.Row}
+use Rattle.vipr_scan.specs.{Faults.Fails, Giving.rest_of, declared.error.TextError.TextError}
 use Rattle.vipr_read.specs.Items.{Items as Reader, Knows, Remembers, Moves, HasNone, HasPassed}
 use Rattle.vipr_read.specs.Items.{NextItem}
 use Rattle.vipr_explain.specs.Found.{AreReadSoFar, AreSolutionsRead, HasFault, IsReaderBehind}

@@ -1,8 +1,7 @@
 -- Why a text can't be read again, through the calls that read it
 use Rattle.std.proofs.Common.{◌≡◌, Result, Ok, Err, IfErr, IsErrAnd, refl, sym, subst}
 use Rattle.vipr_spec.specs.Reading.{Fault, refused, unread, ◌>>=◌}
-use Rattle.vipr_scan.specs.Faults.{Fails}
-use Rattle.vipr_scan.specs.declared.error.TextError.{TextError}
+use Rattle.vipr_scan.specs.{Faults.Fails, declared.error.TextError.TextError}
 use Rattle.vipr_scan.specs.declared.error.TextError.TheVariants as error
 use Rattle.vipr_explain.specs.Found.{Because, HasFault, Missed}
 

@@ -1,23 +1,17 @@
 -- The order of the constraints that come near to a claim, lists in that order, and their first ones
-use Rattle.std.proofs.Common.{◌≡◌, ℕ, zero, suc, ◌+◌, ◌<◌, Bool, true, false, cond, not, ◌&&◌, ◌||◌, nat_lt}
-use Rattle.std.proofs.Common.{List, [], ◌∷◌, length, take, drop, Option, Some, None}
-use Rattle.std.proofs.Common.{refl, sym, ap, ◌∙◌, subst, inl, inr, arith, All, Contains}
-use Rattle.std.specs.Prelude.{◌⊎◌, insert, if◌then◌else◌}
-use Rattle.std.specs.Cmp.{alike_right}
-use Rattle.std.specs.List.{position_or_len}
-use Rattle.std.specs.declared.cmp.Ordering.{Ordering}
-use Rattle.std.specs.declared.cmp.Ordering.TheVariants.{Less, Equal, Greater}
-use Rattle.std.specs.Ordering.{ordering_reverse}
-use Rattle.std.proofs.lemmas.Bool.{cases_lt}
-use Rattle.std.proofs.lemmas.Bool.Decides.{nat_tests}
+use Rattle.std.proofs.Common.{◌≡◌, ℕ, zero, suc, ◌+◌, ◌<◌, Bool, true, false, cond, not, ◌&&◌, ◌||◌}
+use Rattle.std.proofs.Common.{nat_lt, List, [], ◌∷◌, length, take, drop, Option, Some, None, refl}
+use Rattle.std.proofs.Common.{sym, ap, ◌∙◌, subst, inl, inr, arith, All, Contains}
 use Rattle.std.proofs.lemmas.List.{length-take-le, length-drop, take-append-drop}
-use Rattle.std.proofs.lemmas.List.Elements.{All-nil, All-cons, All-weaker}
-use Rattle.std.proofs.lemmas.List.Elements.{All-append, All-take, All-drop, All-contains}
-use Rattle.std.proofs.lemmas.List.Elements.{Contains-append_left, Contains-append_right}
-use Rattle.std.proofs.lemmas.List.Elements.{Contains-append_cases}
-use Rattle.vipr_spec.specs.Fraction.{ℚ}
-use Rattle.vipr_spec.specs.FractionOrder.{cmp_ℚ}
+use Rattle.std.proofs.lemmas.List.Elements.{All-nil, All-cons, All-weaker, All-append, All-take}
+use Rattle.std.proofs.lemmas.List.Elements.{All-drop, All-contains, Contains-append_left}
+use Rattle.std.proofs.lemmas.List.Elements.{Contains-append_right, Contains-append_cases}
+use Rattle.std.proofs.{lemmas.Bool.cases_lt, lemmas.Bool.Decides.nat_tests}
+use Rattle.std.specs.declared.cmp.Ordering.TheVariants.{Less, Equal, Greater}
+use Rattle.std.specs.{Cmp.alike_right, List.position_or_len, Ordering.ordering_reverse, Prelude.◌⊎◌}
+use Rattle.std.specs.{Prelude.insert, Prelude.if◌then◌else◌, declared.cmp.Ordering.Ordering}
 use Rattle.vipr_spec.specs.Certificate.{Certificate, constraint_at}
+use Rattle.vipr_spec.specs.{Fraction.ℚ, FractionOrder.cmp_ℚ}
 use Rattle.vipr_spec.proofs.Laws.{cmp_total}
 use Rattle.vipr_rules.specs.declared.claim.Target.{Target}
 use Rattle.vipr_page.specs.Algebra.{size}

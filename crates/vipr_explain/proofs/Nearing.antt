@@ -3,10 +3,9 @@ use Rattle.std.proofs.Common.{◌≡◌, ℕ, zero, suc, ◌+◌, ◌<◌, Bool,
 use Rattle.std.proofs.Common.{◌∷◌, ◌++◌, length, map, take, get_or, Option, None, Some, refl, sym, ap}
 use Rattle.std.proofs.Common.{◌∙◌, append_assoc, subst, inl, inr, arith, IsTrue}
 use Rattle.std.specs.Prelude.{◌↔◌, ◌≢◌, if◌then◌else◌, All, option_and_then, option_map, Ok}
-use Rattle.std.specs.FinSet as set
 use Rattle.std.specs.FinSet.{FinSet, contains, contains-empty, same_set, nat_cmp-IsAntisymmetric}
-use Rattle.std.specs.Cmp.{nat_cmp_total}
-use Rattle.std.specs.Ordering.{nat_cmp}
+use Rattle.std.specs.{Cmp.nat_cmp_total, Ordering.nat_cmp}
+use Rattle.std.specs.FinSet as set
 use Rattle.std.proofs.lemmas.Bool.{cases_lt}
 use Rattle.std.proofs.lemmas.List.{get_or_append_left, get_or-map, length-map, take-take}
 use Rattle.vipr_spec.specs.Constraint.{Profile, Constraint as Meant, Condition, condition, at}
@@ -25,29 +24,20 @@ use Rattle.vipr_linear.specs.Constraint.{condition_of, constraint_of}
 use Rattle.vipr_linear.specs.declared.constraint.Constraint.{Constraint}
 use Rattle.vipr_cert.specs.Items.{derivation_of, named_of, reason_of}
 use Rattle.vipr_cert.specs.declared.items.Derivation.{Derivation as Step}
-use Rattle.vipr_cert.specs.declared.items.Named.{Named}
-use Rattle.vipr_cert.specs.declared.items.Reason.{Reason}
+use Rattle.vipr_cert.specs.{declared.items.Named.Named, declared.items.Reason.Reason}
 use Rattle.vipr_cert.specs.declared.items.Reason.TheVariants as by
 use Rattle.vipr_table.specs.Table.{DerivedBelow, step}
-use Rattle.vipr_table.specs.History.{IsTableOf}
+use Rattle.vipr_table.specs.{History.IsTableOf, declared.rows.Entry.Entry}
 use Rattle.vipr_table.proofs.Laws.{DerivedBelow-step, IsTableOf-step}
-use Rattle.vipr_table.specs.declared.rows.Entry.{Entry}
-use Rattle.vipr_rules.specs.Apply.{entry_resting_on}
-use Rattle.vipr_rules.specs.Claim.{IsTargetIn}
-use Rattle.vipr_rules.specs.declared.claim.Target.{Target}
+use Rattle.vipr_rules.specs.{Apply.entry_resting_on, Claim.IsTargetIn, declared.claim.Target.Target}
 use Rattle.vipr_explain.specs.Found.{AreDerivationsRead, HasFault, head_read}
 use Rattle.vipr_explain.specs.Near.{IsLike, comes_before, with_near, in_order, IsNear, AreNearest}
-use Rattle.vipr_explain.specs.Near.{IsOpenJoin, join_of}
-use Rattle.vipr_explain.specs.Near.{of_like, of_unlike, without_solutions, IsNextEntry, HasPassedAll}
-use Rattle.vipr_explain.specs.Near.{HasReplayed, SearchesTo, HasNoStep, IsStepOf, LacksGoal}
-use Rattle.vipr_explain.specs.Near.{passed_to, up_to}
-use Rattle.vipr_explain.specs.declared.changes.Replay.{Replay}
-use Rattle.vipr_explain.specs.declared.near.Join.{Join}
-use Rattle.vipr_explain.specs.declared.near.Near.{Near}
-use Rattle.vipr_explain.specs.declared.near.NearSearch.{NearSearch}
-use Rattle.vipr_explain.proofs.Again.{one_behind}
-use Rattle.vipr_explain.proofs.Lacks.{fault_first}
-use Rattle.vipr_explain.proofs.NearOrder.{next_near}
+use Rattle.vipr_explain.specs.Near.{IsOpenJoin, join_of, of_like, of_unlike, without_solutions}
+use Rattle.vipr_explain.specs.Near.{IsNextEntry, HasPassedAll, HasReplayed, SearchesTo, HasNoStep}
+use Rattle.vipr_explain.specs.Near.{IsStepOf, LacksGoal, passed_to, up_to}
+use Rattle.vipr_explain.specs.{declared.changes.Replay.Replay, declared.near.Join.Join}
+use Rattle.vipr_explain.specs.{declared.near.Near.Near, declared.near.NearSearch.NearSearch}
+use Rattle.vipr_explain.proofs.{Again.one_behind, Lacks.fault_first, NearOrder.next_near}
 
 -- ---- one constraint more
 

@@ -5,13 +5,11 @@ use Rattle.std.proofs.lemmas.List.{at_drop_more, get_or-drop, length-drop, lengt
 use Rattle.std.proofs.lemmas.Bool.{cases_lt, false≢true}
 use Rattle.vipr_spec.specs.Tokens.{Token, is_white, tokens_after_front, tokens_from}
 use Rattle.vipr_spec.proofs.Laws.{token_whole}
-use Rattle.vipr_scan.specs.Places.{tokens_in}
-use Rattle.vipr_scan.specs.declared.place.Position.{Position}
 use Rattle.vipr_scan.specs.declared.place.Position.TheVariants.{Front, Comment, Past}
-use Rattle.vipr_explain.specs.Places.{place_at}
+use Rattle.vipr_scan.specs.{Places.tokens_in, declared.place.Position.Position}
 use Rattle.vipr_explain.specs.Words.{GivesFirst, IsAtByte, sized, words_at}
 use Rattle.vipr_explain.specs.declared.words.TextWord.{TextWord}
-use Rattle.vipr_explain.specs.declared.words.Words.{Words}
+use Rattle.vipr_explain.specs.{Places.place_at, declared.words.Words.Words}
 
 -- ---- up to a token
 

@@ -1,15 +1,13 @@
 -- What is kept of the listed solutions, one solution after another
 use Rattle.std.proofs.Common.{◌≡◌, ℕ, zero, suc, List, [], ◌∷◌, ◌++◌, map, filter, length, IsTrue}
 use Rattle.std.proofs.Common.{refl, sym, ap, ap₂, subst, subst₂, ◌∙◌}
-use Rattle.std.specs.Prelude.{◌↔◌}
-use Rattle.std.proofs.lemmas.List.{map-append}
 use Rattle.std.proofs.lemmas.List.Elements.{filter-append}
-use Rattle.std.proofs.Math.Nat.{mul_comm}
+use Rattle.std.proofs.{Math.Nat.mul_comm, lemmas.List.map-append}
+use Rattle.std.specs.Prelude.{◌↔◌}
 use lib.IntN.{*ℤ_comm}
 use Rattle.vipr_spec.specs.Fraction.{ℚ, over, ◌+ℚ◌, ◌*ℚ◌, IsBounded, SumFits}
 use Rattle.vipr_spec.specs.Constraint.{Row, value, ValueFits}
-use Rattle.vipr_spec.specs.Certificate.{Named, Problem}
-use Rattle.vipr_spec.specs.Soundness.{IsBestValue}
+use Rattle.vipr_spec.specs.{Certificate.Named, Certificate.Problem, Soundness.IsBestValue}
 use Rattle.vipr_explain.specs.Values.{ObjectiveFits, of_fitting, of_unfit, value_of, is_first}
 use Rattle.vipr_explain.specs.Values.{IsExchanged, AreValues}
 use Rattle.vipr_explain.specs.declared.solution.ListedValues.{ListedValues}

@@ -2,9 +2,8 @@
 use Rattle.std.proofs.Common.{◌≡◌, ℕ, Bool, true, false, List, [], ◌∷◌, refl, sym, ap, ◌∙◌}
 use Rattle.vipr_spec.specs.Tokens.{Token}
 use Rattle.vipr_explain.specs.Words.{AreLeft, GivesFirst, span_in, walked}
-use Rattle.vipr_explain.specs.declared.text.Span.{Span}
 use Rattle.vipr_explain.specs.declared.words.TextWord.{TextWord}
-use Rattle.vipr_explain.specs.declared.words.Words.{Words}
+use Rattle.vipr_explain.specs.{declared.text.Span.Span, declared.words.Words.Words}
 
 -- some tokens are left, over which the state becomes what it becomes over all
 pub record WalksFrom (S : Type 0) (stops : S → Bool) (next : S → List ℕ → Span → S) (text : List ℕ)

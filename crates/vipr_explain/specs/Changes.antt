@@ -1,13 +1,10 @@
 -- Changes of one entry with which a refused sum follows
 use Rattle.std.specs.Prelude.{◌+◌, ◌++◌, ℕ, List, ◌∷◌, length, take, drop, min, None, IfSome}
-use Rattle.vipr_spec.specs.Fraction.{ℚ}
-use Rattle.vipr_spec.specs.Constraint.{Profile, condition}
 use Rattle.vipr_spec.specs.Certificate.{Derivation, Certificate, Reason, lin, rnd, uns}
 use Rattle.vipr_spec.specs.Steps.{FirstFailing, PassesStep, step_tests}
-use Rattle.vipr_explain.specs.declared.changes.Change.{Change}
-use Rattle.vipr_explain.specs.declared.changes.Change.TheVariants.{Entry, Word}
-use Rattle.vipr_explain.specs.declared.changes.Change.TheVariants.{Join as Joined}
-use Rattle.vipr_explain.specs.declared.changes.Changes.{Changes}
+use Rattle.vipr_spec.specs.{Constraint.Profile, Constraint.condition, Fraction.ℚ}
+use Rattle.vipr_explain.specs.declared.changes.Change.TheVariants.{Entry, Word, Join as Joined}
+use Rattle.vipr_explain.specs.{declared.changes.Change.Change, declared.changes.Changes.Changes}
 
 -- the entry in place of the one at its position, or behind the last one
 abbrev pub changed_entries : Change → List (ℕ × ℚ) → List (ℕ × ℚ)

@@ -1,15 +1,12 @@
 -- What is found of a claim: the goal that proves it, or the constraints that come nearest to it
 use Rattle.std.specs.Prelude.{◌≡◌, ◌↔◌, ℕ, ⊤, List, [], ◌∷◌, map, IsTrue, Option, Some, None}
 use Rattle.std.specs.Prelude.{option_map}
-use Rattle.vipr_spec.specs.Certificate.{Derivation}
-use Rattle.vipr_spec.specs.Constraint.{Profile}
+use Rattle.vipr_spec.specs.{Certificate.Derivation, Constraint.Profile}
 use Rattle.vipr_cert.specs.Items.{derivation_of}
-use Rattle.vipr_explain.specs.Found.{text_rest}
 use Rattle.vipr_explain.specs.Near.{IsNearSearch, IsStepOf}
-use Rattle.vipr_explain.specs.Refused.{AreNamesOf}
-use Rattle.vipr_explain.specs.Values.{ListsSolution}
 use Rattle.vipr_explain.specs.declared.goal.ProvedGoal.{ProvedGoal}
 use Rattle.vipr_explain.specs.declared.goal.UnprovedClaim.{UnprovedClaim}
+use Rattle.vipr_explain.specs.{Found.text_rest, Refused.AreNamesOf, Values.ListsSolution}
 
 -- the constraint of this index was read, if there is one
 pub record IsGoalFound (text : List ℕ) (index : ℕ) (g : ProvedGoal) : Type 0 where

@@ -1,8 +1,7 @@
 -- A part of a line round a place in a text
 use Rattle.std.specs.Prelude.{◌≡◌, ℕ, ◌-◌, min, Bool, not, ◌||◌, ◌==◌, nat_lt, List, length, take}
 use Rattle.std.specs.Prelude.{drop, take_while}
-use Rattle.vipr_explain.specs.declared.text.Span.{Span}
-use Rattle.vipr_explain.specs.declared.excerpt.Excerpt.{Excerpt}
+use Rattle.vipr_explain.specs.{declared.excerpt.Excerpt.Excerpt, declared.text.Span.Span}
 
 -- the bytes of a text that this token has
 abbrev pub part_of : List ℕ → Span → List ℕ

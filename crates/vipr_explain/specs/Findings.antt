@@ -2,23 +2,17 @@
 use Rattle.std.specs.Prelude.{◌≡◌, ℕ, ⊤, List, Option, option_map}
 use Rattle.vipr_spec.specs.Constraint.{Profile}
 use Rattle.vipr_cert.specs.Items.{solution_of}
-use Rattle.vipr_check.specs.declared.detail.Detail.{Detail}
-use Rattle.vipr_check.specs.declared.detail.Detail.TheVariants as detail
-use Rattle.vipr_check.specs.declared.verdict.Place.{Place}
-use Rattle.vipr_check.specs.declared.verdict.Place.TheVariants as at
 use Rattle.vipr_check.specs.declared.verdict.Verdict.{Verdict}
+use Rattle.vipr_check.specs.{declared.detail.Detail.Detail, declared.verdict.Place.Place}
+use Rattle.vipr_check.specs.declared.detail.Detail.TheVariants as detail
+use Rattle.vipr_check.specs.declared.verdict.Place.TheVariants as at
 use Rattle.vipr_check.specs.declared.verdict.Verdict.TheVariants as verdict
-use Rattle.vipr_explain.specs.Claims.{IsGoalRead, IsUnproved}
-use Rattle.vipr_explain.specs.Found.{IsListedSolution, text_rest}
-use Rattle.vipr_explain.specs.Marked.{IsItemPlace}
-use Rattle.vipr_explain.specs.Refused.{IsExcerptFor, IsRefusedStep}
-use Rattle.vipr_explain.specs.Syntax.{IsFoundAt}
-use Rattle.vipr_explain.specs.Values.{AreListedValues}
-use Rattle.vipr_explain.specs.declared.excerpt.Excerpt.{Excerpt}
-use Rattle.vipr_explain.specs.declared.marks.ItemPlace.{ItemPlace}
+use Rattle.vipr_explain.specs.{Claims.IsGoalRead, Claims.IsUnproved, Found.IsListedSolution}
+use Rattle.vipr_explain.specs.{Found.text_rest, Marked.IsItemPlace, Refused.IsExcerptFor}
+use Rattle.vipr_explain.specs.{Refused.IsRefusedStep, Syntax.IsFoundAt, Values.AreListedValues}
+use Rattle.vipr_explain.specs.{declared.excerpt.Excerpt.Excerpt, declared.marks.ItemPart.ItemPart}
+use Rattle.vipr_explain.specs.{declared.marks.ItemPlace.ItemPlace, declared.whole.Findings.Findings}
 use Rattle.vipr_explain.specs.declared.marks.ItemSort.TheVariants as kind
-use Rattle.vipr_explain.specs.declared.marks.ItemPart.{ItemPart}
-use Rattle.vipr_explain.specs.declared.whole.Findings.{Findings}
 use Rattle.vipr_explain.specs.declared.whole.Findings.TheVariants as found
 
 -- this is the place of a part of the claim

@@ -6,9 +6,8 @@ use Rattle.vipr_spec.specs.Constraint.{Row}
 use Rattle.vipr_spec.specs.Reading.{Rest, Fault, Read, ◌>>=◌, read_each, problem_read}
 use Rattle.vipr_spec.specs.Reading.{solution_read, derivations_read, derivation_read}
 use Rattle.vipr_bytes.specs.Known.{text_of}
-use Rattle.vipr_scan.specs.Giving.{rest_of}
+use Rattle.vipr_scan.specs.{Giving.rest_of, declared.error.TextError.TextError}
 use Rattle.vipr_read.specs.Items.{Items as Reader, Knows}
-use Rattle.vipr_scan.specs.declared.error.TextError.{TextError}
 use Rattle.vipr_scan.specs.declared.error.TextError.TheVariants as error
 
 -- all that there is to read of a text in memory

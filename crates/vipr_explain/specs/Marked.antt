@@ -4,20 +4,16 @@ use Rattle.std.specs.Prelude.{Option, Some, None, is_none, find, fold, max, nat_
 use Rattle.std.specs.List.{list_any}
 use Rattle.vipr_spec.specs.Tokens.{text_tokens}
 use Rattle.vipr_explain.specs.Progress.{at_start, count_spelled, index_of, passed}
-use Rattle.vipr_explain.specs.Words.{walked}
-use Rattle.vipr_explain.specs.declared.marks.ItemSort.{ItemSort}
-use Rattle.vipr_explain.specs.declared.marks.ItemSort.TheVariants as kind
 use Rattle.vipr_explain.specs.declared.marks.ItemPlace.{ItemPlace}
-use Rattle.vipr_explain.specs.declared.marks.Marks.{Marks}
-use Rattle.vipr_explain.specs.declared.marks.ItemPart.{ItemPart}
-use Rattle.vipr_explain.specs.declared.marks.ItemPart.TheVariants as part
-use Rattle.vipr_explain.specs.declared.marks.Sought.{Sought}
-use Rattle.vipr_explain.specs.declared.text.Span.{Span}
-use Rattle.vipr_explain.specs.declared.wanted.Section.{Section}
-use Rattle.vipr_explain.specs.declared.wanted.Section.TheVariants as section
-use Rattle.vipr_explain.specs.declared.wanted.Wanted.{Wanted}
-use Rattle.vipr_explain.specs.declared.wanted.Wanted.TheVariants as wanted
 use Rattle.vipr_explain.specs.declared.wanted.TextProgress.{TextProgress}
+use Rattle.vipr_explain.specs.{Words.walked, declared.marks.ItemPart.ItemPart}
+use Rattle.vipr_explain.specs.{declared.marks.ItemSort.ItemSort, declared.marks.Marks.Marks}
+use Rattle.vipr_explain.specs.{declared.marks.Sought.Sought, declared.text.Span.Span}
+use Rattle.vipr_explain.specs.{declared.wanted.Section.Section, declared.wanted.Wanted.Wanted}
+use Rattle.vipr_explain.specs.declared.marks.ItemSort.TheVariants as kind
+use Rattle.vipr_explain.specs.declared.marks.ItemPart.TheVariants as part
+use Rattle.vipr_explain.specs.declared.wanted.Section.TheVariants as section
+use Rattle.vipr_explain.specs.declared.wanted.Wanted.TheVariants as wanted
 
 -- an item whose name is here; the part that is looked for isn't known yet
 abbrev pub mark_at : ℕ → Span → ItemPlace

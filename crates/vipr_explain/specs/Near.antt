@@ -1,13 +1,10 @@
 -- The constraints that come nearest to a claim: what is known of each, and their order
-use Rattle.std.specs.Prelude.{◌≡◌, ◌≢◌, ◌↔◌, ◌⊎◌, ◌+◌, ◌-◌, ◌<◌, ◌≤◌, ◌++◌, ℕ, ℤ, Bool, true}
-use Rattle.std.specs.Prelude.{false, not, min, Ok}
-use Rattle.std.specs.Prelude.{◌&&◌, ◌||◌, IsTrue, List, [], ◌∷◌, length, take, insert, Option}
-use Rattle.std.specs.Prelude.{Some, None, All, Contains, if◌then◌else◌, ⊤, nat_lt, ◌^◌}
+use Rattle.std.specs.Prelude.{◌≡◌, ◌≢◌, ◌↔◌, ◌⊎◌, ◌+◌, ◌-◌, ◌<◌, ◌≤◌, ◌++◌, ℕ, ℤ, Bool, true, false}
+use Rattle.std.specs.Prelude.{not, min, Ok, ◌&&◌, ◌||◌, IsTrue, List, [], ◌∷◌, length, take, insert}
+use Rattle.std.specs.Prelude.{Option, Some, None, All, Contains, if◌then◌else◌, ⊤, nat_lt, ◌^◌}
 use Rattle.std.specs.Prelude.{option_and_then}
-use Rattle.std.specs.FinSet.{contains}
-use Rattle.std.specs.List.{position_or_len}
-use Rattle.std.specs.declared.cmp.Ordering.{Ordering}
 use Rattle.std.specs.declared.cmp.Ordering.TheVariants.{Less, Equal, Greater}
+use Rattle.std.specs.{FinSet.contains, List.position_or_len, declared.cmp.Ordering.Ordering}
 use Rattle.vipr_spec.specs.Fraction.{ℚ, whole, neg_ℚ, ◌+ℚ◌, SumFits}
 use Rattle.vipr_spec.specs.FractionOrder.{cmp_ℚ}
 use Rattle.vipr_spec.specs.Constraint.{Profile, Sense, at_most, equal, at_least, Condition}
@@ -19,20 +16,16 @@ use Rattle.vipr_spec.specs.Steps.{with_more, with_next, RefersBack, Refuses, Ste
 use Rattle.vipr_spec.specs.Reading.{Rest, Read, ◌>>=◌, read_each, derivation_read}
 use Rattle.vipr_read.specs.Items.{Items as Reader}
 use Rattle.vipr_linear.specs.Constraint.{condition_of}
-use Rattle.vipr_table.specs.Table.{DerivedBelow}
 use Rattle.vipr_table.specs.History.{IsEntryOf, IsTableOf}
-use Rattle.vipr_table.specs.declared.rows.Entry.{Entry}
-use Rattle.vipr_rules.specs.Claim.{IsMetBy, IsTargetIn}
-use Rattle.vipr_rules.specs.declared.claim.Target.{Target}
+use Rattle.vipr_table.specs.{Table.DerivedBelow, declared.rows.Entry.Entry}
 use Rattle.vipr_rules.specs.declared.claim.Target.TheVariants.{Absurdity, Bound, WholeBound}
 use Rattle.vipr_rules.specs.declared.claim.Target.TheVariants.{Nothing}
+use Rattle.vipr_rules.specs.{Claim.IsMetBy, Claim.IsTargetIn, declared.claim.Target.Target}
 use Rattle.vipr_page.specs.Algebra.{size}
 use Rattle.vipr_explain.specs.Found.{AreDerivationsRead, AreReadSoFar, HasFault, head_read}
-use Rattle.vipr_explain.specs.declared.changes.Replay.{Replay}
-use Rattle.vipr_explain.specs.declared.near.Join.{Join}
-use Rattle.vipr_explain.specs.declared.near.OpenJoin.{OpenJoin}
-use Rattle.vipr_explain.specs.declared.near.Near.{Near}
 use Rattle.vipr_explain.specs.declared.near.NearSearch.{NearSearch}
+use Rattle.vipr_explain.specs.{declared.changes.Replay.Replay, declared.near.Join.Join}
+use Rattle.vipr_explain.specs.{declared.near.Near.Near, declared.near.OpenJoin.OpenJoin}
 
 -- ---- which constraints are like what is wanted
 

@@ -1,7 +1,6 @@
 -- Places in a text: a byte's offset, counted from 0, its line and its column, counted from 1, and
 -- how many bytes from it on belong to the place
-use Rattle.std.specs.Prelude.{ℕ, ◌+◌, ◌-◌, ◌^◌, min, Bool, not, ◌==◌, List, length, take}
-use Rattle.std.specs.Prelude.{count_by}
+use Rattle.std.specs.Prelude.{ℕ, ◌+◌, ◌-◌, ◌^◌, min, Bool, not, ◌==◌, List, length, take, count_by}
 use Rattle.std.specs.List.{suffix_len}
 use Rattle.vipr_explain.specs.declared.text.Span.{Span}
 

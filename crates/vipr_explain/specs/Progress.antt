@@ -3,11 +3,10 @@ use Rattle.std.specs.Prelude.{ℕ, ◌+◌, ◌-◌, ◌^◌, min, nat_lt, ◌||
 use Rattle.std.specs.Prelude.{Option, Some, None, codes}
 use Rattle.std.specs.Str.{bytes_eq}
 use Rattle.vipr_spec.specs.Digits.{natural_of}
-use Rattle.vipr_explain.specs.declared.wanted.Section.{Section}
-use Rattle.vipr_explain.specs.declared.wanted.Section.TheVariants as section
-use Rattle.vipr_explain.specs.declared.wanted.Wanted.{Wanted}
-use Rattle.vipr_explain.specs.declared.wanted.Wanted.TheVariants as wanted
 use Rattle.vipr_explain.specs.declared.wanted.TextProgress.{TextProgress}
+use Rattle.vipr_explain.specs.{declared.wanted.Section.Section, declared.wanted.Wanted.Wanted}
+use Rattle.vipr_explain.specs.declared.wanted.Section.TheVariants as section
+use Rattle.vipr_explain.specs.declared.wanted.Wanted.TheVariants as wanted
 
 -- a `u32` goes no further
 abbrev pub in_u32 : ℕ → ℕ

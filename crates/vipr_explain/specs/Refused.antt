@@ -1,48 +1,33 @@
 -- What is found of a derivation or a listed solution that is refused
-use Rattle.std.specs.Prelude.{◌≡◌, ◌↔◌, ℕ, ⊤, List, [], ◌∷◌, IsTrue, Option}
-use Rattle.std.specs.Prelude.{Some, None, All, find, option_map, ◌==◌}
-use Rattle.std.specs.Prelude.{if◌then◌else◌, slice_get}
-use Rattle.std.specs.FinMap.{entries}
-use Rattle.std.specs.Option.{option_or}
-use Rattle.vipr_spec.specs.Causes.{dropped}
+use Rattle.std.specs.Prelude.{◌≡◌, ◌↔◌, ℕ, ⊤, List, [], ◌∷◌, IsTrue, Option, Some, None, All, find}
+use Rattle.std.specs.Prelude.{option_map, ◌==◌, if◌then◌else◌, slice_get}
+use Rattle.std.specs.{FinMap.entries, Option.option_or}
 use Rattle.vipr_spec.specs.Constraint.{Constraint, Ints, IsSplit, Profile, two}
 use Rattle.vipr_spec.specs.Certificate.{Derivation, Named, Problem}
-use Rattle.vipr_spec.specs.Fraction.{ℚ}
-use Rattle.vipr_spec.specs.Reading.{Rest, problem_read}
+use Rattle.vipr_spec.specs.{Causes.dropped, Fraction.ℚ, Reading.Rest, Reading.problem_read}
 use Rattle.vipr_linear.specs.Constraint.{condition_of, constraint_of}
-use Rattle.vipr_cert.specs.Items.{derivation_of}
-use Rattle.vipr_cert.specs.declared.items.Derivation.{Derivation as Kept}
-use Rattle.vipr_table.specs.History.{IsTableOf}
-use Rattle.vipr_table.specs.Table.{entry_at}
-use Rattle.vipr_check.specs.declared.detail.Detail.{Detail}
+use Rattle.vipr_cert.specs.{Items.derivation_of, declared.items.Derivation.Derivation as Kept}
+use Rattle.vipr_table.specs.{History.IsTableOf, Table.entry_at}
+use Rattle.vipr_check.specs.{declared.detail.Detail.Detail, declared.detail.StepDetail.StepDetail}
+use Rattle.vipr_check.specs.{declared.verdict.Place.Place, declared.verdict.Verdict.Verdict}
 use Rattle.vipr_check.specs.declared.detail.Detail.TheVariants as detail
-use Rattle.vipr_check.specs.declared.detail.StepDetail.{StepDetail}
 use Rattle.vipr_check.specs.declared.detail.StepDetail.TheVariants as what
-use Rattle.vipr_check.specs.declared.verdict.Place.{Place}
 use Rattle.vipr_check.specs.declared.verdict.Place.TheVariants as at
-use Rattle.vipr_check.specs.declared.verdict.Verdict.{Verdict}
 use Rattle.vipr_check.specs.declared.verdict.Verdict.TheVariants as verdict
-use Rattle.vipr_page.specs.Differences.{row_differences}
-use Rattle.vipr_page.specs.RowFaults.{row_faults}
-use Rattle.vipr_explain.specs.Changes.{FollowEach}
+use Rattle.vipr_page.specs.{Differences.row_differences, RowFaults.row_faults}
 use Rattle.vipr_explain.specs.Excerpts.{IsExcerptAt, part_of}
-use Rattle.vipr_explain.specs.Found.{LacksListed, text_rest}
 use Rattle.vipr_explain.specs.Marked.{AreMarksIn, IsItemPlace, place_found}
-use Rattle.vipr_explain.specs.Near.{IsStepOf, LacksBefore, LacksGoal, LacksStep}
-use Rattle.vipr_explain.specs.Near.{without_solutions}
-use Rattle.vipr_explain.specs.declared.excerpt.Excerpt.{Excerpt}
-use Rattle.vipr_explain.specs.declared.marks.ItemPlace.{ItemPlace}
-use Rattle.vipr_explain.specs.declared.marks.ItemSort.TheVariants as kind
-use Rattle.vipr_explain.specs.declared.marks.Marks.{Marks}
-use Rattle.vipr_explain.specs.declared.marks.ItemPart.{ItemPart}
-use Rattle.vipr_explain.specs.declared.marks.ItemPart.TheVariants as part
-use Rattle.vipr_explain.specs.declared.marks.Sought.{Sought}
+use Rattle.vipr_explain.specs.Near.{IsStepOf, LacksBefore, LacksGoal, LacksStep, without_solutions}
 use Rattle.vipr_explain.specs.declared.shown.PlacedItems.{PlacedItems}
-use Rattle.vipr_explain.specs.declared.step.Numbered.{Numbered}
 use Rattle.vipr_explain.specs.declared.step.RefusedStep.{RefusedStep}
-use Rattle.vipr_explain.specs.declared.step.StepFacts.{StepFacts}
+use Rattle.vipr_explain.specs.{Changes.FollowEach, Found.LacksListed, Found.text_rest}
+use Rattle.vipr_explain.specs.{declared.excerpt.Excerpt.Excerpt, declared.marks.ItemPart.ItemPart}
+use Rattle.vipr_explain.specs.{declared.marks.ItemPlace.ItemPlace, declared.marks.Marks.Marks}
+use Rattle.vipr_explain.specs.{declared.marks.Sought.Sought, declared.step.Numbered.Numbered}
+use Rattle.vipr_explain.specs.{declared.step.StepFacts.StepFacts, declared.text.Span.Span}
+use Rattle.vipr_explain.specs.declared.marks.ItemSort.TheVariants as kind
+use Rattle.vipr_explain.specs.declared.marks.ItemPart.TheVariants as part
 use Rattle.vipr_explain.specs.declared.step.StepFacts.TheVariants as fact
-use Rattle.vipr_explain.specs.declared.text.Span.{Span}
 
 -- the place of this part of a text, none if it wasn't found
 abbrev pub IsExcerptFor : List ℕ → Option Span → Option Excerpt → Type 0

@@ -2,13 +2,10 @@
 use Rattle.std.specs.Prelude.{◌≡◌, ℕ, true, false, not, List, [], nat_le, if◌then◌else◌}
 use Rattle.vipr_spec.specs.Tokens.{text_tokens}
 use Rattle.vipr_explain.specs.Excerpts.{IsExcerptAt, part_of}
-use Rattle.vipr_explain.specs.Places.{place_behind}
-use Rattle.vipr_explain.specs.Progress.{at_start, passed}
-use Rattle.vipr_explain.specs.Words.{walked}
 use Rattle.vipr_explain.specs.declared.syntax.FaultToken.{FaultToken}
 use Rattle.vipr_explain.specs.declared.syntax.TextFault.{TextFault}
-use Rattle.vipr_explain.specs.declared.text.Span.{Span}
-use Rattle.vipr_explain.specs.declared.wanted.Wanted.{Wanted}
+use Rattle.vipr_explain.specs.{Places.place_behind, Progress.at_start, Progress.passed}
+use Rattle.vipr_explain.specs.{Words.walked, declared.text.Span.Span, declared.wanted.Wanted.Wanted}
 use Rattle.vipr_explain.specs.declared.wanted.Wanted.TheVariants as wanted
 
 abbrev pub found_at_start : FaultToken

@@ -1,11 +1,10 @@
 -- What is kept of the listed solutions: the objective at the first ones, and the best value
 use Rattle.std.specs.Prelude.{◌≡◌, ◌↔◌, ◌++◌, ◌∷◌, [], ℕ, ◌<◌, nat_lt, Bool, List, map, filter}
 use Rattle.std.specs.Prelude.{length, IsTrue, IsOkAnd, Some}
-use Rattle.vipr_spec.specs.Fraction.{ℚ, ◌≤ℚ◌}
 use Rattle.vipr_spec.specs.Constraint.{Row, at, ValueFits}
 use Rattle.vipr_spec.specs.Certificate.{Name, Named, Problem, variables, Claim, range, objective_at}
 use Rattle.vipr_spec.specs.Reading.{Rest, problem_read}
-use Rattle.vipr_spec.specs.Soundness.{IsBestValue}
+use Rattle.vipr_spec.specs.{Fraction.ℚ, Fraction.◌≤ℚ◌, Soundness.IsBestValue}
 use Rattle.vipr_read.specs.Items.{Items as Reader}
 use Rattle.vipr_explain.specs.Found.{AreReadSoFar, AreSolutionsRead}
 use Rattle.vipr_explain.specs.declared.solution.ListedValues.{ListedValues}

@@ -2,12 +2,9 @@
 use Rattle.std.specs.Prelude.{◌≡◌, ◌≤◌, ℕ, Bool, false, List, [], ◌∷◌, length, drop, Option, Some}
 use Rattle.std.specs.Prelude.{None, if◌then◌else◌}
 use Rattle.vipr_spec.specs.Tokens.{Token}
-use Rattle.vipr_scan.specs.Places.{tokens_in}
-use Rattle.vipr_scan.specs.declared.place.Position.{Position}
-use Rattle.vipr_explain.specs.Places.{place_at}
-use Rattle.vipr_explain.specs.declared.text.Span.{Span}
+use Rattle.vipr_scan.specs.{Places.tokens_in, declared.place.Position.Position}
 use Rattle.vipr_explain.specs.declared.words.TextWord.{TextWord}
-use Rattle.vipr_explain.specs.declared.words.Words.{Words}
+use Rattle.vipr_explain.specs.{Places.place_at, declared.text.Span.Span, declared.words.Words.Words}
 
 -- so many bytes at this place
 abbrev pub sized : ℕ → Span → Span

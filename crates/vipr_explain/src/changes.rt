@@ -1,12 +1,10 @@
 //! Changes of one entry with which a refused sum follows, each tried by the rule.
 ghost use Rattle.std.specs.Prelude.{◌≡◌, List, [], IfOk, IfSome, IsTrue, length};
-ghost use Rattle.vipr_spec.specs.Constraint.{Profile};
 ghost use Rattle.vipr_spec.specs.Certificate.{Certificate, Derivation as DerivationMeant};
 ghost use Rattle.vipr_spec.specs.Certificate.{variables};
-ghost use Rattle.vipr_spec.specs.Steps.{RefersBack};
+ghost use Rattle.vipr_spec.specs.{Constraint.Profile, Steps.RefersBack};
 ghost use Rattle.vipr_cert.specs.Items.{derivation_of, reason_of};
-ghost use Rattle.vipr_table.specs.History.{IsTableOf};
-ghost use Rattle.vipr_table.specs.Table.{DerivedBelow};
+ghost use Rattle.vipr_table.specs.{History.IsTableOf, Table.DerivedBelow};
 ghost use Rattle.vipr_rules.specs.Profile.{profile_of};
 ghost use Rattle.vipr_explain.specs.Changes.{FollowEach, FollowsWith, changed, changed_entries};
 ghost use Rattle.vipr_explain.specs.Near.{HasReplayed, without_solutions};

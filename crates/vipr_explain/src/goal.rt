@@ -1,11 +1,9 @@
 //! What proves the claim, and which constraints come nearest to it if none does.
 ghost use Rattle.std.specs.Prelude.{IfErr, IfOk, None, Some, map};
 ghost use Rattle.vipr_rules.specs.Profile.{profile_of};
-ghost use Rattle.vipr_explain.specs.Found.{Because, text_rest};
-ghost use Rattle.vipr_explain.specs.Near.{LacksBefore, LacksGoal};
 ghost use Rattle.vipr_explain.specs.Claims.{IsGoalFound, IsGoalRead, IsUnproved};
-ghost use Rattle.vipr_explain.specs.Refused.{AreNamesOf};
-ghost use Rattle.vipr_explain.specs.Values.{AreListedValues};
+ghost use Rattle.vipr_explain.specs.{Found.Because, Found.text_rest, Near.LacksBefore};
+ghost use Rattle.vipr_explain.specs.{Near.LacksGoal, Refused.AreNamesOf, Values.AreListedValues};
 
 use crate::excerpt::Excerpt;
 use crate::items::open_problem;

@@ -1,21 +1,17 @@
 //! Finds the constraints that come nearest to a claim, and the assumptions that they rest on.
-ghost use Rattle.std.specs.Prelude.{◌≡◌, ◌↔◌, ◌+◌, ◌<◌, ◌≤◌, ◌^◌, ◌∷◌, ◌++◌, ℕ, List, []};
-ghost use Rattle.std.specs.Prelude.{IsTrue, IfErr, IfOk, OnOk, length, take, unsigned_abs};
-ghost use Rattle.std.specs.Prelude.{All, None, Some, option_and_then, option_map};
-ghost use Rattle.std.specs.FinSet.{contains};
-ghost use Rattle.std.specs.List.{position_or_len};
-ghost use Rattle.vipr_spec.specs.Fraction.{most, whole};
+ghost use Rattle.std.specs.Prelude.{◌≡◌, ◌↔◌, ◌+◌, ◌<◌, ◌≤◌, ◌^◌, ◌∷◌, ◌++◌, ℕ, List, [], IsTrue};
+ghost use Rattle.std.specs.Prelude.{IfErr, IfOk, OnOk, length, take, unsigned_abs, All, None, Some};
+ghost use Rattle.std.specs.Prelude.{option_and_then, option_map};
+ghost use Rattle.std.specs.{FinSet.contains, List.position_or_len};
 ghost use Rattle.vipr_spec.specs.Constraint.{at, NamesBelow};
 ghost use Rattle.vipr_spec.specs.Certificate.{Certificate, Derivation as DerivationMeant, RestsOn};
 ghost use Rattle.vipr_spec.specs.Certificate.{constraint_at, reason_at, variables};
-ghost use Rattle.vipr_spec.specs.Steps.{RefersBack};
+ghost use Rattle.vipr_spec.specs.{Fraction.most, Fraction.whole, Steps.RefersBack};
 ghost use Rattle.vipr_linear.specs.Constraint.{condition_of, sense_of};
 ghost use Rattle.vipr_cert.specs.Items.{derivation_of, reason_of};
-ghost use Rattle.vipr_table.specs.History.{IsTableOf};
-ghost use Rattle.vipr_table.specs.Table.{DerivedBelow, step as table_step};
-ghost use Rattle.vipr_rules.specs.Profile.{profile_of};
-ghost use Rattle.vipr_rules.specs.declared.claim.Target.{Target as TargetMeant};
+ghost use Rattle.vipr_table.specs.{History.IsTableOf, Table.DerivedBelow, Table.step as table_step};
 ghost use Rattle.vipr_rules.specs.declared.error.RuleError.TheVariants.{Memory as NoMemory};
+ghost use Rattle.vipr_rules.specs.{Profile.profile_of, declared.claim.Target.Target as TargetMeant};
 ghost use Rattle.vipr_scan.specs.declared.error.TextError.TheVariants.{Memory};
 ghost use Rattle.vipr_explain.specs.Found.{AreDerivationsRead, Because, text_rest};
 ghost use Rattle.vipr_explain.specs.Near.{AreInOrder, AreNearest, HasPassedAll, HasPlace};

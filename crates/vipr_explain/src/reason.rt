@@ -1,6 +1,5 @@
 //! The reason of a derivation, with the constraints that it refers to.
-ghost use Rattle.std.specs.Prelude.{◌≤◌, IfOk, OnOk};
-ghost use Rattle.std.specs.List.{All};
+ghost use Rattle.std.specs.{List.All, Prelude.◌≤◌, Prelude.IfOk, Prelude.OnOk};
 
 use crate::changes::{Change, Changes};
 use crate::excerpt::part_of;

@@ -7,10 +7,9 @@ ghost use Rattle.vipr_spec.specs.Certificate.{Named as NamedMeant, variables};
 ghost use Rattle.vipr_spec.specs.Reading.{problem_read};
 ghost use Rattle.vipr_explain.specs.Found.{AreSolutionsRead, Because, IsListedSolution};
 ghost use Rattle.vipr_explain.specs.Found.{LacksListed, Missed, head_read, text_rest};
-ghost use Rattle.vipr_explain.specs.Marked.{IsItemPlace};
-ghost use Rattle.vipr_explain.specs.Refused.{IsBroken, part_at_fault};
-ghost use Rattle.vipr_explain.specs.declared.marks.ItemSort.TheVariants as kind;
 ghost use Rattle.vipr_explain.specs.Values.{AreListedValues, AreValues, IsExchanged, is_first};
+ghost use Rattle.vipr_explain.specs.{Marked.IsItemPlace, Refused.IsBroken, Refused.part_at_fault};
+ghost use Rattle.vipr_explain.specs.declared.marks.ItemSort.TheVariants as kind;
 
 use crate::excerpt::Excerpt;
 use crate::items::{open_problem, read_solution};

@@ -2,18 +2,16 @@
 ghost use Rattle.std.specs.Prelude.{◌≡◌, ◌↔◌, List, [], IfErr, IfOk, OnOk, IsTrue, Some};
 ghost use Rattle.std.specs.Prelude.{option_map};
 ghost use Rattle.std.specs.List.{All};
-ghost use Rattle.vipr_spec.specs.Fraction.{neg_ℚ};
 ghost use Rattle.vipr_spec.specs.Certificate.{Derivation as DerivationMeant};
-ghost use Rattle.vipr_spec.specs.Reading.{Rest};
+ghost use Rattle.vipr_spec.specs.{Fraction.neg_ℚ, Reading.Rest};
 ghost use Rattle.vipr_linear.specs.Constraint.{constraint_of};
 ghost use Rattle.vipr_cert.specs.Items.{derivation_of};
 ghost use Rattle.vipr_rules.specs.Profile.{profile_of};
-ghost use Rattle.vipr_explain.specs.Changes.{FollowEach};
 ghost use Rattle.vipr_explain.specs.Found.{Because, Missed, text_rest};
-ghost use Rattle.vipr_explain.specs.Marked.{AreMarksIn};
 ghost use Rattle.vipr_explain.specs.Near.{HasReplayed, LacksStep, read_to, without_solutions};
 ghost use Rattle.vipr_explain.specs.Refused.{AreFacts, AreNamedBy, IsNumberedIn, IsRefusedStep};
 ghost use Rattle.vipr_explain.specs.Refused.{dropped_as, known_constraint, used_by};
+ghost use Rattle.vipr_explain.specs.{Changes.FollowEach, Marked.AreMarksIn};
 
 use crate::changes::{Changes, Replay};
 use crate::items::open_derivations;

@@ -1,6 +1,5 @@
 //! How far a certificate's text was read: what it has to have at its next token.
-ghost use Rattle.std.specs.Prelude.{◌≡◌};
-ghost use Rattle.std.specs.Str.{bytes_eq};
+ghost use Rattle.std.specs.{Prelude.◌≡◌, Str.bytes_eq};
 ghost use Rattle.vipr_explain.specs.Progress.{at_start, count_passed, count_spelled};
 ghost use Rattle.vipr_explain.specs.Progress.{first_of_reason, index_of, item_begun, next_section};
 ghost use Rattle.vipr_explain.specs.Progress.{part_begun, passed, section_ended};

@@ -1,9 +1,8 @@
 //! The whole explanation of a verdict: what is found for it, and how that is shown.
 ghost use Rattle.std.specs.Prelude.{IfErr, IfOk};
 ghost use Rattle.vipr_rules.specs.Profile.{profile_of};
-ghost use Rattle.vipr_explain.specs.Found.{Because};
 ghost use Rattle.vipr_explain.specs.Findings.{ExplainsVerdict, IsClaimPlace};
-ghost use Rattle.vipr_explain.specs.Refused.{LacksItem};
+ghost use Rattle.vipr_explain.specs.{Found.Because, Refused.LacksItem};
 
 use crate::excerpt::Excerpt;
 use crate::goal::{ProvedClaim, UnprovedClaim};

@@ -1,12 +1,10 @@
 -- Rows and constraints as people write them
 use Rattle.std.specs.Prelude.{ℕ, List, [], ◌∷◌, ◌++◌, ◌-◌, length, take, drop, flat_map, slice_get}
 use Rattle.std.specs.Prelude.{option_map, unwrap_or, codes, decimal, nat_lt, pos, if◌then◌else◌}
-use Rattle.std.specs.Int.{is_negative}
+use Rattle.std.specs.{FinMap.entries, Int.is_negative}
 use Rattle.vipr_spec.specs.Fraction.{ℚ, neg_ℚ, whole}
-use Rattle.vipr_spec.specs.FractionOrder.{eq_ℚ}
-use Rattle.vipr_spec.specs.Number.{number_text}
-use Rattle.std.specs.FinMap.{entries}
 use Rattle.vipr_spec.specs.Constraint.{Constraint, Sense, at_least, at_most, equal}
+use Rattle.vipr_spec.specs.{FractionOrder.eq_ℚ, Number.number_text}
 use Rattle.vipr_page.specs.Page.{shown_bytes}
 
 -- a name, of which 40 bytes are shown, or 19 at each end

@@ -1,8 +1,7 @@
 -- A number with a decimal point, which isn't in the format
 use Rattle.std.specs.Prelude.{ℕ, ◌+◌, ◌-◌, ◌*◌, ◌^◌, ◌&&◌, ◌==◌, nat_lt, max, if◌then◌else◌, pos}
 use Rattle.std.specs.Prelude.{List, [], ◌∷◌, length, fold, Option, Some, None, option_map}
-use Rattle.vipr_spec.specs.Digits.{is_digit}
-use Rattle.vipr_spec.specs.Fraction.{ℚ, neg_ℚ, over}
+use Rattle.vipr_spec.specs.{Digits.is_digit, Fraction.ℚ, Fraction.neg_ℚ, Fraction.over}
 use Rattle.vipr_page.specs.declared.decimal.Decimal.{Decimal}
 
 -- what was read behind one more byte, which is the point, or a digit if there aren't too many: each

@@ -1,10 +1,7 @@
 -- Where two rows differ
 use Rattle.std.specs.Prelude.{ℕ, List, ◌++◌, Option, filter_map, not}
-use Rattle.std.specs.Bool.{then_some}
-use Rattle.std.specs.FinMap.{entries}
-use Rattle.vipr_spec.specs.Constraint.{Row, at}
-use Rattle.vipr_spec.specs.Fraction.{zero_ℚ}
-use Rattle.vipr_spec.specs.FractionOrder.{eq_ℚ}
+use Rattle.std.specs.{Bool.then_some, FinMap.entries}
+use Rattle.vipr_spec.specs.{Constraint.Row, Constraint.at, Fraction.zero_ℚ, FractionOrder.eq_ℚ}
 use Rattle.vipr_page.specs.declared.differences.Difference.{Difference}
 
 -- the coefficients of a variable

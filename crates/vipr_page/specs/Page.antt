@@ -2,8 +2,7 @@
 use Rattle.std.specs.Prelude.{◌==◌, ◌&&◌, ◌||◌, ◌≡◌, ◌<◌, ◌≤◌, ◌/◌, ◌%◌, ◌-◌, ℕ, Bool, true, false}
 use Rattle.std.specs.Prelude.{List, [], ◌∷◌, ◌++◌, codes, length, slice_index, nat_le, flat_map}
 use Rattle.std.specs.Prelude.{if◌then◌else◌}
-use Rattle.std.specs.Fmt.{digit_glyph}
-use Rattle.std.specs.List.{All}
+use Rattle.std.specs.{Fmt.digit_glyph, List.All}
 
 -- the line feed, and the printable bytes of ASCII: no other control, and no byte of a longer
 -- character

@@ -1,9 +1,7 @@
 -- What keeps a row from being whole
 use Rattle.std.specs.Prelude.{ℕ, List, [], ◌∷◌, ◌++◌, ◌==◌, flat_map, if◌then◌else◌}
-use Rattle.std.specs.FinMap.{entries}
-use Rattle.std.specs.FinSet.{contains}
-use Rattle.vipr_spec.specs.Constraint.{Ints, Row}
-use Rattle.vipr_spec.specs.Fraction.{ℚ}
+use Rattle.std.specs.{FinMap.entries, FinSet.contains}
+use Rattle.vipr_spec.specs.{Constraint.Ints, Constraint.Row, Fraction.ℚ}
 use Rattle.vipr_page.specs.declared.faults.RowFault.{RowFault}
 use Rattle.vipr_page.specs.declared.faults.RowFault.TheVariants.{NotWhole, NotInteger}
 

@@ -1,11 +1,9 @@
 -- What a heap of pairs says of the last derivations in it.
 use Rattle.std.proofs.Common.{◌≡◌, ℕ, ◌<◌, ◌≤◌, false, List, [], ◌∷◌, length, All, map, get_or, sym}
 use Rattle.std.proofs.Common.{◌∙◌, arith}
-use Rattle.std.proofs.lemmas.List.Elements.{All-cons}
-use Rattle.std.proofs.lemmas.Bool.Decides.{nat_tests}
+use Rattle.std.proofs.{lemmas.Bool.Decides.nat_tests, lemmas.List.Elements.All-cons}
 use Rattle.std.specs.Ordering.{nat_cmp, ordering_then, is_lt}
-use Rattle.std.specs.BinaryHeap.{IsUpperBound}
-use Rattle.std.specs.declared.cmp.Reverse.{Reverse}
+use Rattle.std.specs.{BinaryHeap.IsUpperBound, declared.cmp.Reverse.Reverse}
 use Rattle.vipr_table.specs.Expiry.{due_cmp}
 
 -- where a pair does not come before another, its last derivation does not either

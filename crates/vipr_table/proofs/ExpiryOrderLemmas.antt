@@ -10,10 +10,8 @@ use Rattle.std.proofs.lemmas.List.Sorted.{All-permutation, Contains-permutation}
 use Rattle.std.specs.Ordering.{nat_cmp}
 use Rattle.std.specs.FinMap.{FinMap, get, insert, remove, empty, get-empty}
 use Rattle.vipr_spec.specs.Certificate.{lasts_to}
-use Rattle.vipr_table.specs.Expiry.{Notes}
-use Rattle.vipr_table.specs.declared.rows.Entry.{Entry}
 use Rattle.vipr_table.specs.Table.{Table, advance_table, expiry, if_live, live_part}
-use Rattle.vipr_table.specs.Expiry.{IsTied}
+use Rattle.vipr_table.specs.{Expiry.Notes, Expiry.IsTied, declared.rows.Entry.Entry}
 use Rattle.vipr_table.proofs.TableLemmas.{get-insert_at, get-remove_at, get-live_part, same_numbers}
 use Rattle.vipr_table.proofs.TableLemmas.{if_live-true, if_live-false, same_table}
 

@@ -3,11 +3,9 @@ use Rattle.std.proofs.Common.{◌≡◌, ℕ, suc, ◌+◌, ◌-◌, ◌<◌, �
 use Rattle.std.proofs.Common.{nat_eq, nat_lt, nat_le, Option, Some, None, is_some, List, [], ◌∷◌}
 use Rattle.std.proofs.Common.{length, refl, sym, ap, ap₂, ◌∙◌, subst, arith, length-append, ◌⊎◌}
 use Rattle.std.proofs.Common.{inl, inr}
-use Rattle.std.proofs.lemmas.Bool.Decides.{nat_tests}
-use Rattle.std.proofs.lemmas.Bool.{cases_lt}
-use Rattle.std.specs.Ordering.{nat_cmp}
+use Rattle.std.proofs.{lemmas.Bool.cases_lt, lemmas.Bool.Decides.nat_tests}
 use Rattle.std.specs.FinMap.{get, get-empty, contains_key}
-use Rattle.std.specs.List.{range_with_len, count_by}
+use Rattle.std.specs.{List.range_with_len, List.count_by, Ordering.nat_cmp}
 use Rattle.vipr_spec.specs.Certificate.{Derivation, Certificate, reason_at, last_at, is_assumption}
 use Rattle.vipr_spec.specs.Certificate.{lasts_to, is_live, count}
 use Rattle.vipr_spec.specs.Certificate as spec

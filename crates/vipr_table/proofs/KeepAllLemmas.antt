@@ -3,21 +3,16 @@ use Rattle.std.proofs.Common.{◌≡◌, ℕ, zero, suc, ◌+◌, ◌-◌, ◌<�
 use Rattle.std.proofs.Common.{nat_eq, Option, Some, None, is_some, slice_get, List, [], ◌∷◌, ◌++◌}
 use Rattle.std.proofs.Common.{length, refl, sym, ap, ◌∙◌, subst, arith, add-zero, All}
 use Rattle.std.proofs.Common.{IsPermutation, length-append, get_or, not}
-use Rattle.std.proofs.lemmas.Bool.Decides.{nat_tests}
-use Rattle.std.specs.Cmp.{nat_cmp_total}
-use Rattle.std.specs.Ordering.{nat_cmp}
-use Rattle.std.specs.FinMap.{FinMap, get, insert, remove, empty, get-empty, len, len-empty}
-use Rattle.std.specs.FinMap.{len-insert, len-remove, contains_key}
 use Rattle.std.proofs.lemmas.List.Elements.{All-cons, All-head, All-tail}
 use Rattle.std.proofs.lemmas.List.Sorted.{All-permutation}
-use Rattle.std.proofs.Math.ListN.{set}
+use Rattle.std.proofs.{Math.ListN.set, lemmas.Bool.Decides.nat_tests}
+use Rattle.std.specs.FinMap.{FinMap, get, insert, remove, empty, get-empty, len, len-empty}
+use Rattle.std.specs.FinMap.{len-insert, len-remove, contains_key}
+use Rattle.std.specs.{Cmp.nat_cmp_total, Ordering.nat_cmp}
 use mir.Val.{bool_byte}
-use Rattle.vipr_table.specs.declared.rows.Entry.{Entry}
-use Rattle.vipr_table.specs.declared.rows.keep_all.Kept.{Kept}
 use Rattle.vipr_table.specs.KeepAll.{entries_not_forgotten, entry_if_kept, forget_at, IsKept}
-use Rattle.vipr_table.specs.Expiry.{Notes}
-use Rattle.vipr_table.specs.Expiry.{IsTied}
-use Rattle.vipr_table.specs.Table.{expiry, if_live}
+use Rattle.vipr_table.specs.{Expiry.Notes, Expiry.IsTied, Table.expiry, Table.if_live}
+use Rattle.vipr_table.specs.{declared.rows.Entry.Entry, declared.rows.keep_all.Kept.Kept}
 use Rattle.vipr_table.proofs.TableLemmas.{get-insert_at, get-remove_at, same_numbers}
 use Rattle.vipr_table.proofs.CountLemmas.{some_held}
 use Rattle.vipr_table.proofs.ExpiryOrderLemmas.{IsTied-put, IsTied-removed, IsTied-empty}

@@ -8,8 +8,7 @@ use Rattle.std.specs.Cmp.{nat_cmp_total}
 use Rattle.std.specs.Ordering.{nat_cmp, eq_by_cmp}
 use Rattle.std.specs.FinSet.{FinSet, contains, empty, from_list, union, remove, same_set}
 use Rattle.std.specs.FinSet.{nat_cmp-IsAntisymmetric, contains-empty, contains-remove, contains-from_list_nat}
-use Rattle.vipr_table.specs.Rising.{IsRising, has}
-use Rattle.vipr_table.specs.Sets.{union_of_all}
+use Rattle.vipr_table.specs.{Rising.IsRising, Rising.has, Sets.union_of_all}
 use Rattle.vipr_table.proofs.RisingLemmas.{or_part, or_turned, without_last, rises_filter, no_items}
 use Rattle.vipr_table.proofs.SetLemmas.{union_none, longer_seen, remove_seen, empty_seen}
 use Rattle.vipr_table.proofs.UnionsLemmas.{has_of, union_assoc, last_two, one_below}

@@ -3,10 +3,8 @@ use Rattle.std.proofs.Common.{◌≡◌, ℕ, zero, suc, ◌+◌, ◌-◌, ◌<�
 use Rattle.std.proofs.Common.{cond, ◌||◌, ◌&&◌, min, nat_eq, List, [], ◌∷◌, ◌++◌, length, drop}
 use Rattle.std.proofs.Common.{take, get_or, filter, refl, sym, ap, ◌∙◌, subst, arith, add-zero}
 use Rattle.std.proofs.Common.{add-one, drop-cons, lit≤, length-drop, ◌⊎◌, inl, inr}
-use Rattle.std.proofs.lemmas.Bool.Decides.{nat_tests}
-use Rattle.std.proofs.lemmas.Bool.{cases_lt}
 use Rattle.std.proofs.lemmas.List.Folds.{list_any-append}
-use Rattle.std.proofs.Math.Seq.{take-length}
+use Rattle.std.proofs.{Math.Seq.take-length, lemmas.Bool.cases_lt, lemmas.Bool.Decides.nat_tests}
 use mir.Val.{bool_byte}
 use Rattle.vipr_table.specs.Rising.{RisesWithin, IsRising, IsUnion, has}
 use Rattle.vipr_table.specs.Merging.{Merging}

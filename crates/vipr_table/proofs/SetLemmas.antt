@@ -4,24 +4,21 @@ use Rattle.std.proofs.Common.{List, [], ◌∷◌, length, get_or, filter, Resul
 use Rattle.std.proofs.Common.{MatchResult, ◌^◌, refl, sym, ap, ◌∙◌, arith, suc, ◌⊎◌, inl, inr, ◌++◌}
 use Rattle.std.proofs.Common.{append_assoc}
 use Rattle.std.proofs.lemmas.Bool.Decides.{nat_tests, same_from_decides, Decides-eqb}
-use Rattle.std.proofs.lemmas.Bool.{cases_lt}
-use Rattle.std.proofs.lemmas.List.Elements.{All-from_get_or}
 use Rattle.std.proofs.lemmas.List.Folds.{list_any_at, list_any_none, list_any-append}
-use Rattle.std.proofs.lemmas.List.Filters.{dedup_is}
 use Rattle.std.proofs.lemmas.List.Kept.{Contains-dedup_nat, Contains-from_dedup}
 use Rattle.std.proofs.lemmas.List.Sorted.{searched, Contains-permutation, IsPermutation-sym}
 use Rattle.std.proofs.lemmas.Map.Keys.{below_from_sorted, sorted_from_strictly_increasing}
 use Rattle.std.proofs.lemmas.Map.Keys.{IsStrictlyIncreasing-dedup}
-use Rattle.std.proofs.lemmas.Map.Made.{is_member-Decides}
-use Rattle.std.specs.List.{list_any, dedup, All}
+use Rattle.std.proofs.{lemmas.Bool.cases_lt, lemmas.List.Elements.All-from_get_or}
+use Rattle.std.proofs.{lemmas.List.Filters.dedup_is, lemmas.Map.Made.is_member-Decides}
 use Rattle.std.specs.List.Retain.{IsFiltered, DiffersFromLast}
 use Rattle.std.specs.List.Sorted.{IsBinarySearchResult, IsPermutation, IsSorted}
 use Rattle.std.specs.List.Sorted.{IsStrictlyIncreasing}
-use Rattle.std.specs.Cmp.{nat_cmp_total, unsigned_tied}
 use Rattle.std.specs.Ordering.{nat_cmp, eq_by_cmp}
 use Rattle.std.specs.FinSet.{FinSet, contains, empty, from_list, union, remove, same_set}
 use Rattle.std.specs.FinSet.{nat_cmp-IsAntisymmetric, contains-from_list_nat, contains-union}
 use Rattle.std.specs.FinSet.{contains-remove, contains-empty, contains-insert}
+use Rattle.std.specs.{Cmp.nat_cmp_total, Cmp.unsigned_tied, List.list_any, List.dedup, List.All}
 use Rattle.vipr_table.specs.Rising.{IsRising, RisesWithin, IsUnion, has}
 use Rattle.vipr_table.proofs.RisingLemmas.{has_all_but, rises_order}
 

@@ -2,14 +2,12 @@
 use Rattle.std.proofs.Common.{◌≡◌, ℕ, ◌+◌, Bool, true, false, cond, nat_eq, Option, Some, None}
 use Rattle.std.proofs.Common.{is_some, List, [], ◌∷◌, length, refl, sym, ap, ◌∙◌, arith}
 use Rattle.std.proofs.lemmas.Bool.Decides.{nat_tests}
-use Rattle.std.specs.Cmp.{nat_cmp_total}
-use Rattle.std.specs.Ordering.{nat_cmp, eq_by_cmp}
-use Rattle.std.specs.Map.{lookup, keys_of}
-use Rattle.std.specs.List.{IsDistinct, AllByRecursion}
-use Rattle.std.proofs.lemmas.Map.Keys.{IsDistinct-head, IsDistinct-tail}
 use Rattle.std.specs.FinMap.{FinMap, get, insert, remove, find, from_entries, len, get-insert}
 use Rattle.std.specs.FinMap.{get-remove, get-from_entries, get-retain_keys, len-insert, len-empty}
 use Rattle.std.specs.FinMap.{same_map, nat_cmp-IsAntisymmetric, contains_key}
+use Rattle.std.specs.{Cmp.nat_cmp_total, List.IsDistinct, List.AllByRecursion, Map.lookup}
+use Rattle.std.specs.{Map.keys_of, Ordering.nat_cmp, Ordering.eq_by_cmp}
+use Rattle.std.proofs.lemmas.Map.Keys.{IsDistinct-head, IsDistinct-tail}
 use Rattle.vipr_table.specs.declared.rows.Entry.{Entry}
 use Rattle.vipr_table.specs.Table.{Table, if_live, is_live_before, live_part}
 

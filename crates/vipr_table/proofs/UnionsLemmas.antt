@@ -1,10 +1,9 @@
 -- The union of sets that were added one after another.
 use Rattle.std.proofs.Common.{◌≡◌, ℕ, Bool, true, false, ◌||◌, List, [], ◌∷◌, ◌++◌, length, arith}
 use Rattle.std.proofs.Common.{refl, sym, ap, ◌∙◌}
-use Rattle.std.specs.Cmp.{nat_cmp_total}
-use Rattle.std.specs.Ordering.{nat_cmp}
 use Rattle.std.specs.FinSet.{FinSet, contains, empty, from_list, union, same_set}
 use Rattle.std.specs.FinSet.{nat_cmp-IsAntisymmetric, contains-union, contains-empty}
+use Rattle.std.specs.{Cmp.nat_cmp_total, Ordering.nat_cmp}
 use Rattle.vipr_table.specs.Sets.{union_of_all}
 use Rattle.vipr_table.proofs.SetLemmas.{union_none, longer_seen}
 

@@ -1,14 +1,11 @@
 -- The order in which entries expire, and how a table and that order belong together
 use Rattle.std.specs.Prelude.{◌≡◌, ℕ, ◌<◌, List, ◌∷◌, map, Option, None, Some, All, Contains}
 use Rattle.std.specs.Prelude.{IsPermutation}
-use Rattle.std.specs.FinMap as finmap
-use Rattle.std.specs.Ordering.{nat_cmp, ordering_then}
-use Rattle.std.specs.declared.cmp.Ordering.{Ordering}
-use Rattle.std.specs.BinaryHeap.{heap_items}
 use Rattle.std.specs.declared.collections.binary_heap.BinaryHeap.{BinaryHeap}
-use Rattle.std.specs.declared.cmp.Reverse.{Reverse}
-use Rattle.vipr_table.specs.declared.rows.Entry.{Entry}
-use Rattle.vipr_table.specs.Table.{expiry}
+use Rattle.std.specs.{BinaryHeap.heap_items, Ordering.nat_cmp, Ordering.ordering_then}
+use Rattle.std.specs.{declared.cmp.Ordering.Ordering, declared.cmp.Reverse.Reverse}
+use Rattle.std.specs.FinMap as finmap
+use Rattle.vipr_table.specs.{Table.expiry, declared.rows.Entry.Entry}
 
 -- ---- a heap of pairs: the last derivation that may refer to an entry, and its index
 

@@ -5,9 +5,8 @@ use Rattle.std.specs.FinMap as map
 use Rattle.std.specs.FinSet as set
 use Rattle.vipr_spec.specs.Certificate.{Certificate, constraint_at, reason_at, last_at, RestsOn}
 use Rattle.vipr_spec.specs.Certificate.{is_assumption, is_live, count}
-use Rattle.vipr_table.specs.declared.rows.Entry.{Entry}
+use Rattle.vipr_table.specs.{Table.Table, declared.rows.Entry.Entry}
 use Rattle.vipr_linear.specs.Constraint.{condition_of}
-use Rattle.vipr_table.specs.Table.{Table}
 
 -- the entry says of constraint i what the certificate does
 pub record IsEntryOf (c : Certificate) (i : ℕ) (e : Entry) : Type 0 where

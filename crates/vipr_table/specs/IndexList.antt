@@ -1,11 +1,9 @@
 -- What an assumption set holds.
-use Rattle.std.specs.Prelude.{[], ◌∷◌, take}
+use Rattle.std.specs.{Ordering.nat_cmp, Prelude.[], Prelude.◌∷◌, Prelude.take}
 use Rattle.std.specs.FinSet as set
-use Rattle.std.specs.Ordering.{nat_cmp}
-use Rattle.vipr_table.specs.Rising.{IsRising}
-use Rattle.vipr_table.specs.declared.assumptions.list.IndexList.{IndexList}
 use Rattle.vipr_table.specs.declared.assumptions.list.IndexList.TheVariants.{Nothing, One, Many}
 use Rattle.vipr_table.specs.declared.assumptions.list.IndexList.TheVariants.{Longer}
+use Rattle.vipr_table.specs.{Rising.IsRising, declared.assumptions.list.IndexList.IndexList}
 
 abbrev pub listed_set : IndexList → set.FinSet nat_cmp
 listed_set Nothing = set.empty

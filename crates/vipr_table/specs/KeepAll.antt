@@ -3,9 +3,8 @@ use Rattle.std.specs.Prelude.{◌≡◌, ℕ, zero, suc, ◌+◌, ◌≤◌, tru
 use Rattle.std.specs.Prelude.{Option, None, Some}
 use Rattle.std.specs.FinMap as map
 use Rattle.std.specs.Ordering.{nat_cmp}
-use Rattle.vipr_table.specs.declared.rows.Entry.{Entry}
 use Rattle.vipr_table.specs.declared.rows.keep_all.Kept.{Kept}
-use Rattle.vipr_table.specs.Expiry.{IsTied}
+use Rattle.vipr_table.specs.{Expiry.IsTied, declared.rows.Entry.Entry}
 
 -- the entries that are not forgotten, by index from `first` on
 abbrev pub entries_not_forgotten : ℕ → List Kept → map.FinMap nat_cmp Entry

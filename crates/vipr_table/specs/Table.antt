@@ -2,8 +2,7 @@
 use Rattle.std.specs.Prelude.{◌≡◌, ℕ, ◌+◌, Bool, Option, None, Some, is_some, if◌then◌else◌}
 use Rattle.std.specs.FinMap as map
 use Rattle.std.specs.Ordering.{nat_cmp}
-use Rattle.vipr_spec.specs.Constraint.{at, NamesBelow}
-use Rattle.vipr_spec.specs.Certificate.{lasts_to}
+use Rattle.vipr_spec.specs.{Certificate.lasts_to, Constraint.at, Constraint.NamesBelow}
 use Rattle.vipr_table.specs.declared.rows.Entry.{Entry}
 
 -- the first index, the index of the next entry, and the entries by index

@@ -1,11 +1,9 @@
 -- A table is stored as the tuple of its fields.
-use Rattle.std.specs.Prelude.{ℕ, refl}
 use Rattle.std.specs.Coded.{Coded, code_by, coded×, coded_ℕ}
+use Rattle.std.specs.{Ordering.nat_cmp, Prelude.ℕ, Prelude.refl}
 use Rattle.std.specs.FinMap as map
-use Rattle.std.specs.Ordering.{nat_cmp}
-use Rattle.vipr_table.specs.declared.rows.Entry.{Entry}
+use Rattle.vipr_table.specs.{Table.Table, declared.rows.Entry.Entry}
 use Rattle.vipr_table.specs.contracts.rows.Entry as entry
-use Rattle.vipr_table.specs.Table.{Table}
 
 abbrev pub table_code : Coded Table
 table_code =

@@ -3,8 +3,7 @@ use Rattle.std.specs.Prelude.{◌≡◌, ◌⊎◌, ℕ, Bool, IsTrue}
 use Rattle.std.specs.BTreeSet as note
 use Rattle.std.specs.FinSet as set
 use Rattle.std.specs.Ordering.{nat_cmp}
-use Rattle.vipr_table.specs.Sets.{union_of_all}
-use Rattle.vipr_table.specs.declared.assumptions.union.Union.{Union}
+use Rattle.vipr_table.specs.{Sets.union_of_all, declared.assumptions.union.Union.Union}
 
 abbrev pub union_so_far : Union → set.FinSet nat_cmp
 union_so_far u =

@@ -11,9 +11,8 @@ mod union;
 
 ghost use Rattle.std.specs.Prelude.{◌≡◌, ◌↔◌, ℕ, true, IfOk, IfSome, IsOk, IsTrue};
 ghost use Rattle.std.specs.FinSet as set;
-ghost use Rattle.vipr_table.specs.IndexList.{listed_set};
 ghost use Rattle.vipr_table.specs.Rising.{IsRising, has};
-ghost use Rattle.vipr_table.specs.Sets.{IsListOf};
+ghost use Rattle.vipr_table.specs.{IndexList.listed_set, Sets.IsListOf};
 
 use crate::assumptions::list::{Front, IndexList, front_but_last, front_of};
 use crate::assumptions::lists::Lists;

@@ -1,10 +1,9 @@
 -- Certificates with the same reasons and last references
-use Rattle.std.proofs.Common.{◌≡◌, ℕ, ◌+◌, ◌-◌, max, ◌&&◌, ◌||◌, nat_lt, List, [], ◌∷◌, ◌++◌}
-use Rattle.std.proofs.Common.{map, length, slice_index_or, Option, Some, None, arith, refl, sym}
-use Rattle.std.proofs.Common.{◌∙◌}
-use Rattle.std.proofs.Common.{ap, ap₂, subst}
-use Rattle.std.specs.List.{range_with_len, count_by, fold}
+use Rattle.std.proofs.Common.{◌≡◌, ℕ, ◌+◌, ◌-◌, max, ◌&&◌, ◌||◌, nat_lt, List, [], ◌∷◌, ◌++◌, map}
+use Rattle.std.proofs.Common.{length, slice_index_or, Option, Some, None, arith, refl, sym, ◌∙◌, ap}
+use Rattle.std.proofs.Common.{ap₂, subst}
 use Rattle.std.proofs.lemmas.List.{length-map}
+use Rattle.std.specs.List.{range_with_len, count_by, fold}
 use Rattle.vipr_spec.specs.Certificate.{Reason, Derivation, Certificate, NamesEarlier}
 use Rattle.vipr_spec.specs.Certificate.{reason_at, last_at, is_assumption, lasts_to, peak}
 use Rattle.vipr_spec.specs.Steps.{RefersBack}

@@ -3,25 +3,20 @@ use Rattle.std.proofs.Common.{◌≡◌, ℕ, zero, suc, ◌+◌, ◌-◌, ◌<�
 use Rattle.std.proofs.Common.{◌&&◌, ◌||◌, nat_lt, nat_le, nat_eq, List, [], ◌∷◌, ◌++◌, map, length}
 use Rattle.std.proofs.Common.{slice_index_or, Option, Some, None, arith, refl, sym, ◌∙◌, ap, ap₂}
 use Rattle.std.proofs.Common.{lt-ltb, replicate}
-use Rattle.std.specs.FinMap.{empty}
-use Rattle.std.specs.FinSet as set
-use Rattle.std.specs.Prelude.{option_map}
 use Rattle.std.specs.List.{range_with_len, count_by, fold}
+use Rattle.std.specs.{FinMap.empty, Prelude.option_map}
+use Rattle.std.specs.FinSet as set
 use Rattle.std.proofs.lemmas.List.Sums.{fold-append, count_by-le-length}
 use Rattle.std.proofs.lemmas.List.FromFn.{map-range_with_len_more, length-range_with_len}
 use Rattle.std.proofs.lemmas.List.{get_or-append-add, get_or-map, length-map, length-replicate}
 use Rattle.std.proofs.lemmas.Bool.Decides.{nat_tests}
-use Rattle.vipr_spec.specs.Fraction.{zero_ℚ}
-use Rattle.vipr_spec.specs.Constraint.{Constraint, equal}
-use Rattle.vipr_spec.specs.Certificate.{Named, Derivation, Certificate, reason_at, last_at}
-use Rattle.vipr_spec.specs.Certificate.{minimum, infeasible}
-use Rattle.vipr_spec.specs.Certificate.{is_assumption, lasts_to, is_live, count_held, peak}
-use Rattle.vipr_spec.proofs.Laws.{reason_placed}
-use Rattle.vipr_spec.proofs.Laws.{lasts_listed, count_cons, count_from}
-use Rattle.vipr_write.specs.StepReasons.{kept_reason_of}
-use Rattle.vipr_write.specs.Steps.{step_of}
-use Rattle.vipr_write.specs.declared.statements.Statement.{Statement}
-use Rattle.vipr_write.specs.declared.statements.Step.{Step}
+use Rattle.vipr_spec.specs.Certificate.{Named, Derivation, Certificate, reason_at, last_at, minimum}
+use Rattle.vipr_spec.specs.Certificate.{infeasible, is_assumption, lasts_to, is_live, count_held}
+use Rattle.vipr_spec.specs.Certificate.{peak}
+use Rattle.vipr_spec.specs.{Constraint.Constraint, Constraint.equal, Fraction.zero_ℚ}
+use Rattle.vipr_spec.proofs.Laws.{reason_placed, lasts_listed, count_cons, count_from}
+use Rattle.vipr_write.specs.{StepReasons.kept_reason_of, Steps.step_of}
+use Rattle.vipr_write.specs.{declared.statements.Statement.Statement, declared.statements.Step.Step}
 use Rattle.vipr_tighten.specs.Passes.{AreDerivationsOf}
 use Rattle.vipr_tighten.specs.Dropping.{dropped_after, is_held_after, is_held_until}
 use Rattle.vipr_tighten.specs.Dropping.{is_dropped_after}

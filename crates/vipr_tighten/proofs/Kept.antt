@@ -6,28 +6,21 @@ use Rattle.std.proofs.lemmas.List.{length-map}
 use Rattle.vipr_spec.specs.Constraint.{Profile, Constraint}
 use Rattle.vipr_spec.specs.Certificate.{Named, Problem, Derivation, Certificate, IsGoal, NeedsGoal}
 use Rattle.vipr_spec.specs.Certificate.{count, peak}
-use Rattle.vipr_spec.specs.Grammar.{SpellsOnly}
-use Rattle.vipr_spec.specs.Reading.{most_count}
-use Rattle.vipr_spec.specs.Tightened.{tightened_certificate}
+use Rattle.vipr_spec.specs.{Grammar.SpellsOnly, Reading.most_count, Tightened.tightened_certificate}
 use Rattle.vipr_spec.proofs.Laws.{back_of_proof, can_write}
-use Rattle.vipr_bytes.specs.Output.{Output}
-use Rattle.vipr_bytes.specs.Written.{Wrote}
+use Rattle.vipr_bytes.specs.{Output.Output, Written.Wrote}
 use Rattle.vipr_linear.specs.Constraint.{constraint_of}
 use Rattle.vipr_linear.specs.declared.constraint.Constraint.{Constraint as ConstraintItem}
-use Rattle.vipr_cert.specs.Items.{named_of}
-use Rattle.vipr_cert.specs.declared.items.Named.{Named as NamedItem}
+use Rattle.vipr_cert.specs.{Items.named_of, declared.items.Named.Named as NamedItem}
 use Rattle.vipr_check.specs.View.{report_of}
-use Rattle.vipr_write.specs.declared.form.Form.{Form}
 use Rattle.vipr_write.specs.declared.statements.Statement.{Statement}
-use Rattle.vipr_write.specs.declared.statements.Step.{Step}
-use Rattle.vipr_write.specs.Forms.{text_in}
 use Rattle.vipr_write.specs.Steps.{step_of, statement_in, AreStepsOf}
+use Rattle.vipr_write.specs.{Forms.text_in, declared.form.Form.Form, declared.statements.Step.Step}
 use Rattle.vipr_tighten.specs.declared.proof_reader.KeptProof.{KeptProof}
 use Rattle.vipr_tighten.specs.declared.outcome.Outcome.TheVariants.{Tightened}
 use Rattle.vipr_tighten.specs.declared.outcome.TightenFault.TheVariants.{Write}
-use Rattle.vipr_tighten.specs.Keeping.{IsKeptOf}
 use Rattle.vipr_tighten.specs.Passes.{AreDerivationsOf, CanTighten}
-use Rattle.vipr_tighten.specs.Tightens.{TightensText, kind_of}
+use Rattle.vipr_tighten.specs.{Keeping.IsKeptOf, Tightens.TightensText, Tightens.kind_of}
 use Rattle.vipr_tighten.proofs.KeptTexts.{with_texts, texts_back, texts_count, texts_tightened}
 use Rattle.vipr_tighten.proofs.KeptTexts.{texts_tightened_count, texts_peak}
 use Rattle.vipr_tighten.proofs.Renumbering.{count_of}

@@ -1,16 +1,13 @@
 -- A certificate, of whose derivations the words up to their reasons are kept
 use Rattle.std.proofs.Common.{◌≡◌, ℕ, suc, ◌+◌, Bool, true, false, cond, ◌&&◌, ◌||◌, nat_lt, List}
-use Rattle.std.proofs.Common.{[]}
-use Rattle.std.proofs.Common.{◌∷◌, map, length, Option, Some, None, refl, sym, ap, ap₂, ◌∙◌}
+use Rattle.std.proofs.Common.{[], ◌∷◌, map, length, Option, Some, None, refl, sym, ap, ap₂, ◌∙◌}
 use Rattle.std.proofs.lemmas.List.{length-map}
-use Rattle.vipr_spec.specs.Constraint.{Row}
 use Rattle.vipr_spec.specs.Certificate.{Derivation, Certificate, count, peak}
-use Rattle.vipr_spec.specs.Steps.{RefersBack}
 use Rattle.vipr_spec.specs.Tightened.{refers_to, is_marked, is_kept, kept_of, new_index, or_else}
 use Rattle.vipr_spec.specs.Tightened.{with_new_indices, last_reference, with_last_references}
 use Rattle.vipr_spec.specs.Tightened.{kept_derivations, tightened_certificate}
-use Rattle.vipr_write.specs.Steps.{as_text}
-use Rattle.vipr_write.specs.declared.form.Form.{Form}
+use Rattle.vipr_spec.specs.{Constraint.Row, Steps.RefersBack}
+use Rattle.vipr_write.specs.{Steps.as_text, declared.form.Form.Form}
 use Rattle.vipr_tighten.proofs.Alike.{AreAlike, map_kept, back_alike, peak_alike}
 
 abbrev pub with_texts : Form → Row → Certificate → Certificate

@@ -3,8 +3,7 @@ use Rattle.std.proofs.Common.{◌≡◌, ℕ, suc, ◌+◌, List, [], ◌∷◌,
 use Rattle.std.proofs.Common.{append_assoc, append-nil, sym, ap, ◌∙◌}
 use Rattle.std.proofs.lemmas.Grind.{flat_map-append}
 use Rattle.std.proofs.lemmas.List.{length-append, map_push}
-use Rattle.vipr_spec.specs.Constraint.{Row}
-use Rattle.vipr_spec.specs.Certificate.{Named}
+use Rattle.vipr_spec.specs.{Certificate.Named, Constraint.Row}
 use Rattle.vipr_write.specs.Canonical.{heading, solution_words, line_text, lines_text}
 use Rattle.vipr_write.specs.Canonical.{solutions_lines}
 

@@ -2,17 +2,14 @@
 use Rattle.std.proofs.Common.{◌≡◌, ℕ, ◌+◌, ◌-◌, ◌<◌, ◌≤◌, Bool, true, false, ◌&&◌, ◌||◌, nat_eq, List, []}
 use Rattle.std.proofs.Common.{take, drop, map, replicate, length, slice_index_or, get_or, Option}
 use Rattle.std.proofs.Common.{Some, None, arith, refl, sym, ◌∙◌, ap, ap₂, subst}
-use Rattle.std.specs.List.{list_any}
+use Rattle.std.specs.{FinMap.empty, List.list_any}
 use Rattle.std.proofs.Math.Bool.{and-false, and-true, or-false, or_assoc}
 use Rattle.std.proofs.lemmas.List.{drop_all, get_or-map, get_or-replicate, get_or_read_under}
 use Rattle.std.proofs.lemmas.List.{length-map, length-replicate}
 use Rattle.std.proofs.lemmas.List.Folds.{list_any_more}
-use Rattle.std.specs.FinMap.{empty}
-use Rattle.vipr_spec.specs.Fraction.{ℚ, zero_ℚ}
-use Rattle.vipr_spec.specs.Constraint.{equal}
-use Rattle.vipr_spec.specs.Reading.{is_nonzero}
 use Rattle.vipr_spec.specs.Certificate.{asm, Derivation}
 use Rattle.vipr_spec.specs.Tightened.{refers_to, is_the_goal, is_marked}
+use Rattle.vipr_spec.specs.{Constraint.equal, Fraction.ℚ, Fraction.zero_ℚ, Reading.is_nonzero}
 use Rattle.vipr_spec.proofs.Laws.{marked_down}
 use Rattle.vipr_tighten.specs.Passes.{has_mark, MarksAlso, AreMarks}
 

@@ -2,30 +2,24 @@
 use Rattle.std.proofs.Common.{◌≡◌, ℕ, ◌+◌, ◌<◌, ◌≤◌, true, false, List, length, Option, Some, None}
 use Rattle.std.proofs.Common.{IfSome, Result, Ok, Err, arith, refl, sym, ◌∙◌, ap, subst}
 use Rattle.std.specs.Prelude.{MatchOption}
-use Rattle.vipr_spec.specs.Input.{Input}
-use Rattle.vipr_spec.specs.Constraint.{Profile}
 use Rattle.vipr_spec.specs.Certificate.{Certificate, IsProof, IsGoal, GoalIs, NeedsGoal, peak}
 use Rattle.vipr_spec.specs.Grammar.{Spells, SpellsOnly}
-use Rattle.vipr_spec.specs.GrammarLaws.{whole_text}
 use Rattle.vipr_spec.specs.Reading.{Rest, certificate_read}
 use Rattle.vipr_spec.specs.Tightened.{tightened_certificate, new_goal}
-use Rattle.vipr_spec.specs.Tests.{none}
 use Rattle.vipr_spec.specs.Verdict.{Report, Reports, Answer, Answers, verified, refuses, cut_short}
 use Rattle.vipr_spec.specs.Verdict.{found_in, IsAnswer}
+use Rattle.vipr_spec.specs.{Constraint.Profile, GrammarLaws.whole_text, Input.Input, Tests.none}
 use Rattle.vipr_spec.proofs.Laws.{back_of_proof, claim_shown, found_read, one_certificate}
 use Rattle.vipr_spec.proofs.Laws.{proof_answered, reads_texts, tight_counts, tight_goal}
 use Rattle.vipr_spec.proofs.Laws.{tight_needed, tight_peak, tight_proof, tight_twice, unneeded_goal}
 use Rattle.vipr_spec.proofs.Laws.{verified_read, answer_explained}
 use Rattle.vipr_bytes.specs.Known.{text_of, IfKnown, IfWhole}
-use Rattle.vipr_bytes.specs.Output.{Output}
-use Rattle.vipr_bytes.specs.Written.{Wrote}
-use Rattle.vipr_write.specs.WrittenText.{WroteText}
-use Rattle.vipr_write.specs.declared.write.WriteError.TheVariants as write
-use Rattle.vipr_write.specs.Forms.{text_in}
-use Rattle.vipr_write.specs.declared.form.Form.{Form}
+use Rattle.vipr_bytes.specs.{Output.Output, Written.Wrote}
 use Rattle.vipr_write.specs.declared.form.Form.TheVariants.{Canonical, Compact}
-use Rattle.vipr_check.specs.declared.verdict.Refusal.{Refusal}
-use Rattle.vipr_check.specs.View.{refusal_of}
+use Rattle.vipr_write.specs.{Forms.text_in, WrittenText.WroteText, declared.form.Form.Form}
+use Rattle.vipr_write.specs.declared.write.WriteError.TheVariants as write
+use Rattle.vipr_check.specs.declared.no_proof.NoProof.{NoProof}
+use Rattle.vipr_check.specs.{View.refusal_of, View.report_of, declared.verdict.Refusal.Refusal}
 use Rattle.vipr_check.proofs.Laws.{failed_read}
 use Rattle.vipr_tighten.specs.declared.outcome.Outcome.{Outcome}
 use Rattle.vipr_tighten.specs.declared.outcome.Outcome.TheVariants.{Tightened, Refused}
@@ -34,10 +28,8 @@ use Rattle.vipr_tighten.specs.declared.outcome.TightenFault.TheVariants.{Read, M
 use Rattle.vipr_tighten.specs.Tightens.{IsProofFor, IsTight, KindOfText, TakesNothing, TightensText}
 use Rattle.vipr_tighten.specs.Tightens.{any_kind, kind_of, kind_read, kind_spelled, unproved_answer}
 use Rattle.vipr_tighten.specs.Tightens.{TightensAs}
-use Rattle.vipr_check.specs.View.{report_of}
 use Rattle.vipr_check.specs.declared.verdict.Report as checked
 use Rattle.vipr_tighten.specs.Keeping.{HasAnswer, AnswersWhy, AnswersProof}
-use Rattle.vipr_check.specs.declared.no_proof.NoProof.{NoProof}
 use Rattle.vipr_check.specs.declared.no_proof.NoProof.TheVariants as reason
 
 -- ---- a proof

@@ -2,8 +2,7 @@
 use Rattle.std.proofs.Common.{◌≡◌, ℕ, ◌<◌, ◌≤◌, Bool, true, false, List, [], ◌∷◌, map, take, filter}
 use Rattle.std.proofs.Common.{length, cond, get_or, arith, refl, sym, ap, ◌∙◌}
 use Rattle.std.proofs.lemmas.List.{get_or-map, length-map, take_all}
-use Rattle.vipr_spec.specs.Fraction.{ℚ}
-use Rattle.vipr_spec.specs.Reading.{is_nonzero}
+use Rattle.vipr_spec.specs.{Fraction.ℚ, Reading.is_nonzero}
 
 module _ {E : Type 0} (pair : E → ℕ × ℚ) (es : List E) where
   module _ (i : ℕ) where

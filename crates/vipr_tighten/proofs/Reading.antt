@@ -3,14 +3,8 @@ use Rattle.std.proofs.Common.{◌≡◌, ℕ, suc, ◌+◌, ◌<◌, ◌≤◌, 
 use Rattle.std.proofs.Common.{None, Result, Ok, Err, arith, refl, sym, ◌∙◌, ap, subst, append-nil}
 use Rattle.std.proofs.Common.{append_assoc}
 use Rattle.std.specs.Prelude.{◌⊎◌, IsSome, IfOk, IfErr, IsErrAnd, All, Option, Some}
-use Rattle.vipr_spec.specs.Input.{Input}
-use Rattle.vipr_bytes.specs.Known.{text_of, IfKnown}
 use Rattle.vipr_spec.specs.Shape.{ReasonShape, RowFits, SolutionShape, DerivationShape}
 use Rattle.vipr_spec.specs.Shape.{DerivationFits, CanWriteProblem, CanWrite}
-use Rattle.vipr_check.specs.View.{report_of}
-use Rattle.vipr_scan.specs.Giving.{rest_of}
-use Rattle.vipr_scan.specs.Faults.{Fails}
-use Rattle.vipr_scan.specs.declared.error.TextError.{TextError}
 use Rattle.vipr_spec.specs.Constraint.{Profile, Row, condition}
 use Rattle.vipr_spec.specs.Certificate.{Named, Problem, Derivation, Certificate, MeetsPrimal}
 use Rattle.vipr_spec.specs.Certificate.{IsProof}
@@ -18,19 +12,18 @@ use Rattle.vipr_spec.specs.Reading.{Rest, Read, problem_read, solution_read, der
 use Rattle.vipr_spec.specs.Reading.{derivation_read, end_read, most_count}
 use Rattle.vipr_spec.specs.Steps.{with_more, with_next, PassesStep, step_tests, FirstFailing}
 use Rattle.vipr_spec.specs.Tests.{PassesSolution, solution_tests, none}
-use Rattle.vipr_spec.specs.Checking.{start}
 use Rattle.vipr_spec.specs.Verdict.{before_items, items_read, derivations_found, ending_found}
 use Rattle.vipr_spec.specs.Verdict.{problem_found, found_in, Explained, Found, Reports, verified}
 use Rattle.vipr_spec.specs.Progress.{derivations_from, solutions_from}
+use Rattle.vipr_spec.specs.{Checking.start, Input.Input}
+use Rattle.vipr_bytes.specs.Known.{text_of, IfKnown}
+use Rattle.vipr_check.specs.State.{State, TakesSolution, TakesStep, Finishes}
+use Rattle.vipr_check.specs.{Reasons.stop_reason, Reasons.text_reason, Run.IsAmong, Run.IsAt}
+use Rattle.vipr_check.specs.{Shown.state_shown, View.report_of, declared.halt.Stop.Stop}
+use Rattle.vipr_check.specs.{declared.no_proof.NoProof.NoProof, declared.verdict.Report.Report}
+use Rattle.vipr_scan.specs.{Faults.Fails, Giving.rest_of, declared.error.TextError.TextError}
 use Rattle.vipr_spec.proofs.Laws.{problem_ok, solution_passes, derivations_begin, derivation_passes}
 use Rattle.vipr_read.specs.Items.{Items, Knows, Remembers}
-use Rattle.vipr_check.specs.declared.halt.Stop.{Stop}
-use Rattle.vipr_check.specs.declared.verdict.Report.{Report}
-use Rattle.vipr_check.specs.State.{State, TakesSolution, TakesStep, Finishes}
-use Rattle.vipr_check.specs.Reasons.{stop_reason, text_reason}
-use Rattle.vipr_check.specs.Run.{IsAmong, IsAt}
-use Rattle.vipr_check.specs.Shown.{state_shown}
-use Rattle.vipr_check.specs.declared.no_proof.NoProof.{NoProof}
 use Rattle.vipr_check.specs.declared.no_proof.NoProof.TheVariants as reason
 use Rattle.vipr_check.proofs.Laws.{SaysWhy-by, at_start, derivation_missing, ending_failed}
 use Rattle.vipr_check.proofs.Laws.{ending_met, finish_stops, finish_verifies, knows_still}

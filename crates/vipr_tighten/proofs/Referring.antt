@@ -2,16 +2,11 @@
 use Rattle.std.proofs.Common.{◌≡◌, ℕ, zero, suc, ◌+◌, ◌<◌, ◌≤◌, Bool, true, false, cond, ◌&&◌, ◌||◌}
 use Rattle.std.proofs.Common.{nat_eq, List, [], ◌∷◌, take, map, length, get_or, Some, arith, refl}
 use Rattle.std.proofs.Common.{sym, ◌∙◌, ap, ap₂, eq-eqb}
-use Rattle.std.proofs.Math.Bool.{and-false, and-true}
-use Rattle.std.proofs.Math.ListN.{set}
+use Rattle.std.proofs.{Math.Bool.and-false, Math.Bool.and-true, Math.ListN.set, lemmas.Bool.ne_eqb}
+use Rattle.std.proofs.{lemmas.List.length-map, lemmas.List.Folds.list_any_more}
 use Rattle.std.specs.List.{list_any}
-use Rattle.std.proofs.lemmas.Bool.{ne_eqb}
-use Rattle.std.proofs.lemmas.List.Folds.{list_any_more}
-use Rattle.std.proofs.lemmas.List.{length-map}
-use Rattle.vipr_spec.specs.Fraction.{ℚ}
-use Rattle.vipr_spec.specs.Reading.{is_nonzero}
 use Rattle.vipr_spec.specs.Certificate.{Derivation}
-use Rattle.vipr_spec.specs.Tightened.{referred_by}
+use Rattle.vipr_spec.specs.{Fraction.ℚ, Reading.is_nonzero, Tightened.referred_by}
 
 -- ---- tests
 

@@ -2,15 +2,12 @@
 use Rattle.std.proofs.Common.{◌≡◌, ℕ, ◌+◌, ◌≤◌, List, map, length, Option, arith, sym, ap, ◌∙◌}
 use Rattle.std.proofs.Common.{subst}
 use Rattle.vipr_spec.specs.Certificate as is
-use Rattle.vipr_spec.specs.Reading.{most_count}
-use Rattle.vipr_spec.specs.Shape.{CanWrite}
-use Rattle.vipr_spec.specs.Tightened.{tightened_certificate}
+use Rattle.vipr_spec.specs.{Reading.most_count, Shape.CanWrite, Tightened.tightened_certificate}
 use Rattle.vipr_spec.proofs.Laws.{can_write}
 use Rattle.vipr_linear.specs.declared.row.Solution.{Solution}
 use Rattle.std.proofs.lemmas.List.{length-map}
 use Rattle.vipr_cert.specs.Items.{derivation_of, certificate_with}
-use Rattle.vipr_cert.specs.declared.items.Named.{Named}
-use Rattle.vipr_cert.specs.declared.items.Derivation.{Derivation}
+use Rattle.vipr_cert.specs.{declared.items.Derivation.Derivation, declared.items.Named.Named}
 use Rattle.vipr_tighten.specs.Passes.{AreDerivationsOf}
 use Rattle.vipr_tighten.proofs.Renumbering.{count_of}
 

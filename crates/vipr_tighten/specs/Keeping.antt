@@ -1,29 +1,21 @@
 -- A checker run over a text, item by item, while the items are kept
 use Rattle.std.specs.Prelude.{◌≡◌, ℕ, ◌<◌, ◌^◌, false, List, [], All, None, IsSome, Ok}
-use Rattle.vipr_spec.specs.Constraint.{Profile, Row}
 use Rattle.vipr_spec.specs.Certificate.{Named, Problem, Derivation, Certificate, count, IsProof}
-use Rattle.vipr_spec.specs.Reading.{Rest, end_read}
 use Rattle.vipr_spec.specs.Shape.{RowFits, SolutionShape, DerivationShape, DerivationFits}
-use Rattle.vipr_spec.specs.Soundness.{IsShown}
-use Rattle.vipr_spec.specs.Tests.{Detail}
-use Rattle.vipr_spec.specs.Input.{Input}
 use Rattle.vipr_spec.specs.Verdict.{Found, found_in, Answer, Reports, verified, Explained}
 use Rattle.vipr_spec.specs.Progress.{solutions_from, derivations_from}
+use Rattle.vipr_spec.specs.{Constraint.Profile, Constraint.Row, Input.Input, Reading.Rest}
+use Rattle.vipr_spec.specs.{Reading.end_read, Soundness.IsShown, Tests.Detail}
 use Rattle.vipr_bytes.specs.Known.{text_of}
 use Rattle.vipr_scan.specs.Giving.{rest_of}
 use Rattle.vipr_read.specs.Items.{Items}
-use Rattle.vipr_check.specs.View.{report_of}
-use Rattle.vipr_check.specs.Progress.{HasSteps}
-use Rattle.vipr_check.specs.State.{State, EndsSolutions, Finishes}
-use Rattle.vipr_check.specs.Run.{IsAmong, IsAt}
-use Rattle.vipr_check.specs.declared.verdict.Report.{Report}
-use Rattle.vipr_check.specs.declared.no_proof.NoProof.{NoProof}
-use Rattle.vipr_check.specs.Reasons.{SaysWhy}
-use Rattle.vipr_write.specs.declared.form.Form.{Form}
+use Rattle.vipr_check.specs.{Progress.HasSteps, Reasons.SaysWhy, Run.IsAmong, Run.IsAt, State.State}
+use Rattle.vipr_check.specs.{State.EndsSolutions, State.Finishes, View.report_of}
+use Rattle.vipr_check.specs.{declared.no_proof.NoProof.NoProof, declared.verdict.Report.Report}
 use Rattle.vipr_write.specs.declared.statements.Statements.{Statements}
 use Rattle.vipr_write.specs.declared.statements.Step.{Step}
 use Rattle.vipr_write.specs.Canonical.{solutions_lines, lines_text}
-use Rattle.vipr_write.specs.Steps.{AreKept, AreStepsOf}
+use Rattle.vipr_write.specs.{Steps.AreKept, Steps.AreStepsOf, declared.form.Form.Form}
 use Rattle.vipr_tighten.specs.declared.proof_reader.KeptProof.{KeptProof}
 
 -- ---- what is answered

@@ -1,24 +1,17 @@
 -- What `tighten` answers for what the source gives, and what was written then
 use Rattle.std.specs.Prelude.{◌≡◌, ⊤, ℕ, suc, ◌+◌, ◌<◌, ◌≤◌, true, List, length, Option, Some}
 use Rattle.std.specs.Prelude.{IfSome, Result, Ok, Err}
-use Rattle.vipr_spec.specs.Input.{Input}
-use Rattle.vipr_spec.specs.Constraint.{Profile, one}
 use Rattle.vipr_spec.specs.Certificate.{Certificate, IsProof, GoalIs, count, peak}
-use Rattle.vipr_spec.specs.Grammar.{Spells, SpellsOnly}
-use Rattle.vipr_spec.specs.Reading.{Rest, certificate_read}
-use Rattle.vipr_spec.specs.Soundness.{IsShown}
 use Rattle.vipr_spec.specs.Tightened.{tightened_certificate, new_goal, IsNeededFor}
 use Rattle.vipr_spec.specs.Verdict.{refuses, cut_short, IsAnswer}
+use Rattle.vipr_spec.specs.{Constraint.Profile, Constraint.one, Grammar.Spells, Grammar.SpellsOnly}
+use Rattle.vipr_spec.specs.{Input.Input, Reading.Rest, Reading.certificate_read, Soundness.IsShown}
 use Rattle.vipr_bytes.specs.Known.{text_of, IfKnown, IfWhole}
-use Rattle.vipr_bytes.specs.Output.{Output}
-use Rattle.vipr_bytes.specs.Written.{Wrote}
-use Rattle.vipr_write.specs.Canonical.{canonical_text}
-use Rattle.vipr_write.specs.Forms.{compact_text, text_in}
-use Rattle.vipr_write.specs.declared.form.Form.{Form}
-use Rattle.vipr_write.specs.declared.form.Form.TheVariants.{Canonical}
-use Rattle.vipr_check.specs.declared.verdict.Refusal.{Refusal}
-use Rattle.vipr_check.specs.View.{refusal_of}
+use Rattle.vipr_bytes.specs.{Output.Output, Written.Wrote}
+use Rattle.vipr_write.specs.{Canonical.canonical_text, Forms.compact_text, Forms.text_in}
+use Rattle.vipr_write.specs.{declared.form.Form.Form, declared.form.Form.TheVariants.Canonical}
 use Rattle.vipr_check.specs.declared.no_proof.NoProof.{NoProof}
+use Rattle.vipr_check.specs.{View.refusal_of, declared.verdict.Refusal.Refusal}
 use Rattle.vipr_check.specs.declared.no_proof.NoProof.TheVariants as reason
 use Rattle.vipr_tighten.specs.declared.outcome.Outcome.{Outcome}
 use Rattle.vipr_tighten.specs.declared.outcome.Outcome.TheVariants.{Tightened, Refused}

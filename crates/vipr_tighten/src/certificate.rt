@@ -1,9 +1,8 @@
 //! The tightened certificate.
 ghost use Rattle.std.specs.Prelude.{◌≡◌, ◌+◌, ◌<◌, ◌≤◌, length, map, IfOk, IfSome, OnOk};
 ghost use Rattle.vipr_spec.specs.Certificate.{Certificate as CertificateMeant, count};
-ghost use Rattle.vipr_spec.specs.Reading.{most_count};
-ghost use Rattle.vipr_spec.specs.Steps.{RefersBack};
 ghost use Rattle.vipr_spec.specs.Tightened.{tightened_certificate};
+ghost use Rattle.vipr_spec.specs.{Reading.most_count, Steps.RefersBack};
 ghost use Rattle.vipr_tighten.specs.Passes.{AreDerivationsOf, CanTighten};
 
 use crate::derived::Tightenable;

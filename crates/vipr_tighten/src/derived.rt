@@ -3,9 +3,8 @@ ghost use Rattle.std.specs.Prelude.{◌≡◌};
 ghost use Rattle.vipr_spec.specs.Certificate.{Derivation as DerivationMeant, reason_references};
 ghost use Rattle.vipr_spec.specs.Tightened.{with_new_indices};
 ghost use Rattle.vipr_cert.specs.Items.{derivation_of};
-ghost use Rattle.vipr_write.specs.Steps.{step_of};
-ghost use Rattle.vipr_write.specs.StepReasons.{kept_references_of};
 ghost use Rattle.vipr_write.specs.declared.statements.Statement.{Statement as StatementMeant};
+ghost use Rattle.vipr_write.specs.{StepReasons.kept_references_of, Steps.step_of};
 ghost use Rattle.vipr_tighten.specs.Passes.{index_by, NamedConstraint};
 
 use crate::renumber::{renumber_reason, renumber_step_reason};

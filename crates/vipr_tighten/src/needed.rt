@@ -1,8 +1,7 @@
 //! What the goal needs: one pass from the end.
 ghost use Rattle.std.specs.Prelude.{◌≡◌, ◌&&◌, nat_eq, length, map, IfOk};
 ghost use Rattle.std.specs.List.{list_any};
-ghost use Rattle.vipr_spec.specs.Reading.{is_nonzero};
-ghost use Rattle.vipr_spec.specs.Tightened.{include};
+ghost use Rattle.vipr_spec.specs.{Reading.is_nonzero, Tightened.include};
 ghost use Rattle.vipr_write.specs.StepReasons.{kept_references_of};
 ghost use Rattle.vipr_tighten.specs.Passes.{MarksAlso, AreMarks};
 

@@ -3,9 +3,8 @@ ghost use Rattle.std.specs.Prelude.{◌≡◌, ◌+◌, ◌<◌, ◌≤◌, ◌^
 ghost use Rattle.std.specs.Prelude.{map, slice_index_or};
 ghost use Rattle.vipr_spec.specs.Certificate.{Certificate as CertificateMeant, peak};
 ghost use Rattle.vipr_spec.specs.Reading.{most_count};
-ghost use Rattle.vipr_write.specs.Steps.{step_of};
-ghost use Rattle.vipr_write.specs.StepReasons.{kept_reason_of};
 ghost use Rattle.vipr_write.specs.declared.statements.Statement.{Statement as StatementMeant};
+ghost use Rattle.vipr_write.specs.{StepReasons.kept_reason_of, Steps.step_of};
 ghost use Rattle.vipr_tighten.specs.Dropping.{dropped_after};
 ghost use Rattle.vipr_tighten.specs.Passes.{NamedConstraint, AreDerivationsOf};
 

@@ -1,19 +1,16 @@
 //! Reads a certificate: each item is checked before the next one is read, and kept.
 
-ghost use Rattle.std.specs.Prelude.{◌≡◌, ◌<◌, ◌^◌, false, List, [], IfOk, IfErr, IsSome};
-ghost use Rattle.std.specs.Prelude.{OnOk};
+ghost use Rattle.std.specs.Prelude.{◌≡◌, ◌<◌, ◌^◌, false, List, [], IfOk, IfErr, IsSome, OnOk};
 ghost use Rattle.vipr_spec.specs.Constraint.{Profile as ProfileMeant, Row};
 ghost use Rattle.vipr_spec.specs.Certificate.{Named as NamedMeant, Problem as ProblemMeant};
 ghost use Rattle.vipr_spec.specs.Certificate.{Derivation as DerivationMeant};
 ghost use Rattle.vipr_spec.specs.Certificate.{Certificate as CertificateMeant};
-ghost use Rattle.vipr_spec.specs.Checking.{start};
 ghost use Rattle.vipr_spec.specs.Shape.{CanWriteProblem, CanWrite};
-ghost use Rattle.vipr_spec.specs.Steps.{with_more};
+ghost use Rattle.vipr_spec.specs.{Checking.start, Steps.with_more};
 ghost use Rattle.vipr_bytes.specs.Known.{IfKnown};
 ghost use Rattle.vipr_read.specs.Items.{Knows};
 ghost use Rattle.vipr_rules.specs.Profile.{profile_of};
-ghost use Rattle.vipr_write.specs.Canonical.{lines_text, solutions_lines};
-ghost use Rattle.vipr_write.specs.Steps.{AreKept};
+ghost use Rattle.vipr_write.specs.{Canonical.lines_text, Canonical.solutions_lines, Steps.AreKept};
 ghost use Rattle.vipr_check.specs.Run.{IsAmong, IsAt};
 ghost use Rattle.vipr_tighten.specs.Keeping.{found_by, AnswersProof, AnswersWhy, KeepsLines};
 ghost use Rattle.vipr_tighten.specs.Keeping.{KeepsMet, KeepsFinished, KeepsProof, KeepsSteps};

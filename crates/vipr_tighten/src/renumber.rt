@@ -2,11 +2,10 @@
 ghost use Rattle.std.specs.Prelude.{◌≡◌, ◌+◌, ◌<◌, ◌≤◌, ◌&&◌, nat_eq, OnOk, map, ◌∷◌, [], length};
 ghost use Rattle.std.specs.Prelude.{take, drop, slice_index_or};
 ghost use Rattle.std.specs.List.{list_any};
-ghost use Rattle.vipr_spec.specs.Certificate.{lin};
-ghost use Rattle.vipr_spec.specs.Reading.{is_nonzero, most_count};
 ghost use Rattle.vipr_spec.specs.Tightened.{include, refers_to, renumbered_entries};
-ghost use Rattle.vipr_spec.specs.Tightened.{renumbered_reason, with_new_indices};
-ghost use Rattle.vipr_spec.specs.Tightened.{kept_derivations, referred_by};
+ghost use Rattle.vipr_spec.specs.Tightened.{renumbered_reason, with_new_indices, kept_derivations};
+ghost use Rattle.vipr_spec.specs.Tightened.{referred_by};
+ghost use Rattle.vipr_spec.specs.{Certificate.lin, Reading.is_nonzero, Reading.most_count};
 ghost use Rattle.vipr_cert.specs.Items.{reason_of};
 ghost use Rattle.vipr_write.specs.StepReasons.{entry_of, kept_reason_of, kept_references_of};
 ghost use Rattle.vipr_tighten.specs.Passes.{NameEarlier, kept_by, index_by, TakesOver};

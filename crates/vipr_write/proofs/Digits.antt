@@ -1,9 +1,8 @@
 -- Whole numbers: two digits, and the sign
 use Rattle.std.proofs.Common.{◌≡◌, ℕ, ◌+◌, ◌/◌, ◌%◌, ◌<◌, ◌≤◌, ℤ, pos, negsuc, ◌<ℤ◌, ◌≤ℤ◌, [], ◌∷◌}
 use Rattle.std.proofs.Common.{◌++◌, append_assoc, unsigned_abs, refl, sym, ap, ◌∙◌, arith}
+use Rattle.std.proofs.{lemmas.Fmt.decimal_digit, lemmas.Fmt.decimal_step, lemmas.Int.ints}
 use Rattle.std.specs.Fmt.{decimal, signed_decimal}
-use Rattle.std.proofs.lemmas.Fmt.{decimal_digit, decimal_step}
-use Rattle.std.proofs.lemmas.Int.{ints}
 
 pub two_digits : (n : ℕ) → 10 ≤ n → n < 100
     → (48 + n / 10) ∷ (48 + n % 10) ∷ [] ≡ decimal n

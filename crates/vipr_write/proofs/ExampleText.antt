@@ -1,15 +1,11 @@
 -- The texts of the example
 use Rattle.std.proofs.Common.{◌≡◌, [], ◌∷◌, pos, negsuc}
-use Rattle.std.specs.Ordering.{nat_cmp}
-use Rattle.std.specs.Fmt.{digits}
 use Rattle.std.specs.FinMap.{entries, entries-from_sorted}
-use Rattle.std.specs.FinSet.{contains-from_list_nat}
-use Rattle.vipr_spec.specs.Gcd.{gcd}
-use Rattle.vipr_spec.specs.Fraction.{over, whole}
-use Rattle.vipr_write.specs.Canonical.{canonical_text}
-use Rattle.vipr_write.specs.Forms.{compact_text}
+use Rattle.std.specs.{FinSet.contains-from_list_nat, Fmt.digits, Ordering.nat_cmp}
+use Rattle.vipr_spec.specs.{Fraction.over, Fraction.whole, Gcd.gcd}
 use Rattle.vipr_write.specs.Example.{nothing, second, two_terms, sample, sample_text}
 use Rattle.vipr_write.specs.Example.{sample_compact}
+use Rattle.vipr_write.specs.{Canonical.canonical_text, Forms.compact_text}
 
 no_entries : entries nothing ≡ []
 unfolding nothing

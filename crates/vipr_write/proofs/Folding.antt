@@ -1,11 +1,9 @@
 -- A text with marks that grows
 use Rattle.std.proofs.Common.{◌≡◌, ℕ, ◌-◌, false, List, [], ◌∷◌, ◌++◌, length, sum, refl, sym, ap}
 use Rattle.std.proofs.Common.{◌∙◌, append_assoc, length-append, arith, Result, Ok, Err, OnOk, OnErr}
-use Rattle.std.proofs.lemmas.List.{append-nil}
-use Rattle.std.proofs.lemmas.List.Sums.{sum_by_push}
+use Rattle.std.proofs.{lemmas.List.append-nil, lemmas.List.Sums.sum_by_push}
 use Rattle.vipr_bytes.proofs.Laws.{grown}
-use Rattle.vipr_bytes.specs.Grown.{GrowsBy}
-use Rattle.vipr_bytes.specs.Puts.{Puts}
+use Rattle.vipr_bytes.specs.{Grown.GrowsBy, Puts.Puts}
 use Rattle.vipr_spec.specs.Constraint.{Row}
 use Rattle.vipr_write.specs.Folded.{IsFolded, IsIntact, KeepsOrEmpties, FoldsBy, Begun, begun}
 use Rattle.vipr_write.specs.Folded.{with_more_bytes, with_no_bytes, full}

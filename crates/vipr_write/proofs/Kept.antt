@@ -1,32 +1,27 @@
 -- Steps whose names and constraints are kept in a text that grows
-use Rattle.std.proofs.Common.{◌≡◌, ℕ, zero, suc, get_or, codes, IsTrue, ◌-◌, ◌<◌, ◌≤◌, Bool, true, false}
-use Rattle.std.proofs.Common.{◌&&◌, nat_lt, nat_le, cond, List, [], ◌∷◌, ◌++◌, length, map, take}
-use Rattle.std.proofs.Common.{drop, slice_index, slice_range, All, refl, sym, ap, ap₂, ◌∙◌}
+use Rattle.std.proofs.Common.{◌≡◌, ℕ, zero, suc, get_or, codes, IsTrue, ◌-◌, ◌<◌, ◌≤◌, Bool, true}
+use Rattle.std.proofs.Common.{false, ◌&&◌, nat_lt, nat_le, cond, List, [], ◌∷◌, ◌++◌, length, map}
+use Rattle.std.proofs.Common.{take, drop, slice_index, slice_range, All, refl, sym, ap, ap₂, ◌∙◌}
 use Rattle.std.proofs.Common.{append_assoc, length-append, lt-ltb, arith}
-use Rattle.std.specs.List.{flat_map}
-use Rattle.std.proofs.lemmas.Bool.Decides.{nat_tests}
 use Rattle.std.proofs.lemmas.List.{append-nil, take-append-le, drop-append-le, length-drop}
 use Rattle.std.proofs.lemmas.List.{get_or_push, map_push}
-use Rattle.std.proofs.Math.Seq.{take-length, drop-length}
 use Rattle.std.proofs.lemmas.List.Elements.{All-push, All-head, All-tail, All-nil, All-cons}
-use Rattle.vipr_spec.specs.Number.{number_text}
-use Rattle.vipr_spec.specs.Fraction.{zero_ℚ}
+use Rattle.std.proofs.{Math.Seq.take-length, Math.Seq.drop-length, lemmas.Bool.Decides.nat_tests}
+use Rattle.std.specs.List.{flat_map}
 use Rattle.vipr_spec.specs.Constraint.{Row, Constraint, equal}
-use Rattle.vipr_write.specs.Canonical.{sense_word, reason_words, last_word}
-use Rattle.vipr_write.specs.Canonical.{heading, words_after_spaces, line_text, lines_text}
 use Rattle.vipr_spec.specs.Certificate.{Problem, Derivation, Certificate}
-use Rattle.vipr_write.specs.StepReasons.{kept_reason_of}
+use Rattle.vipr_spec.specs.{Fraction.zero_ℚ, Number.number_text}
+use Rattle.vipr_write.specs.Canonical.{sense_word, reason_words, last_word, heading}
+use Rattle.vipr_write.specs.Canonical.{words_after_spaces, line_text, lines_text}
 use Rattle.vipr_write.specs.Forms.{row_words, constraint_words_in, derivation_words_in}
 use Rattle.vipr_write.specs.Forms.{problem_lines_in, derivations_lines_in, text_in}
-use Rattle.vipr_write.specs.Folded.{stated_words}
-use Rattle.vipr_write.specs.Lines.{words_text}
-use Rattle.vipr_write.specs.declared.form.Form.{Form}
 use Rattle.vipr_write.specs.declared.statements.Statement.{Statement}
 use Rattle.vipr_write.specs.declared.statements.Statements.{Statements}
-use Rattle.vipr_write.specs.declared.statements.Step.{Step}
 use Rattle.vipr_write.specs.Steps.{step_of, as_text, own_start, own_end, is_within, own_bytes}
-use Rattle.vipr_write.specs.Steps.{row_bytes, statement_in}
-use Rattle.vipr_write.specs.Steps.{SpellsRow, AreKept, AreStepsOf, step_line, steps_section}
+use Rattle.vipr_write.specs.Steps.{row_bytes, statement_in, SpellsRow, AreKept, AreStepsOf}
+use Rattle.vipr_write.specs.Steps.{step_line, steps_section}
+use Rattle.vipr_write.specs.{Folded.stated_words, Lines.words_text, StepReasons.kept_reason_of}
+use Rattle.vipr_write.specs.{declared.form.Form.Form, declared.statements.Step.Step}
 use Rattle.vipr_write.proofs.Parts.{certificate_parts, derivation_parts_in}
 
 both_true : (a b : Bool) → (a && b) ≡ true → (a ≡ true) × (b ≡ true)

@@ -1,11 +1,10 @@
 -- The tokens of lines are their words
-use Rattle.std.proofs.Common.{◌≡◌, ℕ, ◌+◌, ◌≤◌, false, List, [], ◌∷◌, ◌++◌, length}
-use Rattle.std.proofs.Common.{map, All, arith, refl, sym, ap, ◌∙◌, subst, append_assoc}
-use Rattle.std.specs.List.{flat_map}
-use Rattle.std.proofs.lemmas.List.{length-append}
+use Rattle.std.proofs.Common.{◌≡◌, ℕ, ◌+◌, ◌≤◌, false, List, [], ◌∷◌, ◌++◌, length, map, All, arith}
+use Rattle.std.proofs.Common.{refl, sym, ap, ◌∙◌, subst, append_assoc}
 use Rattle.std.proofs.lemmas.List.Elements.{All-head, All-tail}
 use Rattle.std.proofs.Math.Seq.{take-append_seam, drop-append_seam}
-use Rattle.std.proofs.Math.ListN.{get_or-append}
+use Rattle.std.proofs.{Math.ListN.get_or-append, lemmas.List.length-append}
+use Rattle.std.specs.List.{flat_map}
 use Rattle.vipr_spec.specs.Tokens.{Token, is_white, tokens_from, tokens_after_front, text_tokens}
 use Rattle.vipr_spec.specs.Tokens.{Begins, IsWhite, IsRun, IsToken}
 use Rattle.vipr_spec.proofs.Laws.{token_whole, all_parts, first_white}

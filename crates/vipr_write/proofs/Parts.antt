@@ -1,19 +1,14 @@
 -- Numbers, lines and sections in the parts in which they are appended
 use Rattle.std.proofs.Common.{◌≡◌, ℕ, ℤ, Bool, if◌then◌else◌, List, [], ◌∷◌, ◌++◌, length, map}
 use Rattle.std.proofs.Common.{append_assoc, sym, ap, ◌∙◌}
-use Rattle.std.specs.Prelude.{codes}
-use Rattle.std.specs.List.{flat_map}
-use Rattle.std.specs.Fmt.{decimal, signed_decimal}
 use Rattle.std.proofs.lemmas.Bool.{eq-eqb, ne_eqb}
 use Rattle.std.proofs.lemmas.List.{append-nil, length-map}
-use Rattle.std.proofs.lemmas.List.Folds.{flat_map-map}
-use Rattle.std.proofs.lemmas.Grind.{flat_map-append}
-use Rattle.vipr_spec.specs.Constraint.{Row}
+use Rattle.std.proofs.{lemmas.Grind.flat_map-append, lemmas.List.Folds.flat_map-map}
+use Rattle.std.specs.{Fmt.decimal, Fmt.signed_decimal, List.flat_map, Prelude.codes}
 use Rattle.vipr_spec.specs.Certificate.{Problem, integer_variables, Derivation, Certificate}
-use Rattle.vipr_spec.specs.Number.{number_text}
-use Rattle.vipr_write.specs.Canonical.{sense_word, reason_words, last_word}
-use Rattle.vipr_write.specs.Canonical.{direction_word, vector_words}
-use Rattle.vipr_write.specs.Canonical.{claim_words, variables_lines, solutions_lines}
+use Rattle.vipr_spec.specs.{Constraint.Row, Number.number_text}
+use Rattle.vipr_write.specs.Canonical.{sense_word, reason_words, last_word, direction_word}
+use Rattle.vipr_write.specs.Canonical.{vector_words, claim_words, variables_lines, solutions_lines}
 use Rattle.vipr_write.specs.Canonical.{words_after_spaces, heading, line_text, lines_text}
 use Rattle.vipr_write.specs.Forms.{row_words, constraint_words_in, derivation_words_in}
 use Rattle.vipr_write.specs.Forms.{given_words_in, problem_lines_in, derivations_lines_in}

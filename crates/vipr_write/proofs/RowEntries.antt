@@ -2,24 +2,20 @@
 use Rattle.std.proofs.Common.{◌≡◌, ◌≢◌, ℕ, zero, suc, ◌+◌, ◌-◌, ◌<◌, ◌≤◌, inl, inr, Bool, true}
 use Rattle.std.proofs.Common.{false, not, cond, ◌&&◌, nat_eq, List, [], ◌∷◌, length, map, filter}
 use Rattle.std.proofs.Common.{All, unwrap_or, T, pos, arith, refl, sym, ap, ◌∙◌}
-use Rattle.std.specs.List.{IsDistinct, AllByRecursion, list_any, range_with_len}
-use Rattle.std.specs.Ordering.{nat_cmp, int_eq, eq_by_cmp}
-use Rattle.std.specs.Cmp.{nat_cmp_total}
-use Rattle.std.specs.FinMap.{entries, entries_sorted, find, is_sorted, get-entries}
-use Rattle.std.specs.FinMap.{get-from_entries, same_map, nat_cmp-IsAntisymmetric}
-use Rattle.std.specs.FinMap.Entries.{below_all}
-use Rattle.std.specs.FinSet.{contains, from_list, contains-from_list, same_set}
-use Rattle.std.proofs.lemmas.Bool.{cases_lt}
 use Rattle.std.proofs.lemmas.Bool.Decides.{nat_tests, Decides-int_eq}
-use Rattle.std.proofs.lemmas.Int.{ints}
-use Rattle.std.proofs.lemmas.List.{length-map}
 use Rattle.std.proofs.lemmas.List.Elements.{All-nil, All-cons, All-head, All-tail, All-filter}
 use Rattle.std.proofs.lemmas.List.FromFn.{length-range_with_len, get_or-range_with_len}
 use Rattle.std.proofs.lemmas.Map.Views.{any-filter_same}
-use Rattle.vipr_spec.specs.Fraction.{ℚ, zero_ℚ}
+use Rattle.std.proofs.{lemmas.Bool.cases_lt, lemmas.Int.ints, lemmas.List.length-map}
+use Rattle.std.specs.List.{IsDistinct, AllByRecursion, list_any, range_with_len}
+use Rattle.std.specs.Ordering.{nat_cmp, int_eq, eq_by_cmp}
+use Rattle.std.specs.FinMap.{entries, entries_sorted, find, is_sorted, get-entries}
+use Rattle.std.specs.FinMap.{get-from_entries, same_map, nat_cmp-IsAntisymmetric}
+use Rattle.std.specs.FinSet.{contains, from_list, contains-from_list, same_set}
+use Rattle.std.specs.{Cmp.nat_cmp_total, FinMap.Entries.below_all}
 use Rattle.vipr_spec.specs.Constraint.{Row, at, IsInteger, NamesBelow}
 use Rattle.vipr_spec.specs.Certificate.{Problem, variables, integer_variables}
-use Rattle.vipr_spec.specs.Reading.{is_nonzero, row_of}
+use Rattle.vipr_spec.specs.{Fraction.ℚ, Fraction.zero_ℚ, Reading.is_nonzero, Reading.row_of}
 use Rattle.vipr_spec.proofs.Laws.{is_same, is_self, is_zero}
 
 -- ---- numbers that rise

@@ -1,9 +1,8 @@
 -- Rows that have the same entries
 use Rattle.std.proofs.Common.{◌≡◌, ◌↔◌, Bool, true, false, ◌&&◌, nat_lt, length, refl, sym}
 use Rattle.std.proofs.Common.{ap, ◌∙◌, IsTrue}
-use Rattle.std.specs.Cmp.{nat_cmp_total}
-use Rattle.std.specs.Ordering.{nat_cmp}
 use Rattle.std.specs.FinMap.{entries, find, get-entries, same_map, nat_cmp-IsAntisymmetric}
+use Rattle.std.specs.{Cmp.nat_cmp_total, Ordering.nat_cmp}
 use Rattle.std.proofs.lemmas.Slice.Eq.{slice_eq-Decides}
 use Rattle.vipr_spec.specs.Constraint.{Row}
 use Rattle.vipr_linear.proofs.Laws.{same_entry}

@@ -1,12 +1,10 @@
 -- What is spelled as a number is bounded
-use Rattle.std.proofs.Common.{◌≡◌, ℕ, zero, suc, ◌<◌, ◌≤◌, Bool, true, false, List}
-use Rattle.std.proofs.Common.{ℤ, nat_abs, arith, refl, sym, subst}
-use Rattle.std.proofs.lemmas.Int.{ints}
-use Rattle.std.proofs.Math.Nat.{div-le_self, le_trans}
-use Rattle.vipr_spec.specs.Gcd.{gcd}
-use Rattle.vipr_spec.specs.Lowest.{abs_div}
+use Rattle.std.proofs.Common.{◌≡◌, ℕ, zero, suc, ◌<◌, ◌≤◌, Bool, true, false, List, ℤ, nat_abs}
+use Rattle.std.proofs.Common.{arith, refl, sym, subst}
+use Rattle.std.proofs.{Math.Nat.div-le_self, Math.Nat.le_trans, lemmas.Int.ints}
 use Rattle.vipr_spec.specs.Fraction.{ℚ, over, most, IsBounded}
 use Rattle.vipr_spec.specs.Number.{signed_integer, denominator, SpellsNumber}
+use Rattle.vipr_spec.specs.{Gcd.gcd, Lowest.abs_div}
 
 -- reduction keeps the bound
 over_bounded : (p : ℤ) (q : ℕ) → 0 < q → nat_abs p ≤ most → q ≤ most → IsBounded (over p q)

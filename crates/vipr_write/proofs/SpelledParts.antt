@@ -2,25 +2,21 @@
 use Rattle.std.proofs.Common.{◌≡◌, ℕ, ◌+◌, ◌<◌, ◌≤◌, inl, inr, ⊎_elim, Bool, true, false}
 use Rattle.std.proofs.Common.{if◌then◌else◌, List, [], ◌∷◌, ◌++◌, length, All, Option, Some, None}
 use Rattle.std.proofs.Common.{IfSome, codes, arith, refl, sym, ap₂, ◌∙◌, subst, append_assoc, append-nil}
-use Rattle.std.specs.List.{flat_map}
-use Rattle.std.specs.Fmt.{decimal}
-use Rattle.std.specs.FinMap.{entries}
+use Rattle.std.specs.{FinMap.entries, Fmt.decimal, List.flat_map}
 use Rattle.std.proofs.lemmas.Grind.{flat_map-append}
 use Rattle.std.proofs.lemmas.List.Folds.{flat_map-map}
-use Rattle.vipr_spec.specs.Fraction.{ℚ, IsBounded}
 use Rattle.vipr_spec.specs.Number.{SpellsNumber, number_text}
 use Rattle.vipr_spec.specs.Constraint.{Sense, at_most, equal, at_least, Row, Ints, at, IsInteger}
 use Rattle.vipr_spec.specs.Constraint.{Constraint, NamesBelow}
 use Rattle.vipr_spec.specs.Certificate.{Name, Named, Direction, minimum, maximum, Claim, infeasible}
 use Rattle.vipr_spec.specs.Certificate.{range, Problem, variables, integer_variables, Reason, asm}
 use Rattle.vipr_spec.specs.Certificate.{lin, rnd, uns, sol, Derivation, Certificate}
-use Rattle.vipr_spec.specs.Tokens.{IsToken}
-use Rattle.vipr_spec.specs.Reading.{most_count}
 use Rattle.vipr_spec.specs.Shape.{ReasonShape, DerivationShape, RowFits, ConstraintFits, ClaimFits}
 use Rattle.vipr_spec.specs.Shape.{EntryFits, ReasonFits, DerivationFits, CanWriteProblem, CanWrite}
-use Rattle.vipr_spec.specs.Grammar as grammar
 use Rattle.vipr_spec.specs.Grammar.{SpellsCount, SpellsVariable, SpellsSense, SpellsDirection}
 use Rattle.vipr_spec.specs.Grammar.{SpellsBound, SpellsLast, word, one, ◌then◌, each}
+use Rattle.vipr_spec.specs.{Fraction.ℚ, Fraction.IsBounded, Reading.most_count, Tokens.IsToken}
+use Rattle.vipr_spec.specs.Grammar as grammar
 use Rattle.vipr_spec.proofs.Laws.{text_spelled, row_below, set_below}
 use Rattle.vipr_write.specs.Canonical.{pair_words, vector_words, sense_word, direction_word}
 use Rattle.vipr_write.specs.Canonical.{bound_word, last_word, claim_words, solution_words}
@@ -30,15 +26,13 @@ use Rattle.vipr_write.specs.Forms.{derivation_words_in, problem_lines_in, deriva
 use Rattle.vipr_write.specs.Forms.{certificate_lines_in}
 use Rattle.vipr_write.specs.declared.form.Form.{Form}
 use Rattle.vipr_write.specs.declared.form.Form.TheVariants.{Canonical, Compact}
-use Rattle.vipr_write.proofs.SameRows.{objective_is}
-use Rattle.vipr_write.proofs.LineTokens.{words_of}
 use Rattle.vipr_write.proofs.RowEntries.{row_entries, set_members}
 use Rattle.vipr_write.proofs.SpelledNumbers.{number_bounded}
-use Rattle.vipr_write.proofs.SpelledRows.{row_fits}
 use Rattle.vipr_write.proofs.WordTokens.{plain_token, decimal_token, decimal_natural, number_token}
 use Rattle.vipr_write.proofs.Spelling.{Written, Spelling, one_part, word_part, fixed_part}
 use Rattle.vipr_write.proofs.Spelling.{count_part, as_part, with_part, then_part, behind, each_part}
 use Rattle.vipr_write.proofs.Spelling.{counted_part}
+use Rattle.vipr_write.proofs.{LineTokens.words_of, SameRows.objective_is, SpelledRows.row_fits}
 
 -- ---- one token
 

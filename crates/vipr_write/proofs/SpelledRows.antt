@@ -3,15 +3,12 @@ use Rattle.std.proofs.Common.{◌≡◌, ◌≢◌, ℕ, Bool, true, false, cond
 use Rattle.std.proofs.Common.{refl, sym, ◌∙◌, subst}
 use Rattle.std.proofs.lemmas.List.{nil_from_length}
 use Rattle.std.proofs.lemmas.List.Elements.{All-nil, All-cons, All-head, All-tail}
-use Rattle.std.specs.Cmp.{nat_cmp_total}
 use Rattle.std.specs.declared.cmp.Ordering.TheVariants.{Less, Equal, Greater}
 use Rattle.std.specs.FinMap.{entries, empty, from_entries, put, entries-insert, len-entries}
 use Rattle.std.specs.FinMap.{len-empty}
-use Rattle.std.specs.FinMap.Entries.{by_order}
-use Rattle.std.specs.Ordering.{nat_cmp}
+use Rattle.std.specs.{Cmp.nat_cmp_total, FinMap.Entries.by_order, Ordering.nat_cmp}
 use Rattle.vipr_spec.specs.Fraction.{ℚ, zero_ℚ, IsBounded}
-use Rattle.vipr_spec.specs.Reading.{is_nonzero, row_of}
-use Rattle.vipr_spec.specs.Shape.{RowFits}
+use Rattle.vipr_spec.specs.{Reading.is_nonzero, Reading.row_of, Shape.RowFits}
 use Rattle.vipr_spec.proofs.Laws.{not_zero}
 
 -- ---- the coefficients

@@ -1,11 +1,9 @@
 -- What spells a part of a certificate: its words, within its limits, and nothing beyond them
 use Rattle.std.proofs.Common.{ℕ, ◌≤◌, List, [], ◌∷◌, ◌++◌, length, All, refl, subst}
-use Rattle.std.specs.List.{flat_map}
-use Rattle.std.specs.Fmt.{decimal}
+use Rattle.std.specs.{Fmt.decimal, List.flat_map}
 use Rattle.std.proofs.lemmas.List.Elements.{All-nil, All-cons, All-append, All-head, All-tail}
-use Rattle.vipr_spec.specs.Tokens.{IsToken}
-use Rattle.vipr_spec.specs.Reading.{most_count}
 use Rattle.vipr_spec.specs.Grammar.{SpellsCount, word, one, ◌then◌, each}
+use Rattle.vipr_spec.specs.{Reading.most_count, Tokens.IsToken}
 use Rattle.vipr_spec.proofs.Laws.{all_parts}
 use Rattle.vipr_write.proofs.WordTokens.{IsPlain, plain_token, decimal_token, decimal_natural}
 

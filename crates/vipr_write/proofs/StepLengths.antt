@@ -1,31 +1,25 @@
 -- A text of few words and bytes is short
-use Rattle.std.proofs.Common.{◌≡◌, ℕ, ◌+◌, ◌*◌, ◌^◌, ◌<◌, ◌≤◌, List, [], ◌∷◌, ◌++◌, length}
-use Rattle.std.proofs.Common.{map, All, codes, sym, ap, ◌∙◌, subst, arith}
-use Rattle.std.specs.List.{flat_map, sum_by}
-use Rattle.std.proofs.lemmas.Grind.{flat_map-append}
+use Rattle.std.proofs.Common.{◌≡◌, ℕ, ◌+◌, ◌*◌, ◌^◌, ◌<◌, ◌≤◌, List, [], ◌∷◌, ◌++◌, length, map}
+use Rattle.std.proofs.Common.{All, codes, sym, ap, ◌∙◌, subst, arith}
 use Rattle.std.proofs.lemmas.List.{length-append, length-map}
-use Rattle.std.proofs.lemmas.List.Sums.{sum_by-cons}
 use Rattle.std.proofs.lemmas.List.Elements.{All-head, All-tail}
-use Rattle.vipr_spec.specs.Tokens.{IsToken}
-use Rattle.vipr_spec.specs.Constraint.{Row}
+use Rattle.std.proofs.{lemmas.Grind.flat_map-append, lemmas.List.Sums.sum_by-cons}
+use Rattle.std.specs.List.{flat_map, sum_by}
 use Rattle.vipr_spec.specs.Certificate.{Problem, Derivation, Certificate}
+use Rattle.vipr_spec.specs.{Constraint.Row, Tokens.IsToken}
 use Rattle.vipr_spec.proofs.Laws.{all_parts}
-use Rattle.vipr_write.specs.StepReasons.{kept_reason_of}
-use Rattle.vipr_write.specs.Canonical.{reason_words, last_word, solutions_lines}
-use Rattle.vipr_write.specs.Canonical.{heading, problem_lines, words_after_spaces, line_text}
-use Rattle.vipr_write.specs.Canonical.{lines_text}
+use Rattle.vipr_write.specs.Canonical.{reason_words, last_word, solutions_lines, heading}
+use Rattle.vipr_write.specs.Canonical.{problem_lines, words_after_spaces, line_text, lines_text}
 use Rattle.vipr_write.specs.Forms.{constraint_words_in, derivation_words_in, problem_lines_in}
 use Rattle.vipr_write.specs.Forms.{derivations_lines_in, text_in}
-use Rattle.vipr_write.specs.Weight.{weight}
-use Rattle.vipr_write.specs.declared.form.Form.{Form}
 use Rattle.vipr_write.specs.declared.statements.Statements.{Statements}
 use Rattle.vipr_write.specs.declared.statements.Step.{Step}
 use Rattle.vipr_write.specs.Steps.{step_of, as_text, own_bytes, row_bytes, statement_in, AreStepsOf}
 use Rattle.vipr_write.specs.Steps.{step_line, steps_section, step_weight}
-use Rattle.vipr_write.proofs.LineTokens.{words_of}
-use Rattle.vipr_write.proofs.WholeText.{tokens_all}
+use Rattle.vipr_write.specs.{StepReasons.kept_reason_of, Weight.weight, declared.form.Form.Form}
 use Rattle.vipr_write.proofs.Weighing.{spaced_short, line_short, lines_short, problem_fewer}
 use Rattle.vipr_write.proofs.Kept.{first_of, rest_of, steps_are}
+use Rattle.vipr_write.proofs.{LineTokens.words_of, WholeText.tokens_all}
 
 -- the words of a reason and the one behind it are tokens
 reason_tokens : (form : Form) (objective : Row) (d : Derivation)

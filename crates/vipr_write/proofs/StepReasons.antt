@@ -1,17 +1,13 @@
 -- Short entries
 use Rattle.std.proofs.Common.{◌≡◌, ℕ, suc, ◌+◌, ◌*◌, ◌<◌, ℤ, pos, Bool, List, [], ◌∷◌, ◌++◌, map, take}
 use Rattle.std.proofs.Common.{length, get_or, arith, sym, ap, ap₂, ◌∙◌}
-use Rattle.std.specs.Ordering.{int_eq}
-use Rattle.std.specs.Fmt.{decimal}
+use Rattle.std.specs.{Fmt.decimal, Ordering.int_eq}
 use Rattle.std.proofs.lemmas.List.{append-nil, length-map, map_push, take_more}
-use Rattle.vipr_spec.specs.Fraction.{ℚ, over}
-use Rattle.vipr_spec.specs.Number.{number_text}
-use Rattle.vipr_spec.specs.Certificate.{by_entries}
+use Rattle.vipr_spec.specs.{Certificate.by_entries, Fraction.ℚ, Fraction.over, Number.number_text}
 use Rattle.vipr_spec.proofs.Laws.{is_one, is_over, is_self, parts_of}
 use Rattle.vipr_write.specs.Canonical.{pair_words, reference_words, words_after_spaces}
-use Rattle.vipr_write.specs.Lines.{parts_text}
-use Rattle.vipr_write.specs.declared.short_entry.ShortEntry.{ShortEntry}
 use Rattle.vipr_write.specs.StepReasons.{multiplier_of, entry_of}
+use Rattle.vipr_write.specs.{Lines.parts_text, declared.short_entry.ShortEntry.ShortEntry}
 use Rattle.vipr_write.proofs.Weighing.{pairs_length}
 
 over_self : (x : ℚ) → over x.numer x.denom ≡ x

@@ -2,18 +2,14 @@
 use Rattle.std.proofs.Common.{◌≡◌, ℕ, suc, ◌+◌, ◌*◌, ◌^◌, ◌<◌, ◌≤◌, List, [], ◌∷◌, ◌++◌, length}
 use Rattle.std.proofs.Common.{map, take, get_or, All, refl, sym, ap, ◌∙◌, arith}
 use Rattle.std.specs.Prelude.{codes, Bool, true, false, if◌then◌else◌}
-use Rattle.std.specs.List.{flat_map, sum_by}
-use Rattle.std.specs.FinMap.{entries}
-use Rattle.std.specs.Fmt.{decimal}
+use Rattle.std.specs.{FinMap.entries, Fmt.decimal, List.flat_map, List.sum_by}
 use Rattle.std.proofs.lemmas.List.{length-append, take_all, take_more}
 use Rattle.std.proofs.lemmas.List.Sums.{sum_by-append, sum_by-cons}
 use Rattle.std.proofs.lemmas.List.Elements.{All-head, All-tail}
-use Rattle.vipr_spec.specs.Fraction.{ℚ}
-use Rattle.vipr_spec.specs.Tokens.{IsToken}
 use Rattle.vipr_spec.specs.Constraint.{Row, Constraint}
 use Rattle.vipr_spec.specs.Certificate.{Name, Named, Claim, Derivation, Certificate, Problem}
 use Rattle.vipr_spec.specs.Certificate.{integer_variables}
-use Rattle.vipr_spec.specs.Shape.{CanWrite}
+use Rattle.vipr_spec.specs.{Fraction.ℚ, Shape.CanWrite, Tokens.IsToken}
 use Rattle.vipr_spec.proofs.Laws.{all_parts}
 use Rattle.vipr_write.specs.Canonical.{pair_words, constraint_words, given_words, claim_words}
 use Rattle.vipr_write.specs.Canonical.{solution_words, reason_words, derivation_words, last_word}
@@ -23,12 +19,10 @@ use Rattle.vipr_write.specs.Canonical.{words_after_spaces, line_text, lines_text
 use Rattle.vipr_write.specs.Forms.{is_objective, row_words, constraint_words_in, given_words_in}
 use Rattle.vipr_write.specs.Forms.{derivation_words_in, problem_lines_in, derivations_lines_in}
 use Rattle.vipr_write.specs.Forms.{certificate_lines_in, text_in}
-use Rattle.vipr_write.specs.declared.form.Form.{Form}
 use Rattle.vipr_write.specs.declared.form.Form.TheVariants.{Canonical, Compact}
+use Rattle.vipr_write.specs.{Weight.weight, declared.form.Form.Form}
 use Rattle.vipr_bytes.specs.Hands.{counted}
-use Rattle.vipr_write.specs.Weight.{weight}
-use Rattle.vipr_write.proofs.LineTokens.{words_of}
-use Rattle.vipr_write.proofs.WholeText.{tokens_all}
+use Rattle.vipr_write.proofs.{LineTokens.words_of, WholeText.tokens_all}
 
 -- ---- how long a text is
 pub spaced_short : (ws : List (List ℕ)) → All IsToken ws

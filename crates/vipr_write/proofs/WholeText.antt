@@ -1,14 +1,11 @@
 -- The text of a certificate spells it, in either form
 use Rattle.std.proofs.Common.{◌≡◌, All, sym, ap, ◌∙◌, subst}
-use Rattle.vipr_spec.specs.Certificate.{Certificate}
-use Rattle.vipr_spec.specs.Tokens.{IsToken, text_tokens}
-use Rattle.vipr_spec.specs.Grammar.{SpelledBy, Spells, SpellsOnly}
-use Rattle.vipr_spec.specs.Shape.{CanWrite}
+use Rattle.vipr_spec.specs.{Certificate.Certificate, Grammar.SpelledBy, Grammar.Spells}
+use Rattle.vipr_spec.specs.{Grammar.SpellsOnly, Shape.CanWrite, Tokens.IsToken, Tokens.text_tokens}
 use Rattle.vipr_spec.proofs.Laws.{one_certificate}
-use Rattle.vipr_write.specs.Forms.{certificate_lines_in, text_in}
 use Rattle.vipr_write.specs.Laws.{SpellsItself, CompactSpellsItself}
-use Rattle.vipr_write.specs.declared.form.Form.{Form}
 use Rattle.vipr_write.specs.declared.form.Form.TheVariants.{Canonical, Compact}
+use Rattle.vipr_write.specs.{Forms.certificate_lines_in, Forms.text_in, declared.form.Form.Form}
 use Rattle.vipr_write.proofs.LineTokens.{bytes_of, words_of, lines_tokens, no_front}
 use Rattle.vipr_write.proofs.Spelling.{Written}
 use Rattle.vipr_write.proofs.SpelledParts.{Sections, certificate_part}

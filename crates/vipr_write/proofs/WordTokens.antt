@@ -2,19 +2,14 @@
 use Rattle.std.proofs.Common.{◌≡◌, ℕ, ◌<◌, ◌≤◌, inl, inr, Bool, true, false, ◌&&◌, nat_lt, nat_le}
 use Rattle.std.proofs.Common.{List, [], ◌∷◌, ◌++◌, length, All, Option, Some, None, IfSome, arith}
 use Rattle.std.proofs.Common.{refl, sym, subst}
-use Rattle.std.specs.List.{list_all}
-use Rattle.std.specs.Char.{digit_value}
-use Rattle.std.specs.Fmt.{decimal}
-use Rattle.std.specs.Str.Parse.{AllDigits, IsNumeral}
-use Rattle.std.proofs.lemmas.Bool.Decides.{nat_tests}
 use Rattle.std.proofs.lemmas.Fmt.{decimal_is_IsNumeral, length-decimal-le}
-use Rattle.std.proofs.lemmas.List.{length-append}
 use Rattle.std.proofs.lemmas.List.Elements.{All-nil, All-cons, All-append}
-use Rattle.vipr_spec.specs.Fraction.{ℚ, IsBounded}
+use Rattle.std.proofs.{lemmas.Bool.Decides.nat_tests, lemmas.List.length-append}
+use Rattle.std.specs.Str.Parse.{AllDigits, IsNumeral}
+use Rattle.std.specs.{Char.digit_value, Fmt.decimal, List.list_all}
 use Rattle.vipr_spec.specs.Number.{IsSign, under, SpellsNumber, number_text}
-use Rattle.vipr_spec.specs.Tokens.{is_white, IsToken}
-use Rattle.vipr_spec.specs.Reading.{most_count}
-use Rattle.vipr_spec.specs.Grammar.{SpellsNatural}
+use Rattle.vipr_spec.specs.{Fraction.ℚ, Fraction.IsBounded, Grammar.SpellsNatural}
+use Rattle.vipr_spec.specs.{Reading.most_count, Tokens.is_white, Tokens.IsToken}
 use Rattle.vipr_spec.proofs.Laws.{text_spelled, text_short}
 
 -- ---- tokens

@@ -4,9 +4,8 @@ use Rattle.std.specs.Coded.{Coded, code_by, coded×, coded_ℕ, coded_bool, code
 use Rattle.std.proofs.Common.{ap}
 use Rattle.vipr_spec.specs.Constraint.{Row}
 use Rattle.vipr_cert.specs.Codes.{row_code}
-use Rattle.vipr_write.specs.Folded.{Begun}
-use Rattle.vipr_write.specs.declared.form.Form.{Form}
 use Rattle.vipr_write.specs.declared.form.Form.TheVariants.{Canonical, Compact}
+use Rattle.vipr_write.specs.{Folded.Begun, declared.form.Form.Form}
 
 abbrev is_compact : Form → Bool
 is_compact Canonical = false

@@ -2,15 +2,13 @@
 -- a line feed at the end
 use Rattle.std.specs.Prelude.{ℕ, List, [], ◌∷◌, ◌++◌, length, map, flat_map, Option, Some, None}
 use Rattle.std.specs.Prelude.{codes}
-use Rattle.std.specs.FinMap.{entries}
-use Rattle.std.specs.Fmt.{decimal}
-use Rattle.vipr_spec.specs.Fraction.{ℚ}
-use Rattle.vipr_spec.specs.Number.{number_text}
+use Rattle.std.specs.{FinMap.entries, Fmt.decimal}
 use Rattle.vipr_spec.specs.Constraint.{Sense, at_most, equal, at_least, Row, Constraint}
 use Rattle.vipr_spec.specs.Certificate.{Name, Named, Direction, minimum, maximum, Claim, infeasible}
 use Rattle.vipr_spec.specs.Certificate.{range, Problem, variables, integer_variables, Reason}
 use Rattle.vipr_spec.specs.Certificate.{References, no_references, by_entries, by_branches}
 use Rattle.vipr_spec.specs.Certificate.{reason_references, Derivation, Certificate}
+use Rattle.vipr_spec.specs.{Fraction.ℚ, Number.number_text}
 use Rattle.vipr_cert.specs.Reasons.{reason_word}
 
 -- ---- words

@@ -1,7 +1,6 @@
 -- A certificate with each kind of line, and its texts
 use Rattle.std.specs.Prelude.{ℕ, List, [], ◌∷◌, None, Some, codes, pos, negsuc}
-use Rattle.std.specs.FinMap.{from_sorted}
-use Rattle.std.specs.FinSet.{from_list}
+use Rattle.std.specs.{FinMap.from_sorted, FinSet.from_list}
 use Rattle.vipr_spec.specs.Fraction.{over, whole}
 use Rattle.vipr_spec.specs.Constraint.{at_most, equal, at_least, Row}
 use Rattle.vipr_spec.specs.Certificate.{maximum, range, asm, lin, rnd, uns, sol, Certificate}

@@ -2,14 +2,10 @@
 -- copies
 use Rattle.std.specs.Prelude.{◌≡◌, ℕ, ◌≤◌, false, List, [], ◌∷◌, ◌++◌, length, take, drop, sum}
 use Rattle.std.specs.Prelude.{Result, OnOk, OnErr}
-use Rattle.vipr_spec.specs.Number.{number_text}
 use Rattle.vipr_spec.specs.Constraint.{Row, Constraint}
-use Rattle.vipr_spec.specs.Certificate.{Name}
-use Rattle.vipr_write.specs.Canonical.{sense_word}
-use Rattle.vipr_write.specs.Canonical.{words_after_spaces}
-use Rattle.vipr_write.specs.Forms.{row_words}
-use Rattle.vipr_write.specs.declared.folded.Folded.{Folded}
-use Rattle.vipr_write.specs.declared.form.Form.{Form}
+use Rattle.vipr_spec.specs.{Certificate.Name, Number.number_text}
+use Rattle.vipr_write.specs.{Canonical.sense_word, Canonical.words_after_spaces, Forms.row_words}
+use Rattle.vipr_write.specs.{declared.folded.Folded.Folded, declared.form.Form.Form}
 
 -- The text with the part at each mark. A mark follows so many bytes of the text after the one
 -- before it.

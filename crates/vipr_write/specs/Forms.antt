@@ -2,14 +2,10 @@
 -- constraint or a derivation that is the objective's; an empty row is 0 in both
 use Rattle.std.specs.Prelude.{ℕ, ◌&&◌, Bool, nat_eq, nat_lt, if◌then◌else◌, List, [], ◌∷◌, ◌++◌}
 use Rattle.std.specs.Prelude.{length, map, codes}
-use Rattle.std.specs.Cmp.Lexicographic.{pointwise}
-use Rattle.std.specs.FinMap.{entries}
-use Rattle.std.specs.Fmt.{decimal}
-use Rattle.vipr_spec.specs.Fraction.{ℚ}
-use Rattle.vipr_spec.specs.FractionOrder.{eq_ℚ}
-use Rattle.vipr_spec.specs.Number.{number_text}
+use Rattle.std.specs.{Cmp.Lexicographic.pointwise, FinMap.entries, Fmt.decimal}
 use Rattle.vipr_spec.specs.Constraint.{Row, Constraint}
 use Rattle.vipr_spec.specs.Certificate.{Name, Named, Problem, Derivation, Certificate}
+use Rattle.vipr_spec.specs.{Fraction.ℚ, FractionOrder.eq_ℚ, Number.number_text}
 use Rattle.vipr_write.specs.Canonical.{vector_words, sense_word, reason_words, last_word}
 use Rattle.vipr_write.specs.Canonical.{direction_word, claim_words, variables_lines, heading}
 use Rattle.vipr_write.specs.Canonical.{solutions_lines, lines_text}

@@ -1,11 +1,9 @@
 -- What the canonical text of a certificate spells, and the compact one
 use Rattle.std.specs.Prelude.{List, ℕ, ◌≡◌}
-use Rattle.vipr_spec.specs.Certificate.{Certificate}
 use Rattle.vipr_spec.specs.Grammar.{Spells, SpellsOnly}
-use Rattle.vipr_spec.specs.Shape.{CanWrite}
-use Rattle.vipr_write.specs.Canonical.{canonical_text}
-use Rattle.vipr_write.specs.Forms.{text_in, compact_text}
+use Rattle.vipr_spec.specs.{Certificate.Certificate, Shape.CanWrite}
 use Rattle.vipr_write.specs.declared.form.Form.TheVariants.{Canonical}
+use Rattle.vipr_write.specs.{Canonical.canonical_text, Forms.text_in, Forms.compact_text}
 
 abbrev pub SpellsItself : Type 0
 SpellsItself = (c : Certificate) → CanWrite c → SpellsOnly (canonical_text c) c

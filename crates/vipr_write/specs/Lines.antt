@@ -1,11 +1,9 @@
 -- Parts of the canonical text
 use Rattle.std.specs.Prelude.{ℕ, ℤ, ◌==◌, if◌then◌else◌, List, [], ◌∷◌, ◌++◌, length, map, codes}
 use Rattle.std.specs.Fmt.{decimal, signed_decimal}
-use Rattle.vipr_spec.specs.Constraint.{Row, Constraint}
-use Rattle.vipr_spec.specs.Certificate.{Named}
+use Rattle.vipr_spec.specs.{Certificate.Named, Constraint.Row, Constraint.Constraint}
 use Rattle.vipr_write.specs.Canonical.{heading, words_after_spaces}
-use Rattle.vipr_write.specs.Forms.{given_words_in}
-use Rattle.vipr_write.specs.declared.form.Form.{Form}
+use Rattle.vipr_write.specs.{Forms.given_words_in, declared.form.Form.Form}
 
 -- the text of a number of these parts
 abbrev pub parts_text : ℤ → ℕ → List ℕ

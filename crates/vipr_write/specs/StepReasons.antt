@@ -1,11 +1,9 @@
 -- Reasons of steps as those of the definitions
-use Rattle.std.specs.Prelude.{◌≡◌, ℕ, ◌^◌, ◌<◌, List, ◌∷◌, [], map, length, All}
-use Rattle.std.specs.Prelude.{FitsSigned, ⊤}
+use Rattle.std.specs.Prelude.{◌≡◌, ℕ, ◌^◌, ◌<◌, List, ◌∷◌, [], map, length, All, FitsSigned, ⊤}
 use Rattle.std.specs.Int.{w32}
 use Rattle.vipr_spec.specs.Fraction.{ℚ, over}
 use Rattle.vipr_spec.specs.Certificate as is
-use Rattle.vipr_cert.specs.Items.{reason_of}
-use Rattle.vipr_cert.specs.Reasons.{references_of}
+use Rattle.vipr_cert.specs.{Items.reason_of, Reasons.references_of}
 use Rattle.vipr_write.specs.declared.short_entry.ShortEntry.{ShortEntry}
 use Rattle.vipr_write.specs.declared.step_reason.StepReason.{StepReason}
 use Rattle.vipr_write.specs.declared.step_reason.StepReason.TheVariants.{Asm, Empty, One, Lin}

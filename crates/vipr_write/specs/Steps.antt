@@ -2,19 +2,15 @@
 use Rattle.std.specs.Prelude.{◌≡◌, ℕ, ◌+◌, Bool, true, ◌&&◌, nat_lt, nat_le, cond, List, [], ◌++◌}
 use Rattle.std.specs.Prelude.{◌∷◌, map, length, slice_index, slice_range, All, codes}
 use Rattle.std.specs.List.{flat_map}
-use Rattle.vipr_spec.specs.Fraction.{zero_ℚ}
 use Rattle.vipr_spec.specs.Constraint.{Row, Constraint, equal}
 use Rattle.vipr_spec.specs.Certificate.{Named, Problem, Derivation, Certificate}
-use Rattle.vipr_spec.specs.Shape.{CanWrite}
-use Rattle.vipr_write.specs.StepReasons.{kept_reason_of}
+use Rattle.vipr_spec.specs.{Fraction.zero_ℚ, Shape.CanWrite}
 use Rattle.vipr_write.specs.Canonical.{reason_words, last_word, words_after_spaces, heading}
 use Rattle.vipr_write.specs.Canonical.{line_text, lines_text, solutions_lines}
 use Rattle.vipr_write.specs.Forms.{row_words, constraint_words_in}
-use Rattle.vipr_write.specs.Lines.{words_text}
-use Rattle.vipr_write.specs.declared.form.Form.{Form}
-use Rattle.vipr_write.specs.declared.statements.Statement.{Statement}
 use Rattle.vipr_write.specs.declared.statements.Statements.{Statements}
-use Rattle.vipr_write.specs.declared.statements.Step.{Step}
+use Rattle.vipr_write.specs.{Lines.words_text, StepReasons.kept_reason_of, declared.form.Form.Form}
+use Rattle.vipr_write.specs.{declared.statements.Statement.Statement, declared.statements.Step.Step}
 
 -- a step as a derivation, if this is the name and the constraint of what is kept of them
 abbrev pub step_of : (Statement → Named Constraint) → Step → Derivation

@@ -1,8 +1,6 @@
 -- What a sink took of a certificate's text
 use Rattle.std.specs.Prelude.{◌≡◌, ℕ, suc, ◌<◌, List, length, Option, Some, Result, Ok, Err}
-use Rattle.vipr_bytes.specs.Output.{Output}
-use Rattle.vipr_bytes.specs.Written.{Wrote}
-use Rattle.vipr_bytes.specs.declared.write.WriteFailed.{WriteFailed}
+use Rattle.vipr_bytes.specs.{Output.Output, Written.Wrote, declared.write.WriteFailed.WriteFailed}
 use Rattle.vipr_write.specs.declared.write.WriteError.{WriteError}
 use Rattle.vipr_write.specs.declared.write.WriteError.TheVariants.{Write, Memory}
 

@@ -1,10 +1,9 @@
 //! The texts of certificates, and what they spell: laws without code.
 ghost use Rattle.std.specs.Prelude.{◌≡◌};
-ghost use Rattle.vipr_write.specs.Canonical.{canonical_text};
 ghost use Rattle.vipr_write.specs.Example.{sample, sample_text, sample_compact};
-ghost use Rattle.vipr_write.specs.Forms.{compact_text};
 ghost use Rattle.vipr_write.specs.Laws.{SpellsItself, CompactSpellsItself, IsCanonical};
 ghost use Rattle.vipr_write.specs.Laws.{CanWriteSpelled};
+ghost use Rattle.vipr_write.specs.{Canonical.canonical_text, Forms.compact_text};
 
 /// The canonical text of a certificate within the limits of the format spells that certificate and
 /// no other.

@@ -1,20 +1,17 @@
 //! Whether the text of a certificate is so short that its bytes can be counted.
 ghost use Rattle.std.specs.Prelude.{◌≡◌, ◌↔◌, ◌+◌, ◌*◌, ◌^◌, ◌<◌, IsTrue, length, map};
 ghost use Rattle.std.specs.Prelude.{◌∷◌, [], suc};
-ghost use Rattle.vipr_spec.specs.Shape.{CanWrite};
+ghost use Rattle.vipr_spec.specs.{Certificate.Certificate as CertificateMeant, Shape.CanWrite};
 ghost use Rattle.vipr_linear.specs.Constraint.{constraint_of};
 ghost use Rattle.vipr_cert.specs.Items.{named_of, solution_of, derivation_of, claim_of};
 ghost use Rattle.vipr_write.specs.Canonical.{given_words, claim_words, solution_words};
-ghost use Rattle.vipr_write.specs.Canonical.{reference_words, derivation_words};
-ghost use Rattle.vipr_write.specs.Canonical.{problem_lines, certificate_lines};
-ghost use Rattle.vipr_write.specs.Forms.{text_in};
-ghost use Rattle.vipr_write.specs.declared.form.Form.{Form};
-ghost use Rattle.vipr_bytes.specs.Hands.{counted};
-ghost use Rattle.vipr_write.specs.Weight.{weight};
-ghost use Rattle.std.specs.List.{sum_by};
-ghost use Rattle.vipr_spec.specs.Certificate.{Certificate as CertificateMeant};
+ghost use Rattle.vipr_write.specs.Canonical.{reference_words, derivation_words, problem_lines};
+ghost use Rattle.vipr_write.specs.Canonical.{certificate_lines};
 ghost use Rattle.vipr_write.specs.Steps.{step_weight, AreStepsOf};
 ghost use Rattle.vipr_write.specs.StepReasons.{kept_references_of};
+ghost use Rattle.vipr_write.specs.{Forms.text_in, Weight.weight, declared.form.Form.Form};
+ghost use Rattle.vipr_bytes.specs.Hands.{counted};
+ghost use Rattle.std.specs.List.{sum_by};
 
 use crate::statements::{Statements, Step};
 use crate::step_reason::StepReferences;

@@ -1,9 +1,8 @@
 //! A text that grows item by item, and keeps what is written for the objective's row once.
 ghost use Rattle.std.specs.Prelude.{◌≡◌, ◌<◌, ◌-◌, ◌^◌, ◌++◌, ◌+◌, [], length, IsTrue, IfOk, IfErr};
 ghost use Rattle.std.specs.Prelude.{IfSome, OnOk, OnErr, codes, false};
-ghost use Rattle.vipr_bytes.specs.Puts.{Puts};
 ghost use Rattle.vipr_bytes.specs.Hands.{Start, start_of, IsEnd};
-ghost use Rattle.vipr_bytes.specs.Sent.{Carries};
+ghost use Rattle.vipr_bytes.specs.{Puts.Puts, Sent.Carries};
 ghost use Rattle.vipr_cert.specs.Items.{solution_of, derivation_of};
 ghost use Rattle.vipr_write.specs.Canonical.{solution_words, heading, line_text, lines_text};
 ghost use Rattle.vipr_write.specs.Canonical.{words_after_spaces};

@@ -6,9 +6,8 @@ ghost use Rattle.vipr_write.specs.Canonical.{reference_words, claim_words, solut
 ghost use Rattle.vipr_write.specs.Canonical.{heading, words_after_spaces, line_text};
 ghost use Rattle.vipr_write.specs.Canonical.{direction_word, vector_words};
 ghost use Rattle.vipr_write.specs.Forms.{constraint_words_in, given_words_in, derivation_words_in};
-ghost use Rattle.vipr_cert.specs.Items.{named_of, solution_of, claim_of, derivation_of};
-ghost use Rattle.vipr_cert.specs.Items.{direction_of};
-ghost use Rattle.vipr_cert.specs.Reasons.{references_of};
+ghost use Rattle.vipr_cert.specs.{Items.named_of, Items.solution_of, Items.claim_of};
+ghost use Rattle.vipr_cert.specs.{Items.derivation_of, Items.direction_of, Reasons.references_of};
 ghost use Rattle.vipr_write.specs.Lines.{words_text, constraints_heading};
 ghost use Rattle.vipr_write.specs.Folded.{stated_words};
 ghost use Rattle.vipr_bytes.specs.Puts.{Puts};

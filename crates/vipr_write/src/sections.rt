@@ -1,6 +1,5 @@
 //! The sections of a certificate.
-ghost use Rattle.std.specs.Prelude.{◌∷◌, [], map};
-ghost use Rattle.std.specs.Fmt.{decimal};
+ghost use Rattle.std.specs.{Fmt.decimal, Prelude.◌∷◌, Prelude.[], Prelude.map};
 ghost use Rattle.vipr_linear.specs.Constraint.{constraint_of};
 ghost use Rattle.vipr_write.specs.Canonical.{variables_lines, solutions_lines, lines_text};
 ghost use Rattle.vipr_write.specs.Forms.{problem_lines_in, derivations_lines_in, text_in};

@@ -5,14 +5,11 @@
 ghost use Rattle.std.specs.Prelude.{◌≡◌, ◌≤◌, ◌∷◌, ◌++◌, [], List, IfOk, OnOk, IsTrue, cond};
 ghost use Rattle.std.specs.Prelude.{length, slice_index};
 ghost use Rattle.vipr_spec.specs.Certificate.{Derivation as DerivationMeant};
-ghost use Rattle.vipr_bytes.specs.Grown.{GrowsBy};
-ghost use Rattle.vipr_bytes.specs.Puts.{Puts};
+ghost use Rattle.vipr_bytes.specs.{Grown.GrowsBy, Puts.Puts};
 ghost use Rattle.vipr_cert.specs.Items.{derivation_of};
-ghost use Rattle.vipr_write.specs.declared.statements.Step.{Step as StepMeant};
-ghost use Rattle.vipr_write.specs.Canonical.{words_after_spaces};
-ghost use Rattle.vipr_write.specs.Forms.{row_words};
-ghost use Rattle.vipr_write.specs.StepReasons.{IsShortest};
-ghost use Rattle.vipr_write.specs.Steps.{own_bytes, row_bytes, AreKept};
+ghost use Rattle.vipr_write.specs.{Canonical.words_after_spaces, Forms.row_words};
+ghost use Rattle.vipr_write.specs.{StepReasons.IsShortest, Steps.own_bytes, Steps.row_bytes};
+ghost use Rattle.vipr_write.specs.{Steps.AreKept, declared.statements.Step.Step as StepMeant};
 
 use crate::ends::Ends;
 use crate::form::Form;

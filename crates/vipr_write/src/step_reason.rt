@@ -1,9 +1,8 @@
 //! The reason of a step, which takes little memory.
 ghost use Rattle.std.specs.Prelude.{◌≡◌, ◌↔◌, ◌∷◌, ℕ, Some, IfOk, IfSome, IsSome, map, pos};
 ghost use Rattle.std.specs.Ordering.{int_eq};
-ghost use Rattle.vipr_spec.specs.Fraction.{ℚ};
-ghost use Rattle.vipr_spec.specs.Number.{number_text};
 ghost use Rattle.vipr_spec.specs.Certificate.{is_assumption, lin, reason_references, rnd};
+ghost use Rattle.vipr_spec.specs.{Fraction.ℚ, Number.number_text};
 ghost use Rattle.vipr_cert.specs.Items.{reason_of};
 ghost use Rattle.vipr_bytes.specs.Puts.{Puts};
 ghost use Rattle.vipr_write.specs.StepReasons.{entry_of, kept_reason_of, kept_references_of};

@@ -2,11 +2,9 @@
 ghost use Rattle.std.specs.Prelude.{◌≡◌, ◌^◌, ◌<◌, [], length, IfErr, IfSome};
 ghost use Rattle.vipr_spec.specs.Grammar.{SpellsOnly};
 ghost use Rattle.vipr_write.specs.Canonical.{canonical_text};
-ghost use Rattle.vipr_write.specs.Forms.{text_in};
-ghost use Rattle.vipr_write.specs.declared.form.Form.{Form};
-ghost use Rattle.vipr_bytes.specs.Hands.{Start, start_of, IsEnd};
-ghost use Rattle.vipr_bytes.specs.Sent.{Carries};
 ghost use Rattle.vipr_write.specs.WrittenText.{WroteText, IsWithin, LeavesFailures, write_error};
+ghost use Rattle.vipr_write.specs.{Forms.text_in, declared.form.Form.Form};
+ghost use Rattle.vipr_bytes.specs.{Hands.Start, Hands.start_of, Hands.IsEnd, Sent.Carries};
 
 use crate::countable::is_countable;
 use crate::form::Form;

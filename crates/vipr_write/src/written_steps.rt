@@ -1,13 +1,9 @@
 //! Writes the text of a certificate, of whose derivations steps are kept.
 ghost use Rattle.std.specs.Prelude.{◌^◌, ◌<◌, [], length, IfErr, IfSome};
-ghost use Rattle.vipr_spec.specs.Certificate.{Certificate as CertificateMeant};
-ghost use Rattle.vipr_spec.specs.Grammar.{SpellsOnly};
-ghost use Rattle.vipr_write.specs.Forms.{text_in};
-ghost use Rattle.vipr_write.specs.declared.form.Form.{Form};
-ghost use Rattle.vipr_bytes.specs.Hands.{Start, start_of, IsEnd};
-ghost use Rattle.vipr_bytes.specs.Sent.{Carries};
-ghost use Rattle.vipr_write.specs.Steps.{AreStepsOf};
+ghost use Rattle.vipr_spec.specs.{Certificate.Certificate as CertificateMeant, Grammar.SpellsOnly};
 ghost use Rattle.vipr_write.specs.WrittenText.{WroteText, IsWithin, LeavesFailures};
+ghost use Rattle.vipr_write.specs.{Forms.text_in, Steps.AreStepsOf, declared.form.Form.Form};
+ghost use Rattle.vipr_bytes.specs.{Hands.Start, Hands.start_of, Hands.IsEnd, Sent.Carries};
 
 use crate::countable::are_countable;
 use crate::sections::put_problem;

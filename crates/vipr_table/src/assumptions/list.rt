@@ -3,8 +3,7 @@
 ghost use Rattle.std.specs.Prelude.{◌≡◌, take, IfOk, IfSome, IsTrue};
 ghost use Rattle.std.specs.FinSet as set;
 ghost use Rattle.vipr_table.specs.IndexList.{listed_set, Rises};
-ghost use Rattle.vipr_table.specs.Rising.{IsRising};
-ghost use Rattle.vipr_table.specs.Sets.{IsListOf};
+ghost use Rattle.vipr_table.specs.{Rising.IsRising, Sets.IsListOf};
 
 use crate::assumptions::lists::Lists;
 use crate::assumptions::merge::{all_but, is_in};

@@ -2,8 +2,7 @@
 
 ghost use Rattle.std.specs.Prelude.{◌≡◌, ◌↔◌, IfOk, IsTrue, OnOk};
 ghost use Rattle.std.specs.FinSet as set;
-ghost use Rattle.vipr_table.specs.Rising.{IsRising};
-ghost use Rattle.vipr_table.specs.Sets.{union_of_all};
+ghost use Rattle.vipr_table.specs.{Rising.IsRising, Sets.union_of_all};
 
 use crate::assumptions::list::Front;
 use crate::assumptions::merge::{all_but, is_in, join};

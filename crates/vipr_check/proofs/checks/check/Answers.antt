@@ -1,8 +1,7 @@
 use Rattle.std.proofs.Common.{◌≡◌, Option, Result, refl, subst}
 use Rattle.vipr_spec.specs.Input.{Input}
-use Rattle.vipr_check.specs.Checks.{Checks}
 use Rattle.vipr_check.specs.declared.verdict.Verdict.{Verdict}
-use Rattle.vipr_check.specs.declared.verdict.Fault.{Fault}
+use Rattle.vipr_check.specs.{Checks.Checks, declared.verdict.Fault.Fault}
 use Rattle.vipr_check.proofs.checks.check.Goals as goal
 
 handed_on : {source : Option Input} {x y : Result Verdict Fault} → Checks source x → x ≡ y

@@ -2,10 +2,8 @@ use Rattle.std.proofs.Common.{Ok, Err, sym, subst, ◌∙◌}
 use Rattle.vipr_spec.specs.Verdict.{IsExplained}
 use Rattle.vipr_bytes.specs.Known.{text_of}
 use Rattle.vipr_rules.specs.Profile.{profile_of}
-use Rattle.vipr_check.specs.Checks.{ChecksIn}
 use Rattle.vipr_check.specs.Run.{SaysAtEnd, SaysInDetail}
-use Rattle.vipr_check.specs.Shown.{last_shown}
-use Rattle.vipr_check.specs.View.{answer_of}
+use Rattle.vipr_check.specs.{Checks.ChecksIn, Shown.last_shown, View.answer_of}
 use Rattle.vipr_check.proofs.Answering.{run_checks, verdict_shows, fault_shows}
 use Rattle.vipr_read.proofs.Laws.{known_by}
 use Rattle.vipr_check.proofs.checks.explain_in.Goals as goal

@@ -1,14 +1,9 @@
 use Rattle.std.proofs.Common.{Result}
 use Rattle.std.specs.Prelude.{IsSome}
-use Rattle.vipr_spec.specs.Checking.{start}
-use Rattle.vipr_spec.specs.Verdict.{Explained}
-use Rattle.vipr_spec.specs.Progress.{solutions_from}
+use Rattle.vipr_spec.specs.{Checking.start, Progress.solutions_from, Verdict.Explained}
 use Rattle.vipr_scan.specs.Giving.{rest_of}
-use Rattle.vipr_check.specs.declared.no_proof.NoProof.{NoProof}
-use Rattle.vipr_check.specs.declared.verdict.Report.{Report}
-use Rattle.vipr_check.specs.Reasons.{text_reason}
-use Rattle.vipr_check.specs.Shown.{state_shown}
-use Rattle.vipr_check.specs.Run.{SaysWith}
+use Rattle.vipr_check.specs.{Reasons.text_reason, Run.SaysWith, Shown.state_shown}
+use Rattle.vipr_check.specs.{declared.no_proof.NoProof.NoProof, declared.verdict.Report.Report}
 use Rattle.vipr_check.proofs.Answering.{handed_on}
 use Rattle.vipr_check.proofs.RunLemmas.{at_start, knows_still, ending_unmet, ending_met}
 use Rattle.vipr_check.proofs.RunLemmas.{ending_read, ending_failed, ending_shown}

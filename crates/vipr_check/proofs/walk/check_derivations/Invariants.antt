@@ -1,6 +1,5 @@
-use Rattle.vipr_spec.specs.Certificate.{Certificate}
+use Rattle.vipr_spec.specs.{Certificate.Certificate, Constraint.Profile}
 use Rattle.vipr_check.specs.Run.{IsAt, HasReached}
-use Rattle.vipr_spec.specs.Constraint.{Profile}
 use Rattle.vipr_check.proofs.walk.check_derivations.Given as goal
 
 abbrev pub invariant-steps : goal.invariant-steps

@@ -1,9 +1,7 @@
 use Rattle.std.proofs.Common.{◌≡◌, Err, sym, subst, arith}
-use Rattle.vipr_spec.specs.Verdict.{Explained}
-use Rattle.vipr_spec.specs.Progress.{solutions_from}
+use Rattle.vipr_spec.specs.{Progress.solutions_from, Verdict.Explained}
 use Rattle.vipr_scan.specs.Giving.{rest_of}
-use Rattle.vipr_check.specs.Shown.{state_shown}
-use Rattle.vipr_check.specs.Run.{SaysWith}
+use Rattle.vipr_check.specs.{Run.SaysWith, Shown.state_shown}
 use Rattle.vipr_check.proofs.RunLemmas.{listed_now, listed_later, listed_says}
 use Rattle.vipr_check.proofs.walk.check_solutions.Goals as goal
 

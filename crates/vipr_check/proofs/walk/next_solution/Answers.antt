@@ -1,16 +1,13 @@
 use Rattle.std.proofs.Common.{◌≡◌, ◌≢◌, true, Result, Err}
 use Rattle.vipr_check.specs.declared.halt.Stop.TheVariants as stop
-use Rattle.vipr_check.specs.declared.no_proof.NoProof.{NoProof}
+use Rattle.vipr_check.specs.Reasons.{text_reason, stop_reason}
+use Rattle.vipr_check.specs.{Run.GoesAmong, Shown.state_shown, declared.no_proof.NoProof.NoProof}
 use Rattle.vipr_check.specs.declared.no_proof.NoProof.TheVariants as reason
 use Rattle.vipr_cert.specs.Items.{solution_of}
 use Rattle.vipr_scan.specs.Giving.{rest_of}
-use Rattle.vipr_check.specs.Reasons.{text_reason, stop_reason}
-use Rattle.vipr_check.specs.Shown.{state_shown}
-use Rattle.vipr_check.specs.Run.{GoesAmong}
-use Rattle.vipr_check.proofs.Answering.{handed_on}
-use Rattle.vipr_check.proofs.ShownLemmas.{unshown}
 use Rattle.vipr_check.proofs.RunLemmas.{one_more, solution_missing, solution_listed, solution_stops}
 use Rattle.vipr_check.proofs.RunLemmas.{never_memory}
+use Rattle.vipr_check.proofs.{Answering.handed_on, ShownLemmas.unshown}
 use Rattle.vipr_check.proofs.walk.next_solution.Goals as goal
 
 pub take_solution-requires-clause-phase : goal.take_solution-requires-clause-phase

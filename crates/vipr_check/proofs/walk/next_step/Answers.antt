@@ -1,18 +1,13 @@
 use Rattle.std.proofs.Common.{sym, subst}
-use Rattle.vipr_spec.specs.Constraint.{at}
 use Rattle.vipr_spec.specs.Verdict.{Explained, verified}
-use Rattle.vipr_spec.specs.Progress.{derivations_from}
+use Rattle.vipr_spec.specs.{Constraint.at, Progress.derivations_from}
 use Rattle.vipr_cert.specs.Items.{derivation_of}
 use Rattle.vipr_scan.specs.Giving.{rest_of}
-use Rattle.vipr_check.specs.View.{report_of}
 use Rattle.vipr_check.specs.Reasons.{text_reason, stop_reason, SaysWhy}
-use Rattle.vipr_check.specs.Shown.{state_shown}
-use Rattle.vipr_check.specs.Run.{Goes}
-use Rattle.vipr_check.proofs.Answering.{handed_on}
-use Rattle.vipr_check.proofs.ShownLemmas.{unshown}
-use Rattle.vipr_check.proofs.Verifying.{report_of_proof}
+use Rattle.vipr_check.specs.{Run.Goes, Shown.state_shown, View.report_of}
 use Rattle.vipr_check.proofs.RunLemmas.{room_for, names_for, step_reached, step_stops, finish_stops}
 use Rattle.vipr_check.proofs.RunLemmas.{finish_verifies, derivation_missing}
+use Rattle.vipr_check.proofs.{Answering.handed_on, ShownLemmas.unshown, Verifying.report_of_proof}
 use Rattle.vipr_check.proofs.walk.next_step.Goals as goal
 
 pub take_from-requires-clause-phase : goal.take_from-requires-clause-phase

@@ -1,13 +1,9 @@
 use Rattle.std.proofs.Common.{◌≡◌, Some, Err, refl, sym, subst}
 use Rattle.std.specs.Prelude.{IsSome}
-use Rattle.vipr_spec.specs.Reading.{problem_read}
-use Rattle.vipr_spec.specs.Verdict.{IsExplained}
-use Rattle.vipr_spec.specs.Tests.{none}
-use Rattle.vipr_scan.specs.Faults.{Fails}
-use Rattle.vipr_scan.specs.Giving.{rest_of}
+use Rattle.vipr_spec.specs.{Reading.problem_read, Tests.none, Verdict.IsExplained}
+use Rattle.vipr_scan.specs.{Faults.Fails, Giving.rest_of}
 use Rattle.vipr_bytes.specs.Known.{text_of}
-use Rattle.vipr_check.specs.Reasons.{SaysWhy}
-use Rattle.vipr_check.specs.Run.{SaysWith}
+use Rattle.vipr_check.specs.{Reasons.SaysWhy, Run.SaysWith}
 use Rattle.vipr_read.proofs.Laws.{known_by}
 use Rattle.vipr_check.proofs.RunLemmas.{problem_failed}
 use Rattle.vipr_rules.specs.Profile.{profile_of}

@@ -1,8 +1,7 @@
 use Rattle.std.proofs.Common.{None, refl, subst}
 use Rattle.vipr_linear.specs.Constraint.{constraint_of}
 use Rattle.vipr_cert.specs.Items.{reason_of}
-use Rattle.vipr_rules.specs.Apply.{Applies}
-use Rattle.vipr_rules.specs.Profile.{profile_of}
+use Rattle.vipr_rules.specs.{Apply.Applies, Profile.profile_of}
 use Rattle.vipr_spec.specs.Constraint.{condition}
 use Rattle.vipr_spec.specs.Steps.{FirstFailing, PassesStep, step_tests}
 use Rattle.vipr_explain.specs.Near.{without_solutions}

@@ -5,8 +5,7 @@ use Rattle.vipr_scan.specs.Giving.{rest_of}
 use Rattle.vipr_cert.specs.Items.{solution_of}
 use Rattle.vipr_read.specs.Items.{HasNone, Moves, NextItem}
 use Rattle.vipr_explain.specs.Found.{LacksListed}
-use Rattle.vipr_explain.proofs.Again.{none_behind, one_behind}
-use Rattle.vipr_explain.proofs.Lacks.{because, err_is}
+use Rattle.vipr_explain.proofs.{Again.none_behind, Again.one_behind, Lacks.because, Lacks.err_is}
 use Rattle.vipr_explain.proofs.items.nth_solution.Goals as goal
 
 pub returns-in_err-pass_solutions-clause-error : goal.returns-in_err-pass_solutions-clause-error

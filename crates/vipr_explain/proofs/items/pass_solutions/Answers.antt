@@ -3,8 +3,7 @@ use Rattle.std.specs.Prelude.{⊤}
 use Rattle.vipr_cert.specs.Items.{solution_of}
 use Rattle.vipr_read.specs.Items.{HasNone, Moves}
 use Rattle.vipr_explain.specs.Found.{AreReadSoFar, AreSolutionsRead}
-use Rattle.vipr_explain.proofs.Again.{next_read, none_behind, some_read}
-use Rattle.vipr_explain.proofs.Lacks.{err_is}
+use Rattle.vipr_explain.proofs.{Again.next_read, Again.none_behind, Again.some_read, Lacks.err_is}
 use Rattle.vipr_explain.proofs.items.pass_solutions.Goals as goal
 
 pub loop-preserved : goal.loop-preserved

@@ -1,7 +1,6 @@
 use Rattle.std.proofs.Common.{◌≡◌, ◌+◌, []}
 use Rattle.std.specs.Prelude.{⊤}
-use Rattle.vipr_spec.specs.Certificate.{Problem}
-use Rattle.vipr_spec.specs.Reading.{Rest}
+use Rattle.vipr_spec.specs.{Certificate.Problem, Reading.Rest}
 use Rattle.vipr_explain.specs.Found.{AreReadSoFar, AreSolutionsRead}
 use Rattle.vipr_explain.proofs.items.pass_solutions.Given as goal
 

@@ -1,8 +1,7 @@
 use Rattle.std.proofs.Common.{◌≡◌, ◌-◌, ◌+◌, ℕ, zero, suc, List, [], ◌∷◌, ap, arith, length, refl}
 use Rattle.std.proofs.Common.{slice_index_or, slice_set}
-use Rattle.vipr_explain.specs.Marked.{with_part}
 use Rattle.vipr_explain.specs.declared.marks.ItemPlace.{ItemPlace}
-use Rattle.vipr_explain.specs.declared.text.Span.{Span}
+use Rattle.vipr_explain.specs.{Marked.with_part, declared.text.Span.Span}
 use Rattle.vipr_explain.proofs.marks.mark_part.Goals as goal
 
 -- the last mark is changed in place

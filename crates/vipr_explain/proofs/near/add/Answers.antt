@@ -1,11 +1,9 @@
 use Rattle.std.proofs.Common.{◌≡◌, ℕ, ◌+◌, ap, sym, subst, ◌∙◌}
-use Rattle.std.specs.Prelude.{◌↔◌, IsTrue}
-use Rattle.std.specs.FinSet.{contains}
+use Rattle.std.specs.{FinSet.contains, Prelude.◌↔◌, Prelude.IsTrue}
 use Rattle.vipr_spec.specs.Certificate.{RestsOn, constraint_at}
 use Rattle.vipr_linear.specs.Constraint.{condition_of}
 use Rattle.vipr_rules.specs.Claim.{IsMetBy}
-use Rattle.vipr_explain.specs.Near.{AreNearest, MissesBy, IsLike}
-use Rattle.vipr_explain.specs.declared.near.Near.{Near}
+use Rattle.vipr_explain.specs.{Near.AreNearest, Near.MissesBy, Near.IsLike, declared.near.Near.Near}
 use Rattle.vipr_explain.proofs.Again.{on_ok}
 use Rattle.vipr_explain.proofs.Nearing.{free_is, nearest_like, nearest_unlike}
 use Rattle.vipr_explain.proofs.near.add.Goals as goal

@@ -1,12 +1,10 @@
 use Rattle.std.proofs.Common.{None, ap, inl, inr, refl, subst, sym, ◌∙◌}
 use Rattle.vipr_cert.specs.Items.{derivation_of, reason_of}
-use Rattle.vipr_rules.specs.Apply.{Applies, entry_resting_on}
-use Rattle.vipr_rules.specs.Profile.{profile_of}
+use Rattle.vipr_rules.specs.{Apply.Applies, Apply.entry_resting_on, Profile.profile_of}
 use Rattle.vipr_spec.proofs.Laws.{next_good}
 use Rattle.vipr_explain.specs.Found.{Because}
 use Rattle.vipr_explain.specs.Near.{IsNextEntry, IsRefusedNext, without_solutions}
-use Rattle.vipr_explain.proofs.Lacks.{because_of}
-use Rattle.vipr_explain.proofs.Nearing.{kept_by_solution, not_by_solution}
+use Rattle.vipr_explain.proofs.{Lacks.because_of, Nearing.kept_by_solution, Nearing.not_by_solution}
 use Rattle.vipr_explain.proofs.near.entry_of.Goals as goal
 
 pub returns-in-Sol-clause-next : goal.returns-in-Sol-clause-next

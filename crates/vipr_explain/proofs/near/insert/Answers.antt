@@ -1,6 +1,5 @@
 use Rattle.std.proofs.Common.{ap, arith, take, ◌∙◌}
-use Rattle.std.specs.Prelude.{insert}
-use Rattle.std.specs.List.{position_or_len}
+use Rattle.std.specs.{List.position_or_len, Prelude.insert}
 use Rattle.vipr_explain.specs.Near.{comes_before}
 use Rattle.vipr_explain.proofs.near.insert.Goals as goal
 

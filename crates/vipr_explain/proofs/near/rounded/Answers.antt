@@ -1,6 +1,5 @@
 use Rattle.std.proofs.Common.{◌≡◌, ◌≤◌, ℤ, arith, to_z, of_z, sym, subst}
-use Rattle.std.specs.Int.{w128}
-use Rattle.std.specs.Prelude.{unsigned_abs}
+use Rattle.std.specs.{Int.w128, Prelude.unsigned_abs}
 use Rattle.std.proofs.lemmas.Int.{fits_signed_from_abs, to_z-of_z}
 use Rattle.vipr_spec.specs.Fraction.{most}
 use Rattle.vipr_linear.specs.Constraint.{sense_of}

@@ -1,13 +1,10 @@
 use Rattle.std.proofs.Common.{Some, inl, length, arith, ◌∙◌}
 use Rattle.vipr_rules.specs.Profile.{profile_of}
-use Rattle.vipr_explain.specs.Found.{text_rest}
-use Rattle.vipr_explain.specs.Near.{up_to}
-use Rattle.vipr_explain.proofs.Again.{none_behind}
-use Rattle.vipr_explain.proofs.Lacks.{because}
-use Rattle.vipr_explain.proofs.Nearing.{no_step, step_of}
-use Rattle.vipr_explain.proofs.near.step_behind.Goals as goal
+use Rattle.vipr_explain.specs.{Found.text_rest, Near.up_to}
 use Rattle.vipr_explain.proofs.near.step_behind.Goals.{then-next-index-via-then-next-index}
 use Rattle.vipr_explain.proofs.near.step_behind.Goals.{then-next-index-via-else-next-index+then-left-eq0}
+use Rattle.vipr_explain.proofs.{Again.none_behind, Lacks.because, Nearing.no_step, Nearing.step_of}
+use Rattle.vipr_explain.proofs.near.step_behind.Goals as goal
 
 pub returns-then-next-index-clause-step : goal.returns-then-next-index-clause-step
 returns-then-next-index-clause-step c =

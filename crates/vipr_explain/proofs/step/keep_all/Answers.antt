@@ -1,18 +1,14 @@
 use Rattle.std.proofs.Common.{◌≡◌, Ok, Some, [], ap, arith, length, refl, sym, subst, ◌∙◌}
+use Rattle.std.proofs.{lemmas.List.length-map, lemmas.List.Elements.All-nil}
 use Rattle.std.specs.Prelude.{All}
-use Rattle.std.proofs.lemmas.List.{length-map}
-use Rattle.std.proofs.lemmas.List.Elements.{All-nil}
 use Rattle.vipr_spec.specs.Reading.{derivation_read, end_read}
 use Rattle.vipr_cert.specs.Items.{derivation_of}
 use Rattle.vipr_read.specs.Items.{HasEnded, Moves, NextItem}
-use Rattle.vipr_explain.specs.Found.{text_rest}
-use Rattle.vipr_explain.specs.Near.{up_to}
-use Rattle.vipr_explain.specs.Refused.{IsNumberedIn}
-use Rattle.vipr_explain.proofs.Again.{next_read, none_behind}
+use Rattle.vipr_explain.specs.{Found.text_rest, Near.up_to, Refused.IsNumberedIn}
 use Rattle.vipr_explain.proofs.Lacks.{because, err_is, fault_first}
-use Rattle.vipr_explain.proofs.Nearing.{step_of}
-use Rattle.vipr_explain.proofs.step.keep_all.Goals as goal
 use Rattle.vipr_explain.proofs.step.keep_all.Goals.{in-None, in-Some+in_ok-keep-in-Some}
+use Rattle.vipr_explain.proofs.{Again.next_read, Again.none_behind, Nearing.step_of}
+use Rattle.vipr_explain.proofs.step.keep_all.Goals as goal
 
 pub loop-passed-init : goal.loop-passed-init
 loop-passed-init c =

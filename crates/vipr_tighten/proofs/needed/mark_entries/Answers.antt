@@ -1,7 +1,6 @@
 use Rattle.std.proofs.Common.{◌≡◌, ℕ, ◌&&◌, nat_eq, not, true, false, List, map, ap, sym, ◌∙◌, subst}
 use Rattle.std.specs.List.{list_any}
-use Rattle.vipr_spec.specs.Fraction.{ℚ}
-use Rattle.vipr_spec.specs.Reading.{is_nonzero}
+use Rattle.vipr_spec.specs.{Fraction.ℚ, Reading.is_nonzero}
 use Rattle.vipr_tighten.specs.Passes.{MarksAlso}
 use Rattle.vipr_tighten.proofs.Marking.{entry_marked, entry_passed}
 use Rattle.vipr_tighten.proofs.Pairs.{pair_inside, pair_read, all_pairs}

@@ -1,8 +1,7 @@
 use Rattle.std.proofs.Common.{◌≡◌, ◌-◌, Bool, true, false, Vec, Global, vec_len, map, length}
 use Rattle.std.proofs.Common.{replicate, arith, ap, ◌∙◌, subst}
 use Rattle.std.proofs.lemmas.List.{length-replicate, with_items_is}
-use Rattle.vipr_spec.specs.Certificate.{References}
-use Rattle.vipr_spec.specs.Tightened.{include}
+use Rattle.vipr_spec.specs.{Certificate.References, Tightened.include}
 use Rattle.vipr_tighten.specs.Passes.{MarksAlso}
 use Rattle.vipr_tighten.proofs.Marking.{AreMarksFrom, begin_none, begin_goal, next_marked}
 use Rattle.vipr_tighten.proofs.Marking.{next_unmarked, marks_end, mark_read, this_turn}

@@ -1,6 +1,5 @@
 use Rattle.std.proofs.Common.{◌≡◌, ℕ, Vec, Global, vec_len, length, max, slice_index_or, arith}
-use Rattle.std.proofs.Common.{refl, sym}
-use Rattle.std.proofs.Common.{◌∙◌, ap, ap₂}
+use Rattle.std.proofs.Common.{refl, sym, ◌∙◌, ap, ap₂}
 use Rattle.std.proofs.lemmas.List.{length-map, get_or_read, with_items_is}
 use Rattle.vipr_write.specs.Steps.{step_of}
 use Rattle.vipr_tighten.proofs.Held.{few_held, fewer_dropped, held_now, until_then, most_then}

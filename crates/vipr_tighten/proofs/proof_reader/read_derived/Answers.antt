@@ -1,10 +1,7 @@
 use Rattle.std.proofs.Common.{[], ◌∷◌, ◌++◌, refl, ◌∙◌, subst}
 use Rattle.std.proofs.lemmas.List.Elements.{All-push, All-nil}
-use Rattle.vipr_spec.specs.Constraint.{at}
-use Rattle.vipr_spec.specs.Checking.{start}
-use Rattle.vipr_spec.specs.Steps.{with_more}
 use Rattle.vipr_spec.specs.Shape.{DerivationShape, DerivationFits}
-use Rattle.vipr_spec.specs.Tests.{none}
+use Rattle.vipr_spec.specs.{Checking.start, Constraint.at, Steps.with_more, Tests.none}
 use Rattle.vipr_check.specs.declared.no_proof.NoProof.TheVariants as reason
 use Rattle.vipr_cert.specs.Items.{derivation_of}
 use Rattle.vipr_check.specs.Reasons.{stop_reason, text_reason}

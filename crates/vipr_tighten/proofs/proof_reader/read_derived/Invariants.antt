@@ -1,8 +1,6 @@
 use Rattle.std.proofs.Common.{◌≡◌, List}
-use Rattle.vipr_spec.specs.Constraint.{Profile, Row}
 use Rattle.vipr_spec.specs.Certificate.{Named, Problem, Derivation}
-use Rattle.vipr_spec.specs.Checking.{start}
-use Rattle.vipr_spec.specs.Steps.{with_more}
+use Rattle.vipr_spec.specs.{Checking.start, Constraint.Profile, Constraint.Row, Steps.with_more}
 use Rattle.vipr_check.specs.Run.{IsAt}
 use Rattle.vipr_tighten.specs.Keeping.{IsForSame, KeepsDerived, KeepsSteps}
 use Rattle.vipr_tighten.proofs.proof_reader.read_derived.Given as goal

@@ -1,6 +1,5 @@
 use Rattle.std.proofs.Common.{sym, ◌∙◌, ap}
-use Rattle.vipr_spec.specs.Certificate.{Problem}
-use Rattle.vipr_spec.specs.Tests.{none}
+use Rattle.vipr_spec.specs.{Certificate.Problem, Tests.none}
 use Rattle.vipr_check.specs.Reasons.{text_reason}
 use Rattle.vipr_tighten.proofs.Reading.{err_given, unread_answers, at_then, later_answers}
 use Rattle.vipr_tighten.proofs.Reading.{proof_kept}

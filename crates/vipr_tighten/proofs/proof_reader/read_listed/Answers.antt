@@ -2,15 +2,12 @@ use Rattle.std.proofs.Common.{◌≡◌, ◌+◌, [], ◌∷◌, ◌++◌, appen
 use Rattle.std.proofs.Common.{arith}
 use Rattle.std.proofs.lemmas.List.Elements.{All-push, All-nil}
 use Rattle.vipr_spec.specs.Shape.{RowFits, SolutionShape}
-use Rattle.vipr_spec.specs.Constraint.{Row}
-use Rattle.vipr_spec.specs.Certificate.{Named}
-use Rattle.vipr_spec.specs.Tests.{none}
+use Rattle.vipr_spec.specs.{Certificate.Named, Constraint.Row, Tests.none}
 use Rattle.vipr_bytes.proofs.Laws.{grown, puts_then, puts_same}
 use Rattle.vipr_scan.specs.Giving.{rest_of}
 use Rattle.vipr_cert.specs.Items.{solution_of}
-use Rattle.vipr_check.specs.Reasons.{stop_reason, text_reason}
+use Rattle.vipr_check.specs.{Reasons.stop_reason, Reasons.text_reason, Shown.state_shown}
 use Rattle.vipr_tighten.specs.Keeping.{KeepsListed}
-use Rattle.vipr_check.specs.Shown.{state_shown}
 use Rattle.vipr_write.specs.Canonical.{heading, line_text}
 use Rattle.vipr_check.proofs.Laws.{ending_unmet}
 use Rattle.vipr_tighten.proofs.Reading.{err_given, end_answers, listed_first, solution_accepted}

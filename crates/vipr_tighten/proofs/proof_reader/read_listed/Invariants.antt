@@ -1,10 +1,8 @@
 use Rattle.std.proofs.Common.{◌≡◌, List, []}
 use Rattle.std.specs.List.{All}
-use Rattle.vipr_spec.specs.Constraint.{Profile, Row}
 use Rattle.vipr_spec.specs.Certificate.{Named, Problem}
-use Rattle.vipr_spec.specs.Shape.{RowFits, SolutionShape}
-use Rattle.vipr_bytes.specs.Grown.{GrowsBy}
-use Rattle.vipr_bytes.specs.Puts.{Puts}
+use Rattle.vipr_spec.specs.{Constraint.Profile, Constraint.Row, Shape.RowFits, Shape.SolutionShape}
+use Rattle.vipr_bytes.specs.{Grown.GrowsBy, Puts.Puts}
 use Rattle.vipr_check.specs.Run.{IsAmong}
 use Rattle.vipr_tighten.specs.Keeping.{KeepsListed}
 use Rattle.vipr_tighten.proofs.Lines.{lines_with}

@@ -1,6 +1,5 @@
 use Rattle.std.proofs.Common.{sym, subst}
-use Rattle.vipr_spec.specs.Verdict.{found_in}
-use Rattle.vipr_spec.specs.Tests.{none}
+use Rattle.vipr_spec.specs.{Tests.none, Verdict.found_in}
 use Rattle.vipr_scan.specs.Giving.{rest_of}
 use Rattle.vipr_rules.specs.Profile.{profile_of}
 use Rattle.vipr_check.specs.declared.no_proof.NoProof.TheVariants as reason

@@ -1,7 +1,5 @@
 use Rattle.std.proofs.Common.{sym, ◌∙◌}
-use Rattle.vipr_spec.specs.Checking.{start}
-use Rattle.vipr_spec.specs.Steps.{with_more}
-use Rattle.vipr_spec.specs.Tests.{none}
+use Rattle.vipr_spec.specs.{Checking.start, Steps.with_more, Tests.none}
 use Rattle.vipr_rules.specs.Profile.{profile_of}
 use Rattle.vipr_check.proofs.Laws.{among_start}
 use Rattle.vipr_tighten.proofs.proof_reader.read_rest.Goals as goal

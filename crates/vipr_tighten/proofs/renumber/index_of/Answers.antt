@@ -1,6 +1,5 @@
 use Rattle.std.proofs.Common.{◌-◌, slice_index_or, if◌then◌else◌, sym, ap, ◌∙◌, arith}
-use Rattle.std.proofs.lemmas.Bool.{le-ltb}
-use Rattle.std.proofs.lemmas.List.{get_or_past}
+use Rattle.std.proofs.{lemmas.Bool.le-ltb, lemmas.List.get_or_past}
 use Rattle.vipr_tighten.proofs.renumber.index_of.Goals as goal
 
 pub returns : goal.returns

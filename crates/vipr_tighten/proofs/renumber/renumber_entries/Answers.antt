@@ -1,9 +1,7 @@
-use Rattle.std.proofs.Common.{rules, ◌≡◌, ℕ, ◌+◌, ◌<◌, filter, map, length, slice_set, arith}
-use Rattle.std.proofs.Common.{sym, ap, ◌∙◌, subst}
-use Rattle.std.proofs.lemmas.Fn.{filter_same}
-use Rattle.std.proofs.lemmas.List.{length-map, map-set}
-use Rattle.vipr_spec.specs.Fraction.{ℚ}
-use Rattle.vipr_spec.specs.Reading.{is_nonzero}
+use Rattle.std.proofs.Common.{rules, ◌≡◌, ℕ, ◌+◌, ◌<◌, filter, map, length, slice_set, arith, sym}
+use Rattle.std.proofs.Common.{ap, ◌∙◌, subst}
+use Rattle.std.proofs.{lemmas.Fn.filter_same, lemmas.List.length-map, lemmas.List.map-set}
+use Rattle.vipr_spec.specs.{Fraction.ℚ, Reading.is_nonzero}
 use Rattle.vipr_tighten.specs.Passes.{index_by}
 use Rattle.vipr_tighten.proofs.Entries.{EntriesSoFar, none_so_far, under, same_entry}
 use Rattle.vipr_tighten.proofs.Entries.{next_entry, all_entries}

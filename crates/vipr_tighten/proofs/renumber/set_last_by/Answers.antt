@@ -1,6 +1,5 @@
 use Rattle.std.proofs.Common.{◌≡◌, map, subst}
-use Rattle.vipr_spec.specs.Certificate.{References}
-use Rattle.vipr_spec.specs.Tightened.{include, referred_by}
+use Rattle.vipr_spec.specs.{Certificate.References, Tightened.include, Tightened.referred_by}
 use Rattle.vipr_tighten.proofs.renumber.set_last_by.Goals as goal
 
 pub returns : goal.returns

@@ -1,8 +1,6 @@
 use Rattle.std.proofs.Common.{◌≡◌, ℕ, ◌&&◌, nat_eq, not, true, false, List, map, ap, sym, ◌∙◌, subst}
 use Rattle.std.specs.List.{list_any}
-use Rattle.vipr_spec.specs.Fraction.{ℚ}
-use Rattle.vipr_spec.specs.Reading.{is_nonzero}
-use Rattle.vipr_spec.specs.Tightened.{referred_by}
+use Rattle.vipr_spec.specs.{Fraction.ℚ, Reading.is_nonzero, Tightened.referred_by}
 use Rattle.vipr_tighten.proofs.Referring.{entry_referred, entry_skipped, none_referred}
 use Rattle.vipr_tighten.proofs.Pairs.{pair_inside, pair_read, all_pairs}
 use Rattle.vipr_tighten.proofs.renumber.set_last_named.Goals as goal

@@ -1,7 +1,6 @@
 use Rattle.std.proofs.Common.{◌≡◌, ◌&&◌, nat_eq, map, take}
 use Rattle.std.specs.List.{list_any}
-use Rattle.vipr_spec.specs.Reading.{is_nonzero}
-use Rattle.vipr_spec.specs.Tightened.{referred_by}
+use Rattle.vipr_spec.specs.{Reading.is_nonzero, Tightened.referred_by}
 use Rattle.vipr_tighten.proofs.renumber.set_last_named.Given as goal
 
 abbrev pub invariant-loop-entry : goal.invariant-loop-entry

@@ -1,6 +1,5 @@
 use Rattle.std.proofs.Common.{◌≡◌, map, nat_eq, subst, sym, ap, ◌∙◌}
-use Rattle.vipr_spec.specs.Certificate.{References}
-use Rattle.vipr_spec.specs.Tightened.{include, referred_by}
+use Rattle.vipr_spec.specs.{Certificate.References, Tightened.include, Tightened.referred_by}
 use Rattle.vipr_cert.specs.Reasons.{references_of}
 use Rattle.vipr_write.specs.StepReasons.{kept_references_of}
 use Rattle.vipr_tighten.proofs.Referring.{four_referred, none_referred}

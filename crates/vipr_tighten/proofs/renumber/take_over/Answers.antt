@@ -1,6 +1,5 @@
 use Rattle.std.proofs.Common.{◌≡◌, ◌+◌, ◌++◌, None, drop, map, take, slice_set, sym, ap, ◌∙◌, subst}
-use Rattle.vipr_spec.specs.Certificate.{Derivation}
-use Rattle.vipr_spec.specs.Tightened.{with_new_indices}
+use Rattle.vipr_spec.specs.{Certificate.Derivation, Tightened.with_new_indices}
 use Rattle.vipr_tighten.specs.Passes.{index_by, TakesOver}
 use Rattle.vipr_tighten.proofs.Moving.{after_left, taken_over}
 use Rattle.vipr_tighten.proofs.renumber.take_over.Goals as goal

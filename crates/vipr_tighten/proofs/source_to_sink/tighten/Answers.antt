@@ -1,6 +1,5 @@
 use Rattle.std.proofs.Common.{◌≡◌, Option, Result, refl, subst}
-use Rattle.vipr_spec.specs.Constraint.{Profile, one}
-use Rattle.vipr_spec.specs.Input.{Input}
+use Rattle.vipr_spec.specs.{Constraint.Profile, Constraint.one, Input.Input}
 use Rattle.vipr_bytes.specs.Output.{Output}
 use Rattle.vipr_tighten.specs.Tightens.{Tightens, TightensIn}
 use Rattle.vipr_tighten.specs.declared.outcome.Outcome.{Outcome}

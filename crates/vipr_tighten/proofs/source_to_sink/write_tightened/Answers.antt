@@ -1,17 +1,13 @@
 use Rattle.std.proofs.Common.{◌≡◌, length, arith, rules}
-use Rattle.vipr_spec.specs.Constraint.{Profile}
-use Rattle.vipr_spec.specs.Certificate.{Certificate}
 use Rattle.vipr_spec.specs.Tightened.{tightened_certificate}
-use Rattle.vipr_write.specs.Forms.{text_in}
-use Rattle.vipr_write.specs.Steps.{AreStepsOf}
-use Rattle.vipr_write.specs.declared.form.Form.{Form}
+use Rattle.vipr_spec.specs.{Certificate.Certificate, Constraint.Profile}
+use Rattle.vipr_write.specs.{Forms.text_in, Steps.AreStepsOf, declared.form.Form.Form}
 use Rattle.vipr_tighten.specs.Keeping.{IsKeptOf}
-use Rattle.vipr_tighten.proofs.Kept.{few_steps, tight_steps, tight_few}
-use Rattle.vipr_tighten.proofs.Kept.{tight_fewer, tightens_whole, tightens_part}
-use Rattle.vipr_tighten.proofs.Outcomes.{written_not}
-use Rattle.vipr_tighten.proofs.source_to_sink.write_tightened.Given.{Over}
-use Rattle.vipr_tighten.proofs.source_to_sink.write_tightened.Goals as goal
+use Rattle.vipr_tighten.proofs.Kept.{few_steps, tight_steps, tight_few, tight_fewer, tightens_whole}
+use Rattle.vipr_tighten.proofs.Kept.{tightens_part}
 use Rattle.vipr_tighten.proofs.source_to_sink.write_tightened.Goals.{After-write_steps}
+use Rattle.vipr_tighten.proofs.{Outcomes.written_not, source_to_sink.write_tightened.Given.Over}
+use Rattle.vipr_tighten.proofs.source_to_sink.write_tightened.Goals as goal
 
 -- the steps that are written are those of the tightened certificate
 steps_of : (g : Over) (c : After-write_steps g) (P : Profile) (F : Form) (x : Certificate)

@@ -1,5 +1,4 @@
-use Rattle.vipr_write.proofs.SpelledTokens.{short_tokens}
-use Rattle.vipr_write.proofs.SpelledParts.{can_write_spelled}
+use Rattle.vipr_write.proofs.{SpelledParts.can_write_spelled, SpelledTokens.short_tokens}
 use Rattle.vipr_write.proofs.canonical.spelled_ones.Goals as goal
 
 pub returns : goal.returns

@@ -1,8 +1,6 @@
 use Rattle.std.proofs.Common.{◌+◌, ◌^◌, ◌<◌, length, arith}
 use Rattle.std.specs.List.{sum_by}
-use Rattle.vipr_write.specs.Canonical.{problem_lines}
-use Rattle.vipr_write.specs.Weight.{weight}
-use Rattle.vipr_write.specs.Steps.{step_weight}
+use Rattle.vipr_write.specs.{Canonical.problem_lines, Steps.step_weight, Weight.weight}
 use Rattle.vipr_write.proofs.StepLengths.{text_countable}
 use Rattle.vipr_write.proofs.countable.are_countable.Goals as goal
 

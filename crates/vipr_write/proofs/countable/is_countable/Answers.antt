@@ -1,6 +1,5 @@
 use Rattle.std.proofs.Common.{◌^◌, ◌<◌, arith}
-use Rattle.vipr_write.specs.Canonical.{certificate_lines}
-use Rattle.vipr_write.specs.Weight.{weight}
+use Rattle.vipr_write.specs.{Canonical.certificate_lines, Weight.weight}
 use Rattle.vipr_write.proofs.Weighing.{text_short}
 use Rattle.vipr_write.proofs.countable.is_countable.Goals as goal
 

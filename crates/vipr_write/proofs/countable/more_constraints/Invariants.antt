@@ -1,8 +1,6 @@
 use Rattle.std.proofs.Common.{suc, length}
-use Rattle.vipr_linear.specs.Constraint.{constraint_of}
-use Rattle.vipr_linear.specs.declared.constraint.Constraint.{Constraint}
-use Rattle.vipr_cert.specs.Items.{named_of}
-use Rattle.vipr_cert.specs.declared.items.Named.{Named}
+use Rattle.vipr_linear.specs.{Constraint.constraint_of, declared.constraint.Constraint.Constraint}
+use Rattle.vipr_cert.specs.{Items.named_of, declared.items.Named.Named}
 use Rattle.vipr_write.specs.Canonical.{given_words}
 use Rattle.vipr_write.proofs.Weighing.{Weighs}
 use Rattle.vipr_write.proofs.countable.more_constraints.Given as goal

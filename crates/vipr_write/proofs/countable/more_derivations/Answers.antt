@@ -1,6 +1,5 @@
 use Rattle.std.proofs.Common.{suc, ◌+◌, ◌*◌, length, ap, ◌∙◌}
-use Rattle.vipr_cert.specs.Items.{derivation_of}
-use Rattle.vipr_cert.specs.declared.items.Derivation.{Derivation}
+use Rattle.vipr_cert.specs.{Items.derivation_of, declared.items.Derivation.Derivation}
 use Rattle.vipr_write.specs.Canonical.{reason_words, reference_words, derivation_words}
 use Rattle.vipr_bytes.specs.Hands.{counted}
 use Rattle.vipr_write.proofs.Weighing.{weighs_next, weighs_all, derivation_weight, in_turn}

@@ -1,6 +1,5 @@
 use Rattle.std.proofs.Common.{suc, length}
-use Rattle.vipr_cert.specs.Items.{derivation_of}
-use Rattle.vipr_cert.specs.declared.items.Derivation.{Derivation}
+use Rattle.vipr_cert.specs.{Items.derivation_of, declared.items.Derivation.Derivation}
 use Rattle.vipr_write.specs.Canonical.{derivation_words}
 use Rattle.vipr_write.proofs.Weighing.{Weighs}
 use Rattle.vipr_write.proofs.countable.more_derivations.Given as goal

@@ -1,7 +1,6 @@
 use Rattle.std.proofs.Common.{suc, length}
 use Rattle.vipr_linear.specs.declared.row.Solution.{Solution}
-use Rattle.vipr_cert.specs.Items.{solution_of}
-use Rattle.vipr_cert.specs.declared.items.Named.{Named}
+use Rattle.vipr_cert.specs.{Items.solution_of, declared.items.Named.Named}
 use Rattle.vipr_write.specs.Canonical.{solution_words}
 use Rattle.vipr_write.proofs.Weighing.{Weighs}
 use Rattle.vipr_write.proofs.countable.more_solutions.Given as goal

@@ -1,6 +1,5 @@
-use Rattle.std.proofs.Common.{◌+◌, refl, ap, ◌∙◌}
+use Rattle.std.proofs.{Common.◌+◌, Common.refl, Common.ap, Common.◌∙◌, lemmas.List.take_all}
 use Rattle.std.specs.List.{sum_by}
-use Rattle.std.proofs.lemmas.List.{take_all}
 use Rattle.vipr_bytes.specs.Hands.{counted}
 use Rattle.vipr_write.specs.Steps.{step_weight}
 use Rattle.vipr_write.proofs.Weighing.{weighs_next}

@@ -1,6 +1,5 @@
-use Rattle.std.proofs.Common.{◌∷◌, sym}
+use Rattle.std.proofs.{Common.◌∷◌, Common.sym, lemmas.List.append-nil}
 use Rattle.std.specs.Fmt.{decimal}
-use Rattle.std.proofs.lemmas.List.{append-nil}
 use Rattle.vipr_bytes.proofs.Laws.{puts_then, puts_same}
 use Rattle.vipr_write.proofs.lines.put_branches.Goals as goal
 

@@ -1,5 +1,4 @@
-use Rattle.std.proofs.Common.{ap}
-use Rattle.std.proofs.lemmas.List.{map-id}
+use Rattle.std.proofs.{Common.ap, lemmas.List.map-id}
 use Rattle.std.specs.List.{flat_map}
 use Rattle.vipr_write.specs.Canonical.{pair_words, counted_words, line_text, words_after_spaces}
 use Rattle.vipr_bytes.proofs.Laws.{puts_then, puts_same}

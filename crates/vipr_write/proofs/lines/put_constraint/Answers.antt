@@ -1,8 +1,7 @@
 use Rattle.std.proofs.Common.{◌∷◌, [], append_assoc}
 use Rattle.vipr_spec.specs.Number.{number_text}
 use Rattle.vipr_linear.specs.Constraint.{constraint_of}
-use Rattle.vipr_write.specs.Canonical.{sense_word, words_after_spaces}
-use Rattle.vipr_write.specs.Forms.{row_words}
+use Rattle.vipr_write.specs.{Canonical.sense_word, Canonical.words_after_spaces, Forms.row_words}
 use Rattle.vipr_bytes.proofs.Laws.{puts_then, puts_same}
 use Rattle.vipr_write.proofs.lines.put_constraint.Goals as goal
 

@@ -1,5 +1,4 @@
-use Rattle.std.proofs.Common.{◌∷◌, sym}
-use Rattle.std.proofs.lemmas.List.{append-nil}
+use Rattle.std.proofs.{Common.◌∷◌, Common.sym, lemmas.List.append-nil}
 use Rattle.std.specs.Prelude.{codes}
 use Rattle.vipr_write.specs.Canonical.{bound_word}
 use Rattle.vipr_bytes.proofs.Laws.{puts_then, puts_same}

@@ -1,5 +1,4 @@
-use Rattle.std.proofs.Common.{ap, ◌∙◌}
-use Rattle.std.proofs.lemmas.List.{map-id}
+use Rattle.std.proofs.{Common.ap, Common.◌∙◌, lemmas.List.map-id}
 use Rattle.vipr_write.specs.Canonical.{counted_words, words_after_spaces}
 use Rattle.vipr_bytes.proofs.Laws.{puts_then, puts_same}
 use Rattle.vipr_write.proofs.lines.put_solution.Goals as goal

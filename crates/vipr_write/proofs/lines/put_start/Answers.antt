@@ -1,5 +1,4 @@
-use Rattle.std.proofs.Common.{◌∷◌, sym}
-use Rattle.std.proofs.lemmas.List.{append-nil}
+use Rattle.std.proofs.{Common.◌∷◌, Common.sym, lemmas.List.append-nil}
 use Rattle.vipr_spec.specs.Number.{number_text}
 use Rattle.vipr_bytes.proofs.Laws.{puts_then, puts_same}
 use Rattle.vipr_write.proofs.lines.put_start.Goals as goal

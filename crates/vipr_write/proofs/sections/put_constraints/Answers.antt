@@ -1,11 +1,7 @@
 use Rattle.std.proofs.Common.{[], sym}
-use Rattle.vipr_linear.specs.Constraint.{constraint_of}
-use Rattle.vipr_linear.specs.declared.constraint.Constraint.{Constraint}
-use Rattle.vipr_write.specs.Canonical.{line_text}
-use Rattle.vipr_write.specs.Forms.{given_words_in}
-use Rattle.vipr_cert.specs.Items.{named_of}
-use Rattle.vipr_cert.specs.declared.items.Named.{Named}
-use Rattle.vipr_write.specs.Lines.{constraints_heading}
+use Rattle.vipr_linear.specs.{Constraint.constraint_of, declared.constraint.Constraint.Constraint}
+use Rattle.vipr_write.specs.{Canonical.line_text, Forms.given_words_in, Lines.constraints_heading}
+use Rattle.vipr_cert.specs.{Items.named_of, declared.items.Named.Named}
 use Rattle.vipr_write.proofs.Parts.{headed}
 use Rattle.vipr_bytes.proofs.Laws.{puts_all, puts_next, puts_same, puts_then}
 use Rattle.vipr_write.proofs.sections.put_constraints.Goals as goal

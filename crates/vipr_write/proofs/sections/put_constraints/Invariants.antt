@@ -1,11 +1,8 @@
 use Rattle.std.proofs.Common.{take}
 use Rattle.std.specs.List.{flat_map}
-use Rattle.vipr_linear.specs.Constraint.{constraint_of}
-use Rattle.vipr_linear.specs.declared.constraint.Constraint.{Constraint}
-use Rattle.vipr_write.specs.Canonical.{line_text}
-use Rattle.vipr_write.specs.Forms.{given_words_in}
-use Rattle.vipr_cert.specs.Items.{named_of}
-use Rattle.vipr_cert.specs.declared.items.Named.{Named}
+use Rattle.vipr_linear.specs.{Constraint.constraint_of, declared.constraint.Constraint.Constraint}
+use Rattle.vipr_write.specs.{Canonical.line_text, Forms.given_words_in}
+use Rattle.vipr_cert.specs.{Items.named_of, declared.items.Named.Named}
 use Rattle.vipr_bytes.specs.Puts.{Puts}
 use Rattle.vipr_write.proofs.sections.put_constraints.Given as goal
 

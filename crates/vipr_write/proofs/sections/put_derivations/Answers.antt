@@ -1,9 +1,7 @@
 use Rattle.std.proofs.Common.{[], sym}
 use Rattle.std.specs.Prelude.{codes}
-use Rattle.vipr_cert.specs.Items.{derivation_of}
-use Rattle.vipr_cert.specs.declared.items.Derivation.{Derivation}
-use Rattle.vipr_write.specs.Canonical.{heading, line_text}
-use Rattle.vipr_write.specs.Forms.{derivation_words_in}
+use Rattle.vipr_cert.specs.{Items.derivation_of, declared.items.Derivation.Derivation}
+use Rattle.vipr_write.specs.{Canonical.heading, Canonical.line_text, Forms.derivation_words_in}
 use Rattle.vipr_write.proofs.Parts.{headed}
 use Rattle.vipr_bytes.proofs.Laws.{puts_all, puts_next, puts_same, puts_then}
 use Rattle.vipr_write.proofs.sections.put_derivations.Goals as goal

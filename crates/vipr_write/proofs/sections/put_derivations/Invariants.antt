@@ -1,9 +1,7 @@
 use Rattle.std.proofs.Common.{take}
 use Rattle.std.specs.List.{flat_map}
-use Rattle.vipr_cert.specs.Items.{derivation_of}
-use Rattle.vipr_cert.specs.declared.items.Derivation.{Derivation}
-use Rattle.vipr_write.specs.Canonical.{line_text}
-use Rattle.vipr_write.specs.Forms.{derivation_words_in}
+use Rattle.vipr_cert.specs.{Items.derivation_of, declared.items.Derivation.Derivation}
+use Rattle.vipr_write.specs.{Canonical.line_text, Forms.derivation_words_in}
 use Rattle.vipr_bytes.specs.Puts.{Puts}
 use Rattle.vipr_write.proofs.sections.put_derivations.Given as goal
 

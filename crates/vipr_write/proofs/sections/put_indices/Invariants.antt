@@ -1,6 +1,5 @@
 use Rattle.std.proofs.Common.{take, [], ◌∷◌}
-use Rattle.std.specs.List.{flat_map}
-use Rattle.std.specs.Fmt.{decimal}
+use Rattle.std.specs.{Fmt.decimal, List.flat_map}
 use Rattle.vipr_write.specs.Canonical.{line_text}
 use Rattle.vipr_bytes.specs.Puts.{Puts}
 use Rattle.vipr_write.proofs.sections.put_indices.Given as goal

@@ -1,8 +1,7 @@
 use Rattle.std.proofs.Common.{[], sym}
 use Rattle.std.specs.Prelude.{codes}
 use Rattle.vipr_linear.specs.declared.row.Solution.{Solution}
-use Rattle.vipr_cert.specs.Items.{solution_of}
-use Rattle.vipr_cert.specs.declared.items.Named.{Named}
+use Rattle.vipr_cert.specs.{Items.solution_of, declared.items.Named.Named}
 use Rattle.vipr_write.specs.Canonical.{heading, solution_words, line_text}
 use Rattle.vipr_write.proofs.Parts.{headed}
 use Rattle.vipr_bytes.proofs.Laws.{puts_all, puts_next, puts_same, puts_then}

@@ -1,8 +1,7 @@
 use Rattle.std.proofs.Common.{take}
 use Rattle.std.specs.List.{flat_map}
 use Rattle.vipr_linear.specs.declared.row.Solution.{Solution}
-use Rattle.vipr_cert.specs.Items.{solution_of}
-use Rattle.vipr_cert.specs.declared.items.Named.{Named}
+use Rattle.vipr_cert.specs.{Items.solution_of, declared.items.Named.Named}
 use Rattle.vipr_write.specs.Canonical.{solution_words, line_text}
 use Rattle.vipr_bytes.specs.Puts.{Puts}
 use Rattle.vipr_write.proofs.sections.put_solutions.Given as goal

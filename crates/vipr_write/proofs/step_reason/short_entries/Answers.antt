@@ -1,7 +1,5 @@
 use Rattle.std.proofs.Common.{ℕ, refl, sym, subst, ◌∙◌}
-use Rattle.std.proofs.lemmas.Bool.{false≢true}
-use Rattle.std.proofs.lemmas.List.{take_all}
-use Rattle.std.proofs.lemmas.List.Elements.{All-more}
+use Rattle.std.proofs.{lemmas.Bool.false≢true, lemmas.List.take_all, lemmas.List.Elements.All-more}
 use Rattle.vipr_spec.specs.Fraction.{ℚ}
 use Rattle.vipr_write.specs.StepReasons.{IsShort, AreShort}
 use Rattle.vipr_write.proofs.StepReasons.{one_more}

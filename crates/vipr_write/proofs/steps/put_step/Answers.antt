@@ -1,7 +1,6 @@
 use Rattle.std.proofs.Common.{ap}
-use Rattle.vipr_write.specs.StepReasons.{kept_reason_of}
 use Rattle.vipr_write.specs.Canonical.{reason_words, reference_words, last_word, words_after_spaces}
-use Rattle.vipr_write.specs.Steps.{own_bytes, row_bytes}
+use Rattle.vipr_write.specs.{StepReasons.kept_reason_of, Steps.own_bytes, Steps.row_bytes}
 use Rattle.vipr_bytes.proofs.Laws.{puts_then, puts_same}
 use Rattle.vipr_write.proofs.Kept.{step_parts}
 use Rattle.vipr_write.proofs.steps.put_step.Goals as goal

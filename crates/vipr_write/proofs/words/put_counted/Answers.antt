@@ -1,5 +1,4 @@
-use Rattle.std.proofs.Common.{◌∷◌, sym, ap}
-use Rattle.std.proofs.lemmas.List.{length-map}
+use Rattle.std.proofs.{Common.◌∷◌, Common.sym, Common.ap, lemmas.List.length-map}
 use Rattle.std.specs.Fmt.{decimal}
 use Rattle.vipr_bytes.proofs.Laws.{puts_then, puts_same}
 use Rattle.vipr_write.proofs.words.put_counted.Goals as goal

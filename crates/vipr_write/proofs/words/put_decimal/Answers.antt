@@ -1,5 +1,4 @@
-use Rattle.std.proofs.Common.{sym}
-use Rattle.std.proofs.lemmas.Fmt.{decimal_digit}
+use Rattle.std.proofs.{Common.sym, lemmas.Fmt.decimal_digit}
 use Rattle.vipr_bytes.proofs.Laws.{puts_then, puts_same}
 use Rattle.vipr_write.proofs.Digits.{two_digits}
 use Rattle.vipr_write.proofs.words.put_decimal.Goals as goal

@@ -1,6 +1,5 @@
 use Rattle.std.proofs.Common.{◌≡◌, ◌∷◌, [], ◌++◌, pos, of_z, append_assoc, ap, ap₂, ◌∙◌, rules}
-use Rattle.std.specs.Int.{w128}
-use Rattle.std.specs.Fmt.{signed_decimal}
+use Rattle.std.specs.{Fmt.signed_decimal, Int.w128}
 use Rattle.vipr_bytes.proofs.Laws.{puts_then, puts_same}
 use Rattle.vipr_write.proofs.Parts.{whole_text, parted_text}
 use Rattle.vipr_write.proofs.words.put_fraction.Goals as goal

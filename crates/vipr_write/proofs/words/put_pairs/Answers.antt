@@ -1,9 +1,8 @@
 use Rattle.std.proofs.Common.{◌∷◌, map, sym, ◌∙◌}
 use Rattle.std.proofs.lemmas.List.Folds.{flat_map-map}
 use Rattle.vipr_write.specs.Canonical.{pair_words, words_after_spaces}
-use Rattle.vipr_write.proofs.Appended.{in_parts}
+use Rattle.vipr_write.proofs.{Appended.in_parts, StepReasons.entry_words}
 use Rattle.vipr_bytes.proofs.Laws.{puts_all, puts_next, puts_same, puts_then}
-use Rattle.vipr_write.proofs.StepReasons.{entry_words}
 use Rattle.vipr_write.proofs.words.put_pairs.Goals as goal
 
 pub loop-pair-preserved : goal.loop-pair-preserved

@@ -1,10 +1,8 @@
 use Rattle.std.proofs.Common.{◌≡◌, true, None, refl, sym, ◌∙◌, ap, subst}
-use Rattle.vipr_spec.specs.Tests.{PassesSolution, solution_tests}
-use Rattle.vipr_spec.specs.Steps.{FirstFailing}
+use Rattle.vipr_spec.specs.{Steps.FirstFailing, Tests.PassesSolution, Tests.solution_tests}
 use Rattle.vipr_cert.specs.Items.{solution_of}
 use Rattle.vipr_check.specs.Progress.{Progress, HasSolutions}
-use Rattle.vipr_check.specs.Halts.{CanShowHalt}
-use Rattle.vipr_check.specs.State.{IsReached, StopsSolution}
+use Rattle.vipr_check.specs.{Halts.CanShowHalt, State.IsReached, State.StopsSolution}
 use Rattle.vipr_check.proofs.CheckerLemmas.{runs_of, reached_still, solution_can_show, listed_frame}
 use Rattle.vipr_check.proofs.CheckerLemmas.{halts_same, stops_solution, solution_halted}
 use Rattle.vipr_check.proofs.CheckerLemmas.{reached_listed}

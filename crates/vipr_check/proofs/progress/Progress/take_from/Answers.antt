@@ -1,6 +1,5 @@
 use Rattle.std.proofs.Common.{sym, subst, refl, rules}
-use Rattle.vipr_spec.specs.Constraint.{at, NamesBelow}
-use Rattle.vipr_spec.specs.Certificate.{variables}
+use Rattle.vipr_spec.specs.{Certificate.variables, Constraint.at, Constraint.NamesBelow}
 use Rattle.vipr_table.specs.declared.rows.Entry.{Entry}
 use Rattle.vipr_check.specs.Progress.{Progress as Known}
 use Rattle.vipr_check.proofs.CauseLemmas.{refused_on, kept_on}

@@ -1,11 +1,9 @@
 use Rattle.std.proofs.Common.{[], length, ap, ◌∙◌, refl, sym, subst}
 use Rattle.std.proofs.lemmas.List.{length-replicate, length-map}
-use Rattle.vipr_spec.specs.Fraction.{zero_ℚ}
-use Rattle.vipr_spec.specs.Certificate.{variables}
+use Rattle.vipr_spec.specs.{Certificate.variables, Fraction.zero_ℚ}
 use Rattle.vipr_linear.specs.Constraint.{constraint_of}
 use Rattle.vipr_cert.specs.Items.{named_of}
-use Rattle.vipr_table.specs.History.{IsTableOf}
-use Rattle.vipr_table.specs.Table.{DerivedBelow, empty_table}
+use Rattle.vipr_table.specs.{History.IsTableOf, Table.DerivedBelow, Table.empty_table}
 use Rattle.vipr_table.proofs.Laws.{DerivedBelow-empty, IsTableOf-empty}
 use Rattle.vipr_explain.specs.Near.{without_solutions}
 use Rattle.vipr_explain.proofs.Nearing.{back_start}

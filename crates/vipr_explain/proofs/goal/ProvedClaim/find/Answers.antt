@@ -1,9 +1,7 @@
 use Rattle.std.proofs.Common.{sym, subst}
 use Rattle.vipr_rules.specs.Profile.{profile_of}
-use Rattle.vipr_explain.specs.Found.{text_rest}
-use Rattle.vipr_explain.specs.Near.{LacksGoal}
-use Rattle.vipr_explain.proofs.Lacks.{because, err_is}
-use Rattle.vipr_explain.proofs.Nearing.{goal_missed}
+use Rattle.vipr_explain.specs.{Found.text_rest, Near.LacksGoal}
+use Rattle.vipr_explain.proofs.{Lacks.because, Lacks.err_is, Nearing.goal_missed}
 use Rattle.vipr_explain.proofs.goal.ProvedClaim.find.Goals as goal
 
 pub returns-in_err-find-in-Some-clause-missing : goal.returns-in_err-find-in-Some-clause-missing

@@ -1,7 +1,6 @@
 use Rattle.std.proofs.Common.{◌<◌, List, arith, inl, map, refl, subst}
 use Rattle.std.proofs.lemmas.Bool.Decides.{nat_tests}
-use Rattle.vipr_explain.specs.Refused.{AreNamesOf}
-use Rattle.vipr_explain.specs.declared.near.Near.{Near}
+use Rattle.vipr_explain.specs.{Refused.AreNamesOf, declared.near.Near.Near}
 use Rattle.vipr_explain.proofs.Lacks.{because, err_is, fault_first}
 use Rattle.vipr_explain.proofs.goal.UnprovedClaim.find.Goals as goal
 

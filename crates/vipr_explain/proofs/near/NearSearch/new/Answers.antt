@@ -1,8 +1,7 @@
 use Rattle.std.proofs.Common.{List, [], sym, subst}
 use Rattle.std.specs.Prelude.{All}
 use Rattle.std.proofs.lemmas.List.Elements.{All-nil}
-use Rattle.vipr_spec.specs.Certificate.{Certificate}
-use Rattle.vipr_spec.specs.Steps.{with_more}
+use Rattle.vipr_spec.specs.{Certificate.Certificate, Steps.with_more}
 use Rattle.vipr_explain.specs.Near.{IsOpenJoin, of_none, without_solutions}
 use Rattle.vipr_explain.specs.declared.near.OpenJoin.{OpenJoin}
 use Rattle.vipr_explain.proofs.near.NearSearch.new.Goals as goal

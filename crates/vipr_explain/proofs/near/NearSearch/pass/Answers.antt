@@ -1,8 +1,7 @@
 use Rattle.std.proofs.Common.{refl, sym, ◌∙◌}
 use Rattle.vipr_cert.specs.Items.{derivation_of}
 use Rattle.vipr_rules.specs.Profile.{profile_of}
-use Rattle.vipr_explain.proofs.Again.{first_ok, on_ok, second_ok}
-use Rattle.vipr_explain.proofs.Nearing.{passed_next}
+use Rattle.vipr_explain.proofs.{Again.first_ok, Again.on_ok, Again.second_ok, Nearing.passed_next}
 use Rattle.vipr_explain.proofs.near.NearSearch.pass.Goals as goal
 
 pub returns-in-Ok-clause-passed : goal.returns-in-Ok-clause-passed

@@ -1,6 +1,5 @@
 use Rattle.std.proofs.Common.{◌≡◌, ◌∙◌, length, ap, sym, subst, arith, []}
-use Rattle.std.specs.Prelude.{◌↔◌, IsTrue}
-use Rattle.std.specs.FinSet.{contains}
+use Rattle.std.specs.{FinSet.contains, Prelude.◌↔◌, Prelude.IsTrue}
 use Rattle.std.proofs.lemmas.List.{length-map}
 use Rattle.vipr_spec.specs.Certificate.{RestsOn, count}
 use Rattle.vipr_linear.specs.Constraint.{constraint_of}

@@ -8,10 +8,9 @@ use Rattle.vipr_rules.specs.Profile.{profile_of}
 use Rattle.vipr_explain.specs.Found.{text_rest}
 use Rattle.vipr_explain.specs.Near.{IsRefusedNext, LacksBefore, passed_to, up_to, without_solutions}
 use Rattle.vipr_explain.proofs.Again.{next_read, none_behind, one_behind}
-use Rattle.vipr_explain.proofs.Lacks.{because, err_is}
-use Rattle.vipr_explain.proofs.Nearing.{before_it}
-use Rattle.vipr_explain.proofs.near.NearSearch.pass_to.Goals as goal
 use Rattle.vipr_explain.proofs.near.NearSearch.pass_to.Goals.{in-None, in-Some+in_ok-kept-in-Some}
+use Rattle.vipr_explain.proofs.{Lacks.because, Lacks.err_is, Nearing.before_it}
+use Rattle.vipr_explain.proofs.near.NearSearch.pass_to.Goals as goal
 
 pub loop-passed-init : goal.loop-passed-init
 loop-passed-init c = record {

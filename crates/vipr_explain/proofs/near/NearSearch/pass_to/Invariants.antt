@@ -1,7 +1,6 @@
 use Rattle.std.proofs.Common.{◌≡◌, ◌+◌}
 use Rattle.vipr_rules.specs.Profile.{profile_of}
-use Rattle.vipr_explain.specs.Found.{text_rest}
-use Rattle.vipr_explain.specs.Near.{SearchesPartWay}
+use Rattle.vipr_explain.specs.{Found.text_rest, Near.SearchesPartWay}
 use Rattle.vipr_explain.proofs.near.NearSearch.pass_to.Given as goal
 
 abbrev pub invariant-loop-passed : goal.invariant-loop-passed

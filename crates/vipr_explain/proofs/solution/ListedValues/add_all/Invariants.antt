@@ -1,6 +1,5 @@
 use Rattle.std.proofs.Common.{◌≡◌, ◌+◌}
-use Rattle.vipr_explain.specs.Found.{text_rest}
-use Rattle.vipr_explain.specs.Values.{ValuesPartWay}
+use Rattle.vipr_explain.specs.{Found.text_rest, Values.ValuesPartWay}
 use Rattle.vipr_explain.proofs.solution.ListedValues.add_all.Given as goal
 
 abbrev pub invariant-loop-number : goal.invariant-loop-number

@@ -1,8 +1,7 @@
 use Rattle.std.proofs.Common.{arith, inl, inr, refl, subst, sym}
 use Rattle.vipr_cert.specs.Items.{derivation_of}
 use Rattle.std.specs.Prelude.{option_map}
-use Rattle.vipr_explain.specs.Found.{text_rest}
-use Rattle.vipr_explain.specs.Near.{IsStepOf, without_solutions}
+use Rattle.vipr_explain.specs.{Found.text_rest, Near.IsStepOf, Near.without_solutions}
 use Rattle.vipr_table.specs.History.{IsTableOf}
 use Rattle.vipr_explain.proofs.Lacks.{because, err_is}
 use Rattle.vipr_explain.proofs.step.RefusedStep.find.Goals as goal

@@ -1,6 +1,5 @@
 use Rattle.std.proofs.Common.{take}
-use Rattle.std.specs.Fmt.{HasWritten, IsPlainFormatter}
-use Rattle.std.specs.List.{flat_map}
+use Rattle.std.specs.{Fmt.HasWritten, Fmt.IsPlainFormatter, List.flat_map}
 use Rattle.vipr_page.specs.Algebra.{next_term}
 use Rattle.vipr_page.proofs.algebra.TermsDisplay.fmt.Given as goal
 

@@ -1,7 +1,5 @@
-use Rattle.std.proofs.Common.{false, arith}
-use Rattle.std.proofs.lemmas.Fmt.{hex_byte}
 use Rattle.std.proofs.lemmas.Grind.{common_steps}
-use Rattle.std.proofs.Output.{has_written_of_eq}
+use Rattle.std.proofs.{Common.false, Common.arith, Output.has_written_of_eq, lemmas.Fmt.hex_byte}
 use Rattle.vipr_page.specs.Page.{line_byte}
 use Rattle.vipr_page.proofs.stranger.StrangeByteDisplay.fmt.Goals as goal
 

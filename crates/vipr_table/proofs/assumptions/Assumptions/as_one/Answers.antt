@@ -1,7 +1,6 @@
 use Rattle.std.proofs.Common.{◌∙◌, ap, sym, subst}
 use Rattle.std.specs.FinSet.{from_list}
-use Rattle.vipr_table.specs.IndexList.{listed_set, Rises}
-use Rattle.vipr_table.specs.Rising.{IsRising}
+use Rattle.vipr_table.specs.{IndexList.listed_set, IndexList.Rises, Rising.IsRising}
 use Rattle.vipr_table.proofs.assumptions.Assumptions.as_one.Goals as goal
 
 pub returns-in-One : goal.returns-in-One

@@ -1,6 +1,5 @@
 use Rattle.std.proofs.Common.{sym, subst}
-use Rattle.vipr_table.specs.IndexList.{Rises}
-use Rattle.vipr_table.specs.Rising.{IsRising}
+use Rattle.vipr_table.specs.{IndexList.Rises, Rising.IsRising}
 use Rattle.vipr_table.proofs.assumptions.Assumptions.lists.Goals as goal
 
 pub of_few-requires-in-One : goal.of_few-requires-in-One

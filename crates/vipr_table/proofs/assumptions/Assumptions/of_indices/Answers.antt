@@ -1,5 +1,4 @@
-use Rattle.std.proofs.Common.{rules, ◌<◌, ◌∙◌, ◌^◌}
-use Rattle.std.proofs.lemmas.Result.{IfOk-weaker}
+use Rattle.std.proofs.{Common.rules, Common.◌<◌, Common.◌∙◌, Common.◌^◌, lemmas.Result.IfOk-weaker}
 use Rattle.std.specs.List.{All}
 use Rattle.vipr_table.proofs.SetLemmas.{deduped_set, deduped_rising}
 use Rattle.vipr_table.proofs.assumptions.Assumptions.of_indices.Goals as goal

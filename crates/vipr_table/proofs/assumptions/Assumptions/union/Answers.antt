@@ -2,8 +2,7 @@ use Rattle.std.proofs.Common.{◌∙◌, ap, ap₂, sym}
 use Rattle.std.proofs.lemmas.Result.{MatchResult-weaker, IfOk-weaker}
 use Rattle.std.specs.FinSet.{union}
 use Rattle.vipr_table.proofs.SetLemmas.{union_none, union_same, union_seen}
-use Rattle.vipr_table.proofs.UnionsLemmas.{none_union}
-use Rattle.vipr_table.proofs.ListsLemmas.{union_turned}
+use Rattle.vipr_table.proofs.{ListsLemmas.union_turned, UnionsLemmas.none_union}
 use Rattle.vipr_table.proofs.assumptions.Assumptions.union.Goals as goal
 
 pub returns-then-is_empty : goal.returns-then-is_empty

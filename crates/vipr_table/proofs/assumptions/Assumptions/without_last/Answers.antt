@@ -1,7 +1,6 @@
 use Rattle.std.proofs.Common.{[], ◌∷◌, ◌∙◌, ap, sym, subst, refl}
 use Rattle.std.specs.FinSet.{from_list, remove}
-use Rattle.vipr_table.specs.IndexList.{listed_set, Rises}
-use Rattle.vipr_table.specs.Rising.{IsRising}
+use Rattle.vipr_table.specs.{IndexList.listed_set, IndexList.Rises, Rising.IsRising}
 use Rattle.vipr_table.proofs.ListsLemmas.{last_out_seen}
 use Rattle.vipr_table.proofs.assumptions.Assumptions.without_last.Goals as goal
 

@@ -1,12 +1,10 @@
 use Rattle.std.proofs.Common.{◌≡◌, ◌∙◌, ap}
 use Rattle.std.specs.FinSet.{union}
 use Rattle.vipr_table.specs.Sets.{union_of_all}
-use Rattle.vipr_table.proofs.SetLemmas.{union_none}
-use Rattle.vipr_table.proofs.UnionsLemmas.{one_below}
-use Rattle.vipr_table.proofs.ListsLemmas.{more_added}
-use Rattle.vipr_table.proofs.assumptions.lists.add_fronts.Goals as goal
 use Rattle.vipr_table.proofs.assumptions.lists.add_fronts.Goals.{then-not-is_among+in_ok-clone+in_ok-push}
 use Rattle.vipr_table.proofs.assumptions.lists.add_fronts.Goals.{else-not-is_among}
+use Rattle.vipr_table.proofs.{ListsLemmas.more_added, SetLemmas.union_none, UnionsLemmas.one_below}
+use Rattle.vipr_table.proofs.assumptions.lists.add_fronts.Goals as goal
 
 pub loop-front-init : goal.loop-front-init
 loop-front-init c = union_none _

@@ -1,9 +1,8 @@
 use Rattle.std.proofs.Common.{◌∙◌, ap, ap₂, sym}
 use Rattle.std.specs.FinSet.{union, remove}
 use Rattle.vipr_table.specs.Sets.{union_of_all}
-use Rattle.vipr_table.proofs.SetLemmas.{remove_none}
-use Rattle.vipr_table.proofs.UnionsLemmas.{one_below}
 use Rattle.vipr_table.proofs.ListsLemmas.{more_united, remove_union}
+use Rattle.vipr_table.proofs.{SetLemmas.remove_none, UnionsLemmas.one_below}
 use Rattle.vipr_table.proofs.assumptions.lists.fronts_without.Goals as goal
 
 pub loop-front-init : goal.loop-front-init

@@ -1,6 +1,5 @@
 use Rattle.std.proofs.Common.{◌∙◌, ◌||◌, true, false, ap, ap₂, sym}
-use Rattle.std.specs.FinSet.{contains, contains-empty}
-use Rattle.std.specs.Ordering.{nat_cmp}
+use Rattle.std.specs.{FinSet.contains, FinSet.contains-empty, Ordering.nat_cmp}
 use Rattle.vipr_table.proofs.ListsLemmas.{within_all, listed_in, more_united}
 use Rattle.vipr_table.proofs.UnionsLemmas.{has_of}
 use Rattle.vipr_table.proofs.assumptions.lists.one_has.Goals as goal

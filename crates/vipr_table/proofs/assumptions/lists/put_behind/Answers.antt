@@ -2,12 +2,11 @@ use Rattle.std.proofs.Common.{◌≡◌, ◌∙◌, ap, ap₂, sym}
 use Rattle.std.proofs.lemmas.List.{append-nil}
 use Rattle.std.specs.FinSet.{union, from_list}
 use Rattle.vipr_table.specs.Sets.{union_of_all}
-use Rattle.vipr_table.proofs.SetLemmas.{union_seen}
-use Rattle.vipr_table.proofs.UnionsLemmas.{one_below, top_joined}
-use Rattle.vipr_table.proofs.assumptions.lists.put_behind.Goals as goal
 use Rattle.vipr_table.proofs.assumptions.lists.put_behind.Goals.{in-Some+in_ok-items-in-Some}
 use Rattle.vipr_table.proofs.assumptions.lists.put_behind.Goals.{in-Some-2+in_ok-push-in-Some-2+in_ok-items-in-Some-2}
 use Rattle.vipr_table.proofs.assumptions.lists.put_behind.Goals.{in-None+in_ok-items-in-None}
+use Rattle.vipr_table.proofs.{SetLemmas.union_seen, UnionsLemmas.one_below, UnionsLemmas.top_joined}
+use Rattle.vipr_table.proofs.assumptions.lists.put_behind.Goals as goal
 
 pub returns : goal.returns
 returns c =

@@ -1,8 +1,6 @@
-use Rattle.std.proofs.Common.{◌≡◌, ◌||◌, ◌-◌, ℕ, Bool, true, false, List, take, drop, length, subst, sym}
-use Rattle.std.proofs.Common.{ap, ◌∙◌, refl}
-use Rattle.std.proofs.Common.{nat_eq}
-use Rattle.std.proofs.lemmas.List.{take-append-drop}
-use Rattle.std.proofs.lemmas.List.Folds.{list_any-append}
+use Rattle.std.proofs.Common.{◌≡◌, ◌||◌, ◌-◌, ℕ, Bool, true, false, List, take, drop, length, subst}
+use Rattle.std.proofs.Common.{sym, ap, ◌∙◌, refl, nat_eq}
+use Rattle.std.proofs.{lemmas.List.take-append-drop, lemmas.List.Folds.list_any-append}
 use Rattle.vipr_table.specs.Rising.{has}
 use Rattle.vipr_table.proofs.RisingLemmas.{to_end}
 use Rattle.vipr_table.proofs.assumptions.merge.has_all.Goals as goal

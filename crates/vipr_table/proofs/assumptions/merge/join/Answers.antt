@@ -1,5 +1,4 @@
-use Rattle.std.proofs.Common.{subst, sym}
-use Rattle.std.proofs.lemmas.Result.{IfOk-weaker}
+use Rattle.std.proofs.{Common.subst, Common.sym, lemmas.Result.IfOk-weaker}
 use Rattle.vipr_table.specs.Rising.{IsUnion}
 use Rattle.vipr_table.proofs.RisingLemmas.{joined_in_order, joined_turned}
 use Rattle.vipr_table.proofs.assumptions.merge.join.Goals as goal

@@ -1,5 +1,4 @@
-use Rattle.std.proofs.Common.{◌≡◌, length, arith}
-use Rattle.std.proofs.lemmas.Bool.Decides.{nat_tests}
+use Rattle.std.proofs.{Common.◌≡◌, Common.length, Common.arith, lemmas.Bool.Decides.nat_tests}
 use Rattle.vipr_table.proofs.UnionsLemmas.{no_few}
 use Rattle.vipr_table.proofs.assumptions.union.with_few.Goals as goal
 

@@ -1,6 +1,5 @@
 use Rattle.std.proofs.Common.{ap, ◌∙◌, rules}
-use Rattle.std.specs.FinMap.{from_entries}
-use Rattle.std.specs.Ordering.{nat_cmp}
+use Rattle.std.specs.{FinMap.from_entries, Ordering.nat_cmp}
 use Rattle.vipr_table.proofs.TableLemmas.{entries_inserted}
 use Rattle.vipr_table.proofs.rows.live_only.insert.Goals as goal
 

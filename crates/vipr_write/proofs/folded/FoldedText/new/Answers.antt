@@ -1,7 +1,6 @@
 use Rattle.std.proofs.Common.{rules, ap, ◌∙◌}
-use Rattle.vipr_write.specs.Folded.{Begun, begun}
 use Rattle.vipr_write.specs.Canonical.{lines_text, line_text, heading}
-use Rattle.vipr_write.specs.Forms.{problem_lines_in}
+use Rattle.vipr_write.specs.{Folded.Begun, Folded.begun, Forms.problem_lines_in}
 use Rattle.std.specs.Prelude.{codes, ◌++◌}
 use Rattle.vipr_bytes.proofs.Laws.{puts_then}
 use Rattle.vipr_write.proofs.Folding.{intact_more}

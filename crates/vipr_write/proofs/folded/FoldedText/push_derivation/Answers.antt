@@ -2,9 +2,7 @@ use Rattle.std.proofs.Common.{ap, ◌∙◌}
 use Rattle.vipr_bytes.proofs.Laws.{puts_same}
 use Rattle.vipr_cert.specs.Items.{derivation_of}
 use Rattle.vipr_spec.specs.Constraint.{Row}
-use Rattle.vipr_write.specs.Canonical.{line_text}
-use Rattle.vipr_write.specs.Folded.{Begun}
-use Rattle.vipr_write.specs.Forms.{derivation_words_in}
+use Rattle.vipr_write.specs.{Canonical.line_text, Folded.Begun, Forms.derivation_words_in}
 use Rattle.vipr_write.proofs.Folding.{pushed}
 use Rattle.vipr_write.proofs.folded.FoldedText.push_derivation.Goals as goal
 

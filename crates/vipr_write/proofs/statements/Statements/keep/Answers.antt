@@ -1,14 +1,10 @@
 use Rattle.std.proofs.Common.{◌≡◌, List, ℕ, ◌∷◌, [], ◌++◌, cond, length, refl, ap, ◌∙◌}
 use Rattle.vipr_cert.specs.Items.{derivation_of}
-use Rattle.vipr_write.specs.Canonical.{words_after_spaces}
-use Rattle.vipr_write.specs.Forms.{row_words}
-use Rattle.vipr_write.specs.Lines.{words_text}
-use Rattle.vipr_write.specs.Folded.{stated_words}
 use Rattle.vipr_write.specs.declared.statements.Statement.{Statement}
 use Rattle.vipr_write.specs.declared.statements.Statements.{Statements}
-use Rattle.vipr_write.specs.declared.statements.Step.{Step}
-use Rattle.vipr_bytes.proofs.Laws.{grown}
-use Rattle.vipr_bytes.proofs.Laws.{puts_then}
+use Rattle.vipr_write.specs.{Canonical.words_after_spaces, Folded.stated_words, Forms.row_words}
+use Rattle.vipr_write.specs.{Lines.words_text, declared.statements.Step.Step}
+use Rattle.vipr_bytes.proofs.Laws.{grown, puts_then}
 use Rattle.vipr_write.proofs.Kept.{kept_more, words_are}
 use Rattle.vipr_write.proofs.statements.Statements.keep.Goals as goal
 

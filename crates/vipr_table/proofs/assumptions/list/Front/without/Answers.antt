@@ -2,9 +2,8 @@ use Rattle.std.proofs.Common.{◌∙◌, ◌^◌, ap, sym, subst, false}
 use Rattle.std.proofs.lemmas.Result.{MatchResult-weaker, IfOk-weaker}
 use Rattle.std.specs.FinSet.{from_list, remove}
 use Rattle.vipr_table.specs.Rising.{IsRising}
-use Rattle.vipr_table.proofs.RisingLemmas.{rises_filter}
 use Rattle.vipr_table.proofs.SetLemmas.{remove_absent, remove_seen}
-use Rattle.vipr_table.proofs.ListsLemmas.{listed_in}
+use Rattle.vipr_table.proofs.{ListsLemmas.listed_in, RisingLemmas.rises_filter}
 use Rattle.vipr_table.proofs.assumptions.list.Front.without.Goals as goal
 
 pub returns-then-not-is_in : goal.returns-then-not-is_in

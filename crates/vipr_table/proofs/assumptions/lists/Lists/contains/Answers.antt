@@ -1,7 +1,6 @@
 use Rattle.std.proofs.Common.{◌∙◌, ◌||◌, ap, sym}
 use Rattle.std.specs.FinSet.{contains}
-use Rattle.vipr_table.specs.Rising.{has}
-use Rattle.vipr_table.specs.Sets.{union_of_all}
+use Rattle.vipr_table.specs.{Rising.has, Sets.union_of_all}
 use Rattle.vipr_table.proofs.ListsLemmas.{lists_have}
 use Rattle.vipr_table.proofs.assumptions.lists.Lists.contains.Goals as goal
 

@@ -1,8 +1,7 @@
 use Rattle.std.proofs.Common.{◌∙◌, ap₂}
 use Rattle.std.specs.FinSet.{union, from_list}
 use Rattle.vipr_table.specs.Sets.{union_of_all}
-use Rattle.vipr_table.proofs.SetLemmas.{union_seen}
-use Rattle.vipr_table.proofs.ListsLemmas.{crossed}
+use Rattle.vipr_table.proofs.{ListsLemmas.crossed, SetLemmas.union_seen}
 use Rattle.vipr_table.proofs.assumptions.lists.Lists.union.Goals as goal
 
 pub returns : goal.returns

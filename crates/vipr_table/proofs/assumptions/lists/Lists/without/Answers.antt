@@ -1,10 +1,8 @@
 use Rattle.std.proofs.Common.{◌∙◌, ◌^◌, ap, ap₂, sym, subst}
 use Rattle.std.specs.FinSet.{union, remove, from_list}
-use Rattle.vipr_table.specs.Rising.{IsRising}
-use Rattle.vipr_table.specs.Sets.{union_of_all}
+use Rattle.vipr_table.specs.{Rising.IsRising, Sets.union_of_all}
 use Rattle.vipr_table.proofs.RisingLemmas.{rises_filter}
-use Rattle.vipr_table.proofs.SetLemmas.{remove_seen}
-use Rattle.vipr_table.proofs.ListsLemmas.{remove_union}
+use Rattle.vipr_table.proofs.{ListsLemmas.remove_union, SetLemmas.remove_seen}
 use Rattle.vipr_table.proofs.assumptions.lists.Lists.without.Goals as goal
 
 pub invariant_of-result : goal.invariant_of-result

@@ -1,11 +1,8 @@
 use Rattle.std.proofs.Common.{◌≡◌, ℕ, ◌++◌, ◌∙◌, List, Result, Ok, Err, ap, sym}
 use Rattle.std.specs.Prelude.{OnOk, if◌then◌else◌, is_ok}
-use Rattle.std.specs.FinSet.{FinSet, union, from_list}
-use Rattle.std.specs.Ordering.{nat_cmp}
-use Rattle.vipr_table.specs.Sets.{union_of_all}
-use Rattle.vipr_table.specs.Unions.{union_so_far}
-use Rattle.vipr_table.proofs.SetLemmas.{union_none}
-use Rattle.vipr_table.proofs.UnionsLemmas.{few_put}
+use Rattle.std.specs.{FinSet.FinSet, FinSet.union, FinSet.from_list, Ordering.nat_cmp}
+use Rattle.vipr_table.specs.{Sets.union_of_all, Unions.union_so_far}
+use Rattle.vipr_table.proofs.{SetLemmas.union_none, UnionsLemmas.few_put}
 use Rattle.vipr_table.proofs.assumptions.union.Union.add.Goals as goal
 
 pub returns-then-is_empty-clause-union : goal.returns-then-is_empty-clause-union

@@ -1,6 +1,5 @@
 use Rattle.std.proofs.Common.{◌≡◌, ◌∙◌, ap, sym, length, arith}
-use Rattle.std.proofs.lemmas.Bool.Decides.{nat_tests}
-use Rattle.std.proofs.lemmas.Result.{IfOk-weaker}
+use Rattle.std.proofs.{lemmas.Bool.Decides.nat_tests, lemmas.Result.IfOk-weaker}
 use Rattle.std.specs.FinSet.{union, from_list}
 use Rattle.vipr_table.specs.Sets.{union_of_all}
 use Rattle.vipr_table.proofs.UnionsLemmas.{union_assoc, none_union, no_few, no_sets}

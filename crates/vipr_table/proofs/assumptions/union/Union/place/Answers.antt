@@ -1,9 +1,8 @@
 use Rattle.std.proofs.Common.{◌≡◌, ◌∙◌, ◌++◌, ◌∷◌, [], ap, ap₂, sym}
 use Rattle.std.proofs.lemmas.Result.{MatchResult-weaker}
 use Rattle.std.specs.FinSet.{union, from_list}
-use Rattle.vipr_table.specs.Sets.{union_of_all}
-use Rattle.vipr_table.specs.Unions.{union_so_far}
 use Rattle.vipr_table.specs.declared.assumptions.union.Union.{Union}
+use Rattle.vipr_table.specs.{Sets.union_of_all, Unions.union_so_far}
 use Rattle.vipr_table.proofs.UnionsLemmas.{union_assoc, one_put, last_two}
 use Rattle.vipr_table.proofs.assumptions.union.Union.place.Goals as goal
 use Rattle.vipr_table.proofs.assumptions.union.Union.place.Goals.{then-is_near+in_ok-joined}

@@ -1,5 +1,4 @@
-use Rattle.std.proofs.Common.{sym, subst}
-use Rattle.std.proofs.lemmas.List.Sorted.{IsPermutation-map}
+use Rattle.std.proofs.{Common.sym, Common.subst, lemmas.List.Sorted.IsPermutation-map}
 use Rattle.vipr_table.specs.Expiry.{Notes, dues}
 use Rattle.vipr_table.proofs.rows.expiry.Order.note.Goals as goal
 

@@ -1,5 +1,4 @@
-use Rattle.std.proofs.Common.{◌≡◌, ap, arith}
-use Rattle.std.proofs.lemmas.List.Sorted.{IsPermutation-map}
+use Rattle.std.proofs.{Common.◌≡◌, Common.ap, Common.arith, lemmas.List.Sorted.IsPermutation-map}
 use Rattle.vipr_table.proofs.ExpiryLemmas.{All-below_top, same_front}
 use Rattle.vipr_table.proofs.rows.expiry.Order.take_due.Goals as goal
 

@@ -1,6 +1,5 @@
 use Rattle.std.proofs.Common.{length}
-use Rattle.vipr_table.specs.Expiry.{dues}
-use Rattle.vipr_table.specs.KeepAll.{IsKept, entries_not_forgotten}
+use Rattle.vipr_table.specs.{Expiry.dues, KeepAll.IsKept, KeepAll.entries_not_forgotten}
 use Rattle.vipr_table.proofs.ExpiryOrderLemmas.{AdvancesTo}
 use Rattle.vipr_table.proofs.rows.keep_all.KeepAllRows.advance.Given as goal
 

@@ -1,6 +1,5 @@
 use Rattle.std.proofs.Common.{◌≡◌, ◌∙◌, Bool, true, false, Option, None, Some, cond, ap, sym}
-use Rattle.vipr_table.specs.declared.rows.Entry.{Entry}
-use Rattle.vipr_table.specs.Table.{entry_at, if_live}
+use Rattle.vipr_table.specs.{Table.entry_at, Table.if_live, declared.rows.Entry.Entry}
 use Rattle.vipr_table.proofs.TableLemmas.{if_live-true, if_live-false}
 use Rattle.vipr_table.proofs.KeepAllLemmas.{kept_seen, none_before, none_after}
 use Rattle.vipr_table.proofs.rows.keep_all.KeepAllRows.get.Goals as goal

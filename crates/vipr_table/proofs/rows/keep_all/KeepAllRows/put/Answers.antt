@@ -1,7 +1,6 @@
 use Rattle.std.proofs.Common.{refl, sym, ap, ◌∙◌, false, arith}
 use Rattle.vipr_table.specs.declared.rows.keep_all.Kept.{Kept}
-use Rattle.vipr_table.specs.KeepAll.{entries_not_forgotten}
-use Rattle.vipr_table.specs.Table.{put_entry}
+use Rattle.vipr_table.specs.{KeepAll.entries_not_forgotten, Table.put_entry}
 use Rattle.std.specs.FinMap.{insert}
 use Rattle.vipr_table.proofs.TableLemmas.{same_table}
 use Rattle.vipr_table.proofs.KeepAllLemmas.{IsKept-put, kept_map-push, len-kept_map}

@@ -1,5 +1,4 @@
-use Rattle.std.proofs.Common.{arith}
-use Rattle.std.proofs.lemmas.List.Sorted.{length_permutation}
+use Rattle.std.proofs.{Common.arith, lemmas.List.Sorted.length_permutation}
 use Rattle.vipr_table.proofs.ExpiryOrderLemmas.{AdvancesTo-removed, advanced}
 use Rattle.vipr_table.proofs.rows.live_only.LiveOnlyRows.advance.Goals as goal
 

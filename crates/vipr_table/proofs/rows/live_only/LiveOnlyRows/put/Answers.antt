@@ -1,7 +1,6 @@
 use Rattle.std.proofs.Common.{refl, ap, ◌∙◌, arith}
 use Rattle.vipr_table.specs.Table.{put_entry}
-use Rattle.vipr_table.proofs.TableLemmas.{same_table}
-use Rattle.vipr_table.proofs.ExpiryOrderLemmas.{IsTied-put}
+use Rattle.vipr_table.proofs.{ExpiryOrderLemmas.IsTied-put, TableLemmas.same_table}
 use Rattle.vipr_table.proofs.rows.live_only.LiveOnlyRows.put.Goals as goal
 
 pub invariant_of-self : goal.invariant_of-self
