@@ -17,6 +17,7 @@ import sys
 ROOT = os.path.dirname(os.path.dirname(os.path.abspath(__file__)))
 CRATES = os.path.join(ROOT, 'crates')
 sys.path.insert(0, os.path.join(ROOT, 'tools'))
+import imports  # noqa: E402
 import wrong  # noqa: E402
 import literals  # noqa: E402
 import statement  # noqa: E402
@@ -176,6 +177,13 @@ def unused_imports():
                 pieces = [piece for piece in name.split('◌') if piece] or [name]
                 if name not in UNNAMED and not all(it in words or '◌' in name and it in rest for it in pieces):
                     yield '%s:%d: %s' % (shown(path), text[:use.start()].count('\n') + 1, name)
+
+
+def imports_are_joined():
+    """Imports have as few lines as tools/imports.py CRATE writes."""
+    for crate in sorted(os.listdir(CRATES)):
+        for path, old, new in imports.changed(crate):
+            yield '%s: could have %d lines fewer' % (shown(path), old.count('\n') - new.count('\n'))
 
 
 def heads(lines):
@@ -447,7 +455,7 @@ def numbers_have_reasons():
     return literals.faults()
 
 
-CHECKS = [foreign_proofs, private_lemmas, names_twice, types_twice, growing_types, plain_words, comments_stand_alone, unused_imports, dead_lemmas, dead_calls, laws_are_named, proofs_in_specs, long_lines, long_files, crates_are_there, graph_is_current,
+CHECKS = [foreign_proofs, private_lemmas, names_twice, types_twice, growing_types, plain_words, comments_stand_alone, unused_imports, imports_are_joined, dead_lemmas, dead_calls, laws_are_named, proofs_in_specs, long_lines, long_files, crates_are_there, graph_is_current,
           statement_is_current, examples_are_there, causes_agree, edits_stand, samples_go_round, versions_agree, named_files_are_there,
           numbers_have_reasons, formatted]
 

@@ -6,7 +6,7 @@ usage: tools/imports.py CRATE ..
 `use Rattle.a.specs.{B.x, C.y}` is `use Rattle.a.specs.B.{x}` and `use Rattle.a.specs.C.{y}`. No line gets more than 100
 columns, and a file of which many names are taken keeps lines of its own.
 
-Prints how many lines went. The layout is that of `rt fmt`.
+Prints how many lines went. The layout is that of `rt fmt`, and tests/house.py asks for it.
 """
 import re
 import sys
