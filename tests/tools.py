@@ -259,7 +259,7 @@ def libraries(place):
     made.parent.mkdir(parents=True, exist_ok=True)
     made.write_text('')
     question = 'import sys; sys.path.insert(0, "tools"); import kit; print(kit.is_of_one_run())'
-    newest = max(it.stat().st_mtime for it in (place.tree / 'crates').rglob('*') if it.is_file())
+    newest = max(it.stat().st_mtime for it in (place.tree / 'crates').rglob('*') if it.is_file() and 'out' not in it.parts)
     for seconds, said in ((2, 'True\n'), (-2, 'False\n')):
         os.utime(made, (newest + seconds, newest + seconds))
         check(place.python('-c', question) == (0, said), f'a library {seconds} seconds after the sources: not {said}')
