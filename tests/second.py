@@ -46,7 +46,8 @@ WRONG = {
     'a split with a gap': ('Qeq_bool high (low + 1)', 'Qle_bool (low + 1) high'),
     'an equation rounded': (
         '| E => negb (is_whole (side_ a)) || dominates a d', '| E => dominates (with_side a (Qfloor (side_ a))) d'),
-    'a goal with assumptions': ('found t || PositiveSet.is_empty (rests s) && goals e a', 'found t || goals e a'),
+    'a goal with assumptions': (
+        'found t || forallb (fun x => Indices.is_empty (snd x)) (rests s) && goals e a', 'found t || goals e a'),
     'a fractional coefficient rounded': ('(is_zero q || i && is_whole q)', '(is_zero q || i)'),
     'an integer variable left out': (
         '(fun t j => PositiveSet.add (N.succ_pos j) t) (integers p)',
