@@ -45,8 +45,8 @@ LESS = {('empty_solutions', 'tighten'): 4}
 NOISE = 256 << 10
 # the lengths of the shorter texts; sets show what they cost in longer ones, and some at one of several lengths
 LENGTH, LONG = 8_000, {'same_set': [400_000], 'alternating_sets': [400_000], 'nine_sets': [400_000],
-                       'joined_sets': [225_000, 400_000], 'split_on_sets': [200_000, 700_000],
-                       'own_in_front': [350_000], 'growing': [100_000], 'growing_at_the_front': [100_000],
+                       'joined_sets': [225_000, 400_000], 'split_on_sets': [200_000, 400_000, 700_000],
+                       'own_in_front': [350_000, 700_000], 'growing': [100_000], 'growing_at_the_front': [100_000],
                        'growing_in_the_middle': [100_000]}
 MEMORY_LENGTH, KEPT_LENGTH, WRITTEN_LENGTH = 200_000, 500_000, 100_000
 # instructions that a text of this length may take whose steps have no shorter way

@@ -192,7 +192,7 @@ fn put_behind(alloc: Global, fronts: &mut Vec<Front>, more: &[u32]) -> Result<()
         ≡ set.union (union_of_all fronts.old.items) (set.from_list more.now)) }
 {
     let items = match fronts.pop() {
-        Some(last) if last.len() / 4 <= more.len() => join(alloc, last.as_slice(), more)?,
+        Some(last) if last.len() <= more.len() => join(alloc, last.as_slice(), more)?,
         Some(last) => {
             fronts.push(last)?;
             more.to_vec(alloc)?
