@@ -3,7 +3,7 @@
 
 usage: tools/kit_crates.py [--list] [CRATE ..]
 
-Without names those are checked that crates.txt lists, with all that they use beside std. --list only lists these. A
+Without names those are checked that crates.txt lists, with all that they use. --list only lists these. A
 crate's last line has to begin with `logic=proved`; the exit status is 1 if one isn't proved. The page keeps the rows of
 crates that this run didn't check, each with its kit, and lists those that have none. Nothing is written outside of that page.
 """
@@ -41,6 +41,8 @@ These weren't checked so, for want of time: they have %s lines, and those above 
 | Crate | Lines |
 |---|---|
 '''
+# what `std` is made of, each over those before it
+BASE = ['core', 'libc', 'io', 'os', 'std_heap', 'std_alloc', 'std_io', 'std_collections', 'std']
 ROW = re.compile(r'^\| `(\w+)` \|.*\| \S+ \|$', re.M)
 
 
@@ -50,29 +52,31 @@ def lines_of(crate):
 
 
 def used(crate):
-    """The libraries of the kit that a crate names, beside itself."""
+    """The libraries of the kit that a crate is checked over."""
+    if crate in BASE:
+        return BASE[:BASE.index(crate)]
     text = '\n'.join(it.read_text(encoding='utf-8') for it in (SOURCES / crate).rglob('*') if it.suffix in ('.rt', '.antt'))
     names = {name for found in re.findall(r'(?<![:\w])(\w+)::|\buse (\w+);|\bRattle\.(\w+)\.', text) for name in found}
     # (`io::` is a module of std, and also the name of a library below it)
     others = {crate, 'std', 'core', 'io', *re.findall(r'\bmod (\w+)', text)}
-    return sorted(it for it in names - others if (RLIBS / f'{it}.rlib').exists())
+    return ['std', *sorted(it for it in names - others if (RLIBS / f'{it}.rlib').exists())]
 
 
 def listed():
-    """What crates.txt lists of the kit, and all that it uses beside std."""
+    """What crates.txt lists of the kit, with all that they use."""
     words = {word for line in (TOP / 'crates.txt').read_text().split('\n') for word in line.partition(':')[2].split()}
-    todo, found = [it for it in words if (SOURCES / it / 'src/lib.rt').exists()], set()
+    todo, found = [it for it in ['std', *words] if (SOURCES / it / 'src/lib.rt').exists()], set()
     while todo:
         crate = todo.pop()
         if crate not in found:
             found.add(crate)
-            todo += [it for it in used(crate) if (SOURCES / it / 'src/lib.rt').exists()]
+            todo += used(crate)
     return sorted(found)
 
 
 def check(crate):
     """The last line of a crate's check, and its processor time."""
-    links = [word for it in ['std', *used(crate)] for word in ('--extern', f'{it}={RLIBS / it}.rlib')]
+    links = [word for it in used(crate) for word in ('--extern', f'{it}={RLIBS / it}.rlib')]
     words = [KIT / 'bin/rattle', 'check', '--crate-name', crate, SOURCES / crate / 'src/lib.rt', *links, '-L', f'dependency={RLIBS}',
              '--antt-project', SOURCES / 'logic/antt-project.json', '--logic-built', KIT / 'logic_built', '--jobs', '1']
     before = resource.getrusage(resource.RUSAGE_CHILDREN)

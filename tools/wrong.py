@@ -12,9 +12,9 @@ An edit is refused only if the prover leaves a goal or a type open at a place. I
 name that the edit took away, if a limit of the toolchain ended the check, or if the check was killed.
 
 Without words all are tried, and the day, the commit and the result are written into docs/PROOF.md. Behind them stands
-what came since: how many edits were added or changed, by git, and how many of those samples refused. `tests/proof.py`
-counts the former anew, and `tests/gate.py` adds the latter, from the log of a run. A run that is cut off goes on where it
-was: an edit that was refused over the same text isn't tried once more.
+what came since: how many edits were added or changed, by git, and how many of those were tried and refused. `tests/proof.py`
+counts the former anew. A run by names adds the latter, and `tests/gate.py` does so from the log of a run. A run that is cut
+off goes on where it was: an edit that was refused over the same text isn't tried once more.
 
 --sample tries N that follow one another, and each commit begins where the one before ends: as many commits as there are
 edits try each of them N times. Without all commits the text of the crates chooses. It takes over what `rt ci` proved, if
@@ -44,8 +44,8 @@ from sources import changed, replaced  # noqa: E402
 
 PAGE = TOP / 'docs/PROOF.md'
 MARKS = '<!-- last run: written by `make wrong`, and what came since by `tests/proof.py` -->', '<!-- end of the last run -->'
-# what a run prints of edits that were refused, and where the page keeps the blobs of those that samples refused since
-REFUSED, TRIED = 'refused of wrong/: ', '<!-- refused by samples, by their git blobs:'
+# what a run prints of edits that were refused, and where the page keeps the blobs of those that were refused since
+REFUSED, TRIED = 'refused of wrong/: ', '<!-- refused since, by their git blobs:'
 # a place that a check names, and what it says of a proof that only lacks a name which the edit took away
 PLACE = re.compile(r'(note: )?\S+:\d+:\d+:')
 NAMES = re.compile(r'(note: )?(\./)?proofs/.*(has no field|is not in scope|has no `|was not admitted|were not checked)')
@@ -249,7 +249,7 @@ def blob(path):
 
 def since(whole, tried):
     """The lines about a whole run and what came since it: how many of today's edits its commit lacks, and how many of these are
-    among those that samples refused. None if git doesn't know the commit."""
+    among those that were refused. None if git doesn't know the commit."""
     commit = re.search(r'at commit (\w+)', whole)
     listed = git('ls-tree', '-r', commit[1], 'crates') if commit else None
     if listed is None:
@@ -257,7 +257,7 @@ def since(whole, tried):
     then = {row.split()[2][:12] for row in listed.split('\n') if re.search(r'/wrong/[^/]*\.edit$', row)}
     new = {blob(path) for path in TOP.glob('crates/*/wrong/*.edit')} - then
     known = sorted(new & set(tried))
-    said = f'samples tried {len(known)} of these, and all were refused' if known else 'no sample of these is recorded yet'
+    said = f'{len(known)} of these were tried, and all were refused' if known else 'none of these was tried yet'
     lines = [MARKS[0], whole, f'Since then {len(new)} were added or changed; {said}.' if new else 'Since then none was added or changed.']
     return '\n'.join([*lines, *[f'{TRIED} {" ".join(known)} -->'] * bool(known), MARKS[1]])
 
@@ -332,6 +332,8 @@ def main(words):
     if not words:
         record(results)
         print(kit.took('make wrong', start))
+    elif not is_sample:
+        PAGE.write_text(counted_anew(PAGE.read_text(), [blobs[name] for name in refused]) or PAGE.read_text())
     for verdict, names in ((Verdict.MISSED, missed), (Verdict.UNJUDGED, unjudged)):
         for name in names:
             print(f'{verdict.value}: {name}')
