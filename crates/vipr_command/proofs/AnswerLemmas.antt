@@ -3,21 +3,19 @@ use Rattle.std.proofs.Common.{◌≡◌, ◌≢◌, ◌⊎◌, ◌<◌, ◌^◌,
 use Rattle.std.proofs.Common.{Result, Ok, Err, inl, inr, refl, subst, sym}
 use Rattle.std.specs.Prelude.{IsErrAnd}
 use Rattle.vipr_spec.specs.{Constraint.Profile, Input.Input, Verdict.IsExplained}
-use Rattle.vipr_bytes.specs.declared.write.WriteFailed.{WriteFailed}
-use Rattle.vipr_bytes.specs.{Known.IfKnown, Known.text_of, Output.Output}
+use Rattle.vipr_bytes.specs.{Known.IfKnown, Known.text_of}
 use Rattle.vipr_check.specs.declared.verdict.Fault.{Fault as CheckFault}
 use Rattle.vipr_check.specs.declared.verdict.Fault.TheVariants.{Memory as CheckMemory}
 use Rattle.vipr_check.specs.declared.verdict.Fault.TheVariants.{Read as CheckRead}
 use Rattle.vipr_check.specs.declared.verdict.Verdict.{Verdict}
 use Rattle.vipr_check.specs.{Checks.ChecksIn, Run.SaysInDetail, declared.detail.Detail.Detail}
 use Rattle.vipr_command.specs.Answer.{AnswersTask, AnswersBy, AnswersWhole, Tells, TellsWhole}
-use Rattle.vipr_command.specs.Answer.{Prints, fault_for, input_of}
+use Rattle.vipr_command.specs.Answer.{fault_for, input_of}
 use Rattle.vipr_command.specs.Known.{KnownInput, OfInput, known_by, unknown_input}
 use Rattle.vipr_command.specs.declared.fault.CommandFault.{CommandFault}
 use Rattle.vipr_command.specs.declared.fault.CommandFault.TheVariants.{Memory, Read, Write}
 use Rattle.vipr_command.specs.declared.request.Task.TheVariants.{Check, Explain, Show, Tighten}
-use Rattle.vipr_command.specs.{Output.Took, declared.answer.Printed.Printed}
-use Rattle.vipr_command.specs.{declared.ending.Ending.Ending, declared.request.Task.Task}
+use Rattle.vipr_command.specs.{declared.answer.Printed.Printed, declared.request.Task.Task}
 use Rattle.vipr_command.proofs.InputLemmas.{of_input}
 
 -- what is told in some words is told in others
@@ -39,12 +37,6 @@ unanswered T P k e (Err f) is h = subst (λ f. AnswersBy T (k.Checked P (Err Che
     go : (e : CheckFault) → k.Checked P (Err e) → AnswersBy T (k.Checked P (Err CheckRead)) (Err (fault_for e))
     go CheckRead h = h
     go CheckMemory h = tt
-
--- nor was there memory for the text
-pub no_room : (T : Verdict → List ℕ → Type 0) (X : Type 0) (r : Result Printed CommandFault)
-    → IsErrAnd r (λ f. f ≡ Memory) → AnswersBy T X r
-no_room T X (Ok a) is = absurd is
-no_room T X (Err f) is = subst (λ f. AnswersBy T X (Err f)) (sym is) tt
 
 module _ (P : Profile) (source : Option Input) (r : Result Printed CommandFault) where
   abbrev Answered : Task → Bool → Bool → Type 0
@@ -91,10 +83,3 @@ module _ (bytes bytes' : List ℕ) (fails ends : Bool) (same : bytes' ≡ bytes)
 
   pub checked_of : (P : Profile) (r : Result Verdict CheckFault) → ChecksIn P (Some (input_of bytes' ends)) r → ChecksIn P (Some (input_of bytes fails)) r
   checked_of P r h = read_as (λ i. ChecksIn P (Some i) r) h
-
--- only a part was printed
-pub not_printed : (a : Printed) (old new : Option Output) (w : WriteFailed)
-    (r : Result Ending CommandFault) → IsErrAnd r (λ f. f ≡ Write w.accepted)
-    → Took old new a.text.items (Err w) → Prints (Ok a) old new r
-not_printed a old new w (Ok e) is took = absurd is
-not_printed a old new w (Err f) is took = (w, is, took)

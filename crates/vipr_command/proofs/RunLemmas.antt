@@ -10,17 +10,16 @@ use Rattle.vipr_bytes.specs.Output.{Output}
 use Rattle.vipr_rules.specs.Profile.{profile_of}
 use Rattle.vipr_write.specs.declared.form.Form.{Form}
 use Rattle.vipr_tighten.specs.declared.outcome.TightenFault.TheVariants as tighten
-use Rattle.vipr_command.specs.Args.{are_accepted, request_of, asked_by, words_fault}
 use Rattle.vipr_command.specs.Folder.{Files, IsFileOf, Unchanged, begun_for, text_held}
 use Rattle.vipr_command.specs.Known.{KnownInput, OfInput, unknown_input}
-use Rattle.vipr_command.specs.Run.{AnswersError, Does, DoesJob, FailsToRead, AnswersWords, Outside}
-use Rattle.vipr_command.specs.Run.{PrintsAnswer, SaysNoMore, UnlessMissing, outside_of, read_from}
-use Rattle.vipr_command.specs.declared.fault.CommandFault.{CommandFault}
 use Rattle.vipr_command.specs.declared.fault.CommandFault.TheVariants.{Memory, Read}
 use Rattle.vipr_command.specs.declared.request.Task.TheVariants.{Check, Explain, Show, Tighten}
-use Rattle.vipr_command.specs.{Answer.AnswersTask, Answer.Prints, Output.Stays}
+use Rattle.vipr_command.specs.{Answer.AnswersTask, Answer.Prints, Args.are_accepted}
+use Rattle.vipr_command.specs.{Args.words_fault, Run.AnswersError, Run.Does, Run.DoesJob}
+use Rattle.vipr_command.specs.{Run.AnswersWords, Run.Outside, Run.PrintsAnswer, Run.outside_of}
 use Rattle.vipr_command.specs.{declared.answer.Printed.Printed, declared.ending.Ending.Ending}
-use Rattle.vipr_command.specs.{declared.request.Job.Job, declared.request.Task.Task}
+use Rattle.vipr_command.specs.{declared.fault.CommandFault.CommandFault, declared.request.Job.Job}
+use Rattle.vipr_command.specs.{declared.request.Task.Task}
 use Rattle.vipr_command.proofs.{InputLemmas.of_input, ShowLemmas.stays, TightenLemmas.unwritten}
 
 -- each name holds what it held
@@ -85,23 +84,6 @@ module _ {S : Type 0} (E : Type 0) (input : S → Option Input) (held : Option (
       go None o = (done, tt)
       go (Some None) o = (done, tt)
       go (Some (Some i)) o = absurd o
-
-module _ (j : Job) (source : Option Input) (old new : Outside) (before after : Option Output) (r : Result Ending CommandFault) where
-  -- the task is done with what is read
-  abbrev DoneWith : Option (Bor (List ℕ)) → Type 0
-  DoneWith file = OfInput (read_from old.files source (named file)) (λ k. DoesJob j k old new r) × UnlessMissing old.files (named file) old.output new.output r × SaysNoMore j.command j.is_long old.files (named file) before after r
-
-  -- no file is named
-  pub done_with_input : j.file ≡ None → OfInput source (λ k. DoesJob j k old new r) → Stays before after → DoneWith j.file
-  done_with_input is done quiet = subst DoneWith (sym is) (done, tt, inl quiet)
-
-  -- a file of the folder
-  pub done_with_file : (file : Bor (List ℕ)) → j.file ≡ Some file → OfInput (text_held (old.files.holds file.now)) (λ k. DoesJob j k old new r) → (old.files.holds file.now ≡ Some None → FailsToRead old.output new.output r) → SaysNoMore j.command j.is_long old.files (Some file.now) before after r → DoneWith j.file
-  done_with_file file is done found said = subst DoneWith (sym is) (done, found, said)
-
-  -- the words ask for what is done
-  pub answered_words : (words : List Text) → asked_by words ≡ Some (request_of j) → DoneWith j.file → AnswersWords words source old new before after r
-  answered_words words is (done, found, said) = inl (j.command, j.profile, j.form, j.is_long, j.has_sum, named j.file, named j.out, is, done, found, said)
 
 module _ (j : Job) (source : Option Input) (old new : Outside) (r : Result Ending CommandFault) where
   -- what is done is this task

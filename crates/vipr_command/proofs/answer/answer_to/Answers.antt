@@ -1,20 +1,10 @@
 use denote.Enum.Bare.{same_false, same_true}
-use Rattle.std.proofs.Common.{Err, inl, inr, rules, sym}
+use Rattle.std.proofs.Common.{inl, inr, rules, sym}
 use Rattle.vipr_rules.specs.Profile.{profile_of}
-use Rattle.vipr_check.specs.declared.verdict.Fault.TheVariants.{Read as CheckRead}
-use Rattle.vipr_command.specs.Answer.{AnswersTask, Tells, input_of}
-use Rattle.vipr_command.specs.contracts.request.Task.{the_type}
-use Rattle.vipr_command.proofs.AnswerLemmas.{is_check, is_explained, no_room, of_kept, read_once}
-use Rattle.vipr_command.proofs.InputLemmas.{of_any}
+use Rattle.vipr_command.specs.{Answer.input_of, contracts.request.Task.the_type}
+use Rattle.vipr_command.proofs.AnswerLemmas.{is_check, is_explained, of_kept, read_once}
 use Rattle.vipr_command.proofs.answer.answer_to.Goals as goal
 use Rattle.vipr_command.proofs.answer.answer_to.Goals.{then-job-via-then-job, then-job-via-else-job+then-job-2}
-
-pub returns-in_err-text : goal.returns-in_err-text
-returns-in_err-text g c =
-    let j = c.args.job.now in
-    let P = profile_of j.profile in
-    let r = c.from_residual.result in
-    of_any (g.R.Source.input c.args.source) (λ k. AnswersTask j.command P j.is_long j.has_sum k r) (λ k. no_room (Tells j.command P j.is_long j.has_sum k) (k.Checked P (Err CheckRead)) r c.from_residual.ensures.1)
 
 pub returns-then-job : goal.returns-then-job
 returns-then-job g c =

@@ -1,8 +1,7 @@
 use Rattle.std.proofs.Common.{Ok, Err}
-use Rattle.vipr_check.specs.declared.verdict.Fault.TheVariants.{Read as CheckRead}
 use Rattle.vipr_rules.specs.Profile.{profile_of}
 use Rattle.vipr_command.specs.{Answer.TellsWhole, Answer.input_of, Known.known_by}
-use Rattle.vipr_command.proofs.AnswerLemmas.{checked_of, no_room, said_of, unanswered}
+use Rattle.vipr_command.proofs.AnswerLemmas.{checked_of, said_of, unanswered}
 use Rattle.vipr_command.proofs.in_memory.ReadText.answer.Goals as goal
 
 pub returns-in_err-verdict : goal.returns-in_err-verdict
@@ -14,14 +13,6 @@ returns-in_err-verdict c =
     let e = c.in_err-verdict.field-0.0 in
     let r = c.reader.ensures in
     unanswered (TellsWhole j.command P j.is_long j.has_sum i) P (known_by i) e c.from_residual.result c.from_residual.ensures.1 ((checked_of _ _ _ _ r.bytes r.end P (Err e) c.in_err-verdict.ensures.verdict).exact r.short)
-
-pub returns-in_err-text : goal.returns-in_err-text
-returns-in_err-text c =
-    let j = c.args.job.now in
-    let P = profile_of j.profile in
-    let t = c.args.self.now in
-    let i = input_of t.bytes.items t.has_failed in
-    no_room (TellsWhole j.command P j.is_long j.has_sum i) ((known_by i).Checked P (Err CheckRead)) c.from_residual-in_err-text.result c.from_residual-in_err-text.ensures.1
 
 pub returns : goal.returns
 returns c =
