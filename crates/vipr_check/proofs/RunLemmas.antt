@@ -1,5 +1,5 @@
 -- A text item by item: what is answered for what is left is the answer for what was left before
-use Rattle.std.proofs.Common.{◌≡◌, ◌≢◌, ℕ, zero, suc, ◌+◌, ◌<◌, ◌^◌, true, false, List, [], ◌∷◌}
+use Rattle.std.proofs.Common.{◌≡◌, ℕ, zero, suc, ◌+◌, ◌<◌, ◌^◌, true, false, List, [], ◌∷◌}
 use Rattle.std.proofs.Common.{◌++◌, Some, None, Result, Ok, Err, inl, inr, arith, refl, sym, ◌∙◌}
 use Rattle.std.proofs.Common.{ap, subst}
 use Rattle.std.specs.Prelude.{◌⊎◌, IsSome, IfSome, IfOk, Option}
@@ -35,8 +35,6 @@ use Rattle.vipr_check.specs.Run.{IsAmong, HasListed, IsAt, HasReached, Goes, Say
 use Rattle.vipr_check.specs.{Halts.halt_answer, Halts.step_detail_of, View.report_of}
 use Rattle.vipr_check.specs.{View.refusal_of, declared.halt.Halt.Halt, declared.halt.Stop.Stop}
 use Rattle.vipr_check.specs.{declared.no_proof.NoProof.NoProof, declared.verdict.Report.Report}
-use Rattle.vipr_check.specs.declared.halt.Stop.TheVariants as stop
-use Rattle.vipr_check.specs.declared.no_proof.NoProof.TheVariants as reason
 use Rattle.vipr_check.proofs.Answering.{SaysWhy-by, SaysWith-by, text_says}
 use Rattle.vipr_check.proofs.ShownLemmas.{missed_bound, stop_shown, halted_shown, unshown}
 
@@ -46,11 +44,6 @@ pub knows_still : (p : Problem) (old new : Items) → Knows old p → Remembers 
 knows_still p old new k r = record { variables = r.variables ∙ k.variables; constraints = r.constraints ∙ k.constraints; objective = r.objective ∙ k.objective }
 
 -- ---- stops
-
--- a checker that stops for the first time isn't spent
-first_unspent : (h : Halt) (e : Stop) → e ≡ halt_answer h → e ≢ stop.Spent
-first_unspent (Refused r f) e says is = cc
-first_unspent Memory e says is = cc
 
 -- what is said where a checker stopped
 stopped_says : (P : Answer → Detail → Type 0) (k l : State) (h : Halt) (e : Stop) → HaltsBy k h l e
@@ -82,10 +75,6 @@ at_start P p ss k l r is h new knows unspent room = record {
   unspent = unspent;
   room = let e = knows.constraints in omega arith;
 }
-
-pub reached_now : (P : Profile) (c : Certificate) (k : State) (old : Items) → IsAt P c k old
-    → HasReached P c old k old
-reached_now P c k old is = record { now = c; is_at = is; leads = λ known. record { known = known; answers = λ a x h. h } }
 
 pub reached_later : (P : Profile) (c : Certificate) (k l : State) (old mid new : Items)
     → (h : HasReached P c old k mid) → HasReached P h.now mid l new → HasReached P c old l new
@@ -206,17 +195,6 @@ module _ (P : Profile) (c : Certificate) (k l : State) (r : Rest) (under : k.pro
       (end_verified P (verified (report_of report)) (state_shown l) c r end (subst (λ Q. IsProof Q c) under h.0).dual).1 ((report_of report, subst (λ Q. Reports Q c (report_of report)) under h.1, refl), shown)
 
 -- ---- the solutions
-
--- where no memory is wanted, its want is not the reason
-pub never_memory : (ss : List (Named Row)) (s : Named Row) (k l : State) (e : Stop)
-    → TakesSolution ss s k l (Err e) → e ≢ stop.Memory → stop_reason e ≢ reason.Memory
-never_memory ss s k l (stop.Refused r) h n = λ is. cc
-never_memory ss s k l stop.Memory h n = absurd (n refl)
-never_memory ss s k l stop.Spent h n = absurd (first_unspent h.0 stop.Spent h.1.answer refl)
-
-pub listed_now : (P : Profile) (p : Problem) (ss : List (Named Row)) (k : State) (old : Items)
-    → IsAmong P p ss k old → HasListed P p ss old k old
-listed_now P p ss k old is = record { now = ss; is_among = is; known = λ t. t; answers = λ t a x h. h }
 
 pub listed_later : (P : Profile) (p : Problem) (ss : List (Named Row)) (k l : State)
     (old mid new : Items) → (h : HasListed P p ss old k mid) → HasListed P p h.now mid l new

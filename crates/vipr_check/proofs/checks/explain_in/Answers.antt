@@ -1,10 +1,10 @@
-use Rattle.std.proofs.Common.{Ok, Err, sym, subst, ◌∙◌}
+use Rattle.std.proofs.Common.{Ok, sym, subst, ◌∙◌}
 use Rattle.vipr_spec.specs.Verdict.{IsExplained}
 use Rattle.vipr_bytes.specs.Known.{text_of}
 use Rattle.vipr_rules.specs.Profile.{profile_of}
 use Rattle.vipr_check.specs.Run.{SaysAtEnd, SaysInDetail}
 use Rattle.vipr_check.specs.{Checks.ChecksIn, Shown.last_shown, View.answer_of}
-use Rattle.vipr_check.proofs.Answering.{run_checks, verdict_shows, fault_shows}
+use Rattle.vipr_check.proofs.Answering.{run_checks, verdict_shows}
 use Rattle.vipr_read.proofs.Laws.{known_by}
 use Rattle.vipr_check.proofs.checks.explain_in.Goals as goal
 
@@ -28,11 +28,3 @@ pub returns-in-Err-clause-verdict : goal.returns-in-Err-clause-verdict
 returns-in-Err-clause-verdict g c =
     let source = g.R.Source.input c.args.source in
     subst (ChecksIn (profile_of c.args.profile) source) (sym c.verdict_of.ensures ∙ c.in-Err.is) (run_checks (profile_of c.args.profile) source c.run-outcome.result c.run-outcome.ensures.any c.run-outcome.ensures.explained)
-
-pub returns-in-Err-clause-detail : goal.returns-in-Err-clause-detail
-returns-in-Err-clause-detail g c =
-    let P = profile_of c.args.profile in
-    let x = c.run-outcome.result in
-    let f = c.in-Err.fault in
-    known_by (g.R.Source.input c.args.source) (λ i. SaysAtEnd (IsExplained P (text_of i)) x) (λ i. SaysInDetail (IsExplained P (text_of i)) (Err f))
-    (λ i h. fault_shows (IsExplained P (text_of i)) (last_shown x.1) x.0 f (sym c.verdict_of.ensures ∙ c.in-Err.is) h) c.run-outcome.ensures.explained

@@ -9,9 +9,6 @@ use Rattle.vipr_check.proofs.RunLemmas.{at_start, knows_still, ending_unmet, end
 use Rattle.vipr_check.proofs.RunLemmas.{ending_read, ending_failed, ending_shown}
 use Rattle.vipr_check.proofs.walk.after_last_solution.Goals as goal
 
-pub end_solutions-requires : goal.end_solutions-requires
-end_solutions-requires g c = let (P, p, ss, is) = c.requires.among in is.phase
-
 pub returns-in-Err-clause-explained : goal.returns-in-Err-clause-explained
 returns-in-Err-clause-explained g c = λ P p ss is known.
     let left = rest_of c.args.solutions.rest in

@@ -20,9 +20,3 @@ returns-in-Ok-clause-explained g c = λ known r is.
     let after = c.check_solutions-outcome in
     let among = among_start (profile_of c.args.profile) p k c.args.solutions e.profile e.problem e.start e.phase e.runs c.requires.knows c.requires.unspent c.requires.counted in
     problem_read_on (profile_of c.args.profile) r p c.args.solutions.left (rest_of c.args.solutions.rest) (state_shown after.new.checker) after.result is (after.ensures.explained (profile_of c.args.profile) p [] among known)
-
-pub returns-in-Ok-clause-any : goal.returns-in-Ok-clause-any
-returns-in-Ok-clause-any g c =
-    let p = c.args.problem in
-    let e = c.in-Ok.ensures in
-    c.check_solutions-outcome.ensures.any (profile_of c.args.profile) p [] (among_start (profile_of c.args.profile) p c.in-Ok.checker c.args.solutions e.profile e.problem e.start e.phase e.runs c.requires.knows c.requires.unspent c.requires.counted)

@@ -1,11 +1,8 @@
-use Rattle.vipr_check.proofs.RunLemmas.{reached_now, step_goes_on, step_ends, step_ends_proved}
+use Rattle.vipr_check.proofs.RunLemmas.{step_goes_on, step_ends, step_ends_proved}
 use Rattle.vipr_check.proofs.walk.check_derivations.Goals as goal
 
 pub next_step-answer-requires : goal.next_step-answer-requires
 next_step-answer-requires g c = let (P, s, is) = c.requires in let h = c.steps.invariant P s is in (P, h.now, h.is_at)
-
-pub steps-init : goal.steps-init
-steps-init g c = λ P s is. reached_now P s c.args.checker.now c.args.derivations is
 
 pub steps-preserved : goal.steps-preserved
 steps-preserved g c = λ P s is.

@@ -2,11 +2,8 @@ use Rattle.std.proofs.Common.{◌≡◌, Err, sym, subst, arith}
 use Rattle.vipr_spec.specs.{Progress.solutions_from, Verdict.Explained}
 use Rattle.vipr_scan.specs.Giving.{rest_of}
 use Rattle.vipr_check.specs.{Run.SaysWith, Shown.state_shown}
-use Rattle.vipr_check.proofs.RunLemmas.{listed_now, listed_later, listed_says}
+use Rattle.vipr_check.proofs.RunLemmas.{listed_later, listed_says}
 use Rattle.vipr_check.proofs.walk.check_solutions.Goals as goal
-
-pub solutions-init : goal.solutions-init
-solutions-init g c = λ P p ss is. listed_now P p ss c.args.checker.now c.args.solutions is
 
 pub next_solution-requires-clause-among : goal.next_solution-requires-clause-among
 next_solution-requires-clause-among g c = let (P, p, ss, is) = c.requires in let h = c.solutions.invariant P p ss is in (P, p, h.now, h.is_among)

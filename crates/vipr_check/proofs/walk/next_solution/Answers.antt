@@ -1,20 +1,10 @@
-use Rattle.std.proofs.Common.{◌≡◌, ◌≢◌, true, Result, Err}
-use Rattle.vipr_check.specs.declared.halt.Stop.TheVariants as stop
 use Rattle.vipr_check.specs.Reasons.{text_reason, stop_reason}
-use Rattle.vipr_check.specs.{Run.GoesAmong, Shown.state_shown, declared.no_proof.NoProof.NoProof}
-use Rattle.vipr_check.specs.declared.no_proof.NoProof.TheVariants as reason
+use Rattle.vipr_check.specs.{Run.GoesAmong, Shown.state_shown}
 use Rattle.vipr_cert.specs.Items.{solution_of}
 use Rattle.vipr_scan.specs.Giving.{rest_of}
-use Rattle.vipr_check.proofs.RunLemmas.{one_more, solution_missing, solution_listed, solution_stops}
-use Rattle.vipr_check.proofs.RunLemmas.{never_memory}
+use Rattle.vipr_check.proofs.RunLemmas.{solution_missing, solution_listed, solution_stops}
 use Rattle.vipr_check.proofs.{Answering.handed_on, ShownLemmas.unshown}
 use Rattle.vipr_check.proofs.walk.next_solution.Goals as goal
-
-pub take_solution-requires-clause-phase : goal.take_solution-requires-clause-phase
-take_solution-requires-clause-phase g c = let (P, p, ss, is) = c.requires.among in is.phase
-
-pub take_solution-requires-clause-room : goal.take_solution-requires-clause-room
-take_solution-requires-clause-room g c = let (P, p, ss, is) = c.requires.among in one_more P p ss c.args.checker.now c.args.solutions.now is c.requires.some
 
 pub returns-in_err-solution-clause-step : goal.returns-in_err-solution-clause-step
 returns-in_err-solution-clause-step g c = λ P p ss is.
@@ -35,16 +25,6 @@ returns-in_err-take_solution-in-Some-clause-step g c = λ P p ss is.
     let e = c.in_err-take_solution-in-Some.field-0.0 in
     handed_on (GoesAmong P p ss old l new) c.from_residual-in_err-take_solution-in-Some.result (stop_reason e) c.from_residual-in_err-take_solution-in-Some.ensures.1
     (solution_stops P p ss k l old new (solution_of c.in-Some.solution) is h.moves.counted (λ known. (let r = h.read p is.knows known in (r.1, r.2))) e (c.in_err-take_solution-in-Some.ensures.next ss is.runs is.has))
-
-pub returns-in_err-take_solution-in-Some-clause-decided :
-    goal.returns-in_err-take_solution-in-Some-clause-decided
-returns-in_err-take_solution-in-Some-clause-decided g c =
-    let (P, p, ss, is) = c.requires.among in
-    let e = c.in_err-take_solution-in-Some.field-0.0 in
-    let taken = c.in_err-take_solution-in-Some.ensures.next ss is.runs is.has in
-    let wanted : e ≢ stop.Memory = λ i. c.in_err-take_solution-in-Some.ensures.decided (cc i) in
-    handed_on (λ (r : Result (Unit {0}) NoProof). r ≡ Err reason.Memory → c.next.new.self.failed ≡ true) c.from_residual-in_err-take_solution-in-Some.result (stop_reason e) c.from_residual-in_err-take_solution-in-Some.ensures.1
-    (λ m. absurd (never_memory ss (solution_of c.in-Some.solution) c.args.checker.now c.take_solution.new.self e taken wanted (cc m)))
 
 pub returns-clause-step : goal.returns-clause-step
 returns-clause-step g c = λ P p ss is.

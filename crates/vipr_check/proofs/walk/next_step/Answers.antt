@@ -1,30 +1,13 @@
 use Rattle.std.proofs.Common.{sym, subst}
-use Rattle.vipr_spec.specs.Verdict.{Explained, verified}
-use Rattle.vipr_spec.specs.{Constraint.at, Progress.derivations_from}
+use Rattle.vipr_spec.specs.{Progress.derivations_from, Verdict.Explained, Verdict.verified}
 use Rattle.vipr_cert.specs.Items.{derivation_of}
 use Rattle.vipr_scan.specs.Giving.{rest_of}
 use Rattle.vipr_check.specs.Reasons.{text_reason, stop_reason, SaysWhy}
 use Rattle.vipr_check.specs.{Run.Goes, Shown.state_shown, View.report_of}
-use Rattle.vipr_check.proofs.RunLemmas.{room_for, names_for, step_reached, step_stops, finish_stops}
+use Rattle.vipr_check.proofs.RunLemmas.{step_reached, step_stops, finish_stops}
 use Rattle.vipr_check.proofs.RunLemmas.{finish_verifies, derivation_missing}
 use Rattle.vipr_check.proofs.{Answering.handed_on, ShownLemmas.unshown, Verifying.report_of_proof}
 use Rattle.vipr_check.proofs.walk.next_step.Goals as goal
-
-pub take_from-requires-clause-phase : goal.take_from-requires-clause-phase
-take_from-requires-clause-phase g c = c.requires.2.phase
-
-pub take_from-requires-clause-room : goal.take_from-requires-clause-room
-take_from-requires-clause-room g c =
-    let h = rw c.if-found.true at c.in_ok-found.ensures in
-    room_for c.requires.0 c.requires.1 c.args.checker.now c.args.derivations.now c.next_into.new.self.left c.requires.2 h.moves.counted
-
-pub take_from-requires-clause-names : goal.take_from-requires-clause-names
-take_from-requires-clause-names g c =
-    let h = rw c.if-found.true at c.in_ok-found.ensures in
-    names_for c.requires.0 c.requires.1 c.args.checker.now c.args.derivations.now (at c.next_into.new.step.constraint.row) c.requires.2 h.shape.row
-
-pub finish-requires : goal.finish-requires
-finish-requires g c = c.requires.2.phase
 
 pub returns-in_err-found-clause-step : goal.returns-in_err-found-clause-step
 returns-in_err-found-clause-step g c = λ P s is.

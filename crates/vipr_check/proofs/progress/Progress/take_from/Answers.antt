@@ -1,7 +1,4 @@
-use Rattle.std.proofs.Common.{sym, subst, refl, rules}
-use Rattle.vipr_spec.specs.{Certificate.variables, Constraint.at, Constraint.NamesBelow}
-use Rattle.vipr_table.specs.declared.rows.Entry.{Entry}
-use Rattle.vipr_check.specs.Progress.{Progress as Known}
+use Rattle.std.proofs.Common.{refl, rules}
 use Rattle.vipr_check.proofs.CauseLemmas.{refused_on, kept_on}
 use Rattle.vipr_check.proofs.progress.Progress.take_from.Goals as goal
 
@@ -13,11 +10,6 @@ returns-in_err-assumptions-clause-tried g c = record {
   peak = search rules;
   err = search rules;
 }
-
-pub keep-requires-clause-names : goal.keep-requires-clause-names
-keep-requires-clause-names g c =
-    subst (λ (e : Entry). NamesBelow (variables c.self.inside.problem) (at e.constraint.row)) (sym c.take_entry.ensures.kept)
-    (subst (λ (v : Known). NamesBelow (variables v.problem) (at c.args.step.now.constraint.row)) (sym c.self.view_is) c.requires.names)
 
 pub returns-clause-tried : goal.returns-clause-tried
 returns-clause-tried g c = record {
