@@ -39,9 +39,6 @@ pub record EntriesSoFar (first : ℕ) (table : List ℕ) (old : List (ℕ × ℚ
   pub those : now ≡ part (under first table) i old
 
 module _ (first : ℕ) (table : List ℕ) (old : List (ℕ × ℚ)) where
-  pub none_so_far : EntriesSoFar first table old 0 old
-  none_so_far = record { those = refl }
-
   module _ (i : ℕ) (now : List (ℕ × ℚ)) (h : i < length old) (so_far : EntriesSoFar first table old i now) (x : ℕ × ℚ) (is : x ≡ get_or now i x) where
     old_one : x ≡ get_or old i x
     old_one = is ∙ ap (λ l. get_or l i x) so_far.those ∙ at_part (under first table) old i x h

@@ -1,17 +1,17 @@
 -- Marks, from the end to the front
 use Rattle.std.proofs.Common.{◌≡◌, ℕ, ◌+◌, ◌-◌, ◌<◌, ◌≤◌, Bool, true, false, ◌&&◌, ◌||◌, nat_eq, List, []}
 use Rattle.std.proofs.Common.{take, drop, map, replicate, length, slice_index_or, get_or, Option}
-use Rattle.std.proofs.Common.{Some, None, arith, refl, sym, ◌∙◌, ap, ap₂, subst}
+use Rattle.std.proofs.Common.{None, arith, refl, sym, ◌∙◌, ap, ap₂, subst}
 use Rattle.std.specs.{FinMap.empty, List.list_any}
 use Rattle.std.proofs.Math.Bool.{and-false, and-true, or-false, or_assoc}
-use Rattle.std.proofs.lemmas.List.{drop_all, get_or-map, get_or-replicate, get_or_read_under}
+use Rattle.std.proofs.lemmas.List.{get_or-map, get_or-replicate, get_or_read_under}
 use Rattle.std.proofs.lemmas.List.{length-map, length-replicate}
 use Rattle.std.proofs.lemmas.List.Folds.{list_any_more}
 use Rattle.vipr_spec.specs.Certificate.{asm, Derivation}
-use Rattle.vipr_spec.specs.Tightened.{refers_to, is_the_goal, is_marked}
+use Rattle.vipr_spec.specs.Tightened.{refers_to, is_marked}
 use Rattle.vipr_spec.specs.{Constraint.equal, Fraction.ℚ, Fraction.zero_ℚ, Reading.is_nonzero}
 use Rattle.vipr_spec.proofs.Laws.{marked_down}
-use Rattle.vipr_tighten.specs.Passes.{has_mark, MarksAlso, AreMarks}
+use Rattle.vipr_tighten.specs.Passes.{has_mark, MarksAlso}
 
 -- ---- tests, one after the other
 
@@ -61,12 +61,6 @@ pub record AreMarksFrom (goal : Option ℕ) (first : ℕ) (ds : List Derivation)
   pub each : (k : ℕ) → k < length ds → has_mark marks k ≡ is_marked goal (first + j) (drop j ds) (first + k)
 
 module _ (goal : Option ℕ) (first : ℕ) (ds : List Derivation) where
-  pub marks_begin : (marks : List Bool) → length marks ≡ length ds → ((k : ℕ) → k < length ds → has_mark marks k ≡ is_the_goal goal (first + k)) → AreMarksFrom goal first ds (length ds) marks
-  marks_begin marks size goal_alone = record {
-    size = size;
-    each = λ k h. goal_alone k h ∙ ap (λ l. is_marked goal (first + length ds) l (first + k)) (sym (drop_all (length ds) ds (omega arith)));
-  }
-
   -- j is the next one towards the front
   module _ (j : ℕ) (d : Derivation) (h : j < length ds) (marks : List Bool) (so_far : AreMarksFrom goal first ds (j + 1) marks) where
     step : (new : List Bool) → length new ≡ length marks → ((k : ℕ) → k < length ds → has_mark new k ≡ (has_mark marks k || (has_mark marks j && refers_to (slice_index_or ds j d).reason (first + k)))) → AreMarksFrom goal first ds j new
@@ -86,11 +80,6 @@ module _ (goal : Option ℕ) (first : ℕ) (ds : List Derivation) where
     pub marks_stay : has_mark marks j ≡ false → AreMarksFrom goal first ds j marks
     marks_stay unmarked = step marks refl (λ k l. sym (or-false (has_mark marks k)) ∙ ap (λ b. has_mark marks k || (b && refers_to (slice_index_or ds j d).reason (first + k))) (sym unmarked))
 
-  pub marks_end : (marks : List Bool) → AreMarksFrom goal first ds 0 marks → AreMarks goal first ds marks
-  marks_end marks m =
-      let same : first + 0 ≡ first = omega arith in
-      record { size = m.size; each = λ k h. m.each k h ∙ ap (λ n. is_marked goal n ds (first + k)) same }
-
 -- ---- as they are read
 
 -- at the start, with no mark but the goal's
@@ -103,19 +92,6 @@ module _ {D : Type 0} (derived : D → Derivation) (goal : Option ℕ) (first : 
 
   unmarked : (k : ℕ) → k < length xs → has_mark clear k ≡ false
   unmarked k h = ap (λ l. has_mark l k) is ∙ get_or-replicate (length xs) k false false h
-
-  from_end : (marks : List Bool) → length marks ≡ length clear → ((k : ℕ) → k < length xs → has_mark marks k ≡ is_the_goal goal (first + k)) → AreMarksFrom goal first (map derived xs) (length xs) marks
-  from_end marks same each =
-      let c = count in let s = size in
-      subst (λ n. AreMarksFrom goal first (map derived xs) n marks) count
-      (marks_begin goal first (map derived xs) marks (omega arith) (λ k h. each k (omega arith)))
-
-  pub begin_none : goal ≡ None → AreMarksFrom goal first (map derived xs) (length xs) clear
-  begin_none none = from_end clear refl (λ k h. unmarked k h ∙ ap (λ g. is_the_goal g (first + k)) (sym none))
-
-  pub begin_goal : (index : ℕ) → goal ≡ Some index → (marks : List Bool) → length marks ≡ length clear → MarksAlso first (λ i. nat_eq i index) clear marks → AreMarksFrom goal first (map derived xs) (length xs) marks
-  begin_goal index some marks same also =
-      from_end marks same (λ k h. let s = size in also k (omega arith) ∙ ap (λ b. b || nat_eq (first + k) index) (unmarked k h) ∙ ap (λ g. is_the_goal g (first + k)) (sym some))
 
 module _ {D : Type 0} (derived : D → Derivation) (goal : Option ℕ) (first : ℕ) (xs : List D) (j : ℕ) (h : j < length xs) (marks : List Bool) (so_far : AreMarksFrom goal first (map derived xs) (j + 1) marks) where
   inside : j < length (map derived xs)

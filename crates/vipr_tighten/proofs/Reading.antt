@@ -128,10 +128,6 @@ module _ (P : Profile) (p : Problem) (ss : List (Named Row)) (k l : State) (firs
 
 -- ---- the derivations
 
-pub derived_first : (P : Profile) (c : Certificate) (k : State) (r : Items) → IsAt P c k r
-    → KeepsDerived P c r c k r
-derived_first P c k r is = record { is_at = is; known = λ t. t; leads = λ t. leads_same P (derivations_left c r) }
-
 module _ (P : Profile) (s c : Certificate) (k l : State) (first old : Items) (h : KeepsDerived P s first c k old) where
   pub step_unread : (e : TextError) → ((old.left ≡ 0) × Fails e (end_read (rest_of old.rest))) ⊎ ((0 < old.left) × Fails e (derivation_read c.problem (rest_of old.rest))) → IsSome first.rest → AnswersWhy P (derivations_left s first) (text_reason e)
   step_unread e x known = answers_by P (derivations_left s first) (derivations_left c old) (h.leads known) (text_reason e) (none, derivation_missing P c old.left (rest_of old.rest) none e refl x)

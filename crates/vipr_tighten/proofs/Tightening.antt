@@ -1,15 +1,12 @@
 -- The parts of the tightened certificate
-use Rattle.std.proofs.Common.{◌≡◌, ℕ, ◌+◌, ◌≤◌, List, map, length, Option, arith, sym, ap, ◌∙◌}
-use Rattle.std.proofs.Common.{subst}
+use Rattle.std.proofs.Common.{◌≡◌, ℕ, List, map, length, Option, sym, ap, ◌∙◌, subst}
 use Rattle.vipr_spec.specs.Certificate as is
-use Rattle.vipr_spec.specs.{Reading.most_count, Shape.CanWrite, Tightened.tightened_certificate}
+use Rattle.vipr_spec.specs.{Shape.CanWrite, Tightened.tightened_certificate}
 use Rattle.vipr_spec.proofs.Laws.{can_write}
 use Rattle.vipr_linear.specs.declared.row.Solution.{Solution}
-use Rattle.std.proofs.lemmas.List.{length-map}
 use Rattle.vipr_cert.specs.Items.{derivation_of, certificate_with}
 use Rattle.vipr_cert.specs.{declared.items.Derivation.Derivation, declared.items.Named.Named}
 use Rattle.vipr_tighten.specs.Passes.{AreDerivationsOf}
-use Rattle.vipr_tighten.proofs.Renumbering.{count_of}
 
 module _ (c : is.Certificate) (p : is.Problem) (ss : List (Named Solution)) (ds : List Derivation) (parts : c ≡ certificate_with p ss ds) where
   pub derived : (first : ℕ) → length p.constraints ≡ first → AreDerivationsOf c first (map derivation_of ds)
@@ -17,13 +14,6 @@ module _ (c : is.Certificate) (p : is.Problem) (ss : List (Named Solution)) (ds 
     first_is = ap (λ (x : is.Certificate). length x.problem.constraints) parts ∙ is_first;
     those = ap (λ (x : is.Certificate). x.derivations) (sym parts);
   }
-
-  pub derived_few : (first : ℕ) → length p.constraints ≡ first → CanWrite c → first + length ds ≤ most_count
-  derived_few first is_first w =
-      let e = count_of c first (map derivation_of ds) (derived first is_first) in
-      let size = length-map ds derivation_of in
-      let few = w.shape.few_derivations in
-      omega arith
 
   -- what is kept
   module _ (goal : Option ℕ) (tightened : List Derivation) (are : map derivation_of tightened ≡ (tightened_certificate c goal).derivations) where

@@ -2,14 +2,8 @@ use Rattle.std.proofs.Common.{◌≡◌, length, sym, ap, ◌∙◌}
 use Rattle.std.proofs.lemmas.List.{length-map}
 use Rattle.vipr_linear.specs.Constraint.{constraint_of}
 use Rattle.vipr_cert.specs.Items.{named_of}
-use Rattle.vipr_tighten.proofs.Tightening.{derived, derived_few, tightened_parts, parts_within}
+use Rattle.vipr_tighten.proofs.Tightening.{derived, tightened_parts, parts_within}
 use Rattle.vipr_tighten.proofs.certificate.tighten_certificate.Goals as goal
-
-pub tighten_derived-requires : goal.tighten_derived-requires
-tighten_derived-requires c =
-    let is_first : length c.into_parts-problem.result.0.constraints ≡ length c.cons.result.now =
-    ap length (sym c.cons.ensures.constraints) ∙ length-map c.cons.result.now (named_of constraint_of) in
-    derived_few c.args.certificate c.into_parts-problem.result.0 c.into_parts-problem.result.1.items c.into_parts-problem.result.2.items c.into_parts-problem.ensures.parts (length c.cons.result.now) is_first c.into_parts-problem.ensures.writes
 
 pub of_parts-requires : goal.of_parts-requires
 of_parts-requires c =

@@ -1,9 +1,8 @@
-use Rattle.std.proofs.Common.{◌≡◌, ℕ, ◌&&◌, nat_eq, not, true, false, List, map, ap, sym, ◌∙◌, subst}
-use Rattle.std.specs.List.{list_any}
-use Rattle.vipr_spec.specs.{Fraction.ℚ, Reading.is_nonzero}
+use Rattle.std.proofs.Common.{◌≡◌, nat_eq, not, true, false, map, ap, sym, ◌∙◌, subst}
+use Rattle.vipr_spec.specs.{Reading.is_nonzero}
 use Rattle.vipr_tighten.specs.Passes.{MarksAlso}
 use Rattle.vipr_tighten.proofs.Marking.{entry_marked, entry_passed}
-use Rattle.vipr_tighten.proofs.Pairs.{pair_inside, pair_read, all_pairs}
+use Rattle.vipr_tighten.proofs.Pairs.{pair_inside, pair_read}
 use Rattle.vipr_tighten.proofs.needed.mark_entries.Goals as goal
 use Rattle.vipr_tighten.proofs.needed.mark_entries.Goals.{then-not-is_zero, else-not-is_zero}
 
@@ -24,8 +23,3 @@ loop-entry-preserved g c =
           let t : is_nonzero (pair x) ≡ false = ap not (sym c.is_zero.ensures ∙ w.if-not-is_zero.false) in
           rw w.marks-is (entry_passed c.args.first (map pair es) n (pair x) there is c.args.marks.now c.loop-entry.marks c.loop-entry.auto.marks t c.loop-entry.invariant)
     ]
-
-pub returns : goal.returns
-returns g c =
-    subst (λ (es : List (ℕ × ℚ)). MarksAlso c.args.first (λ i. list_any (λ e. nat_eq i e.0 && is_nonzero e) es) c.args.marks.now c.loop-entry.marks)
-    (all_pairs g.E.SumEntry.pair c.args.entries.now c.loop-entry.entry-index c.loop-entry-test.false) c.loop-entry.invariant

@@ -1,47 +1,13 @@
-use Rattle.std.proofs.Common.{[], ◌∷◌, ◌++◌, refl, ◌∙◌, subst}
-use Rattle.std.proofs.lemmas.List.Elements.{All-push, All-nil}
+use Rattle.std.proofs.Common.{[], ◌∷◌, ◌++◌, ◌∙◌, subst}
+use Rattle.std.proofs.lemmas.List.Elements.{All-push}
 use Rattle.vipr_spec.specs.Shape.{DerivationShape, DerivationFits}
-use Rattle.vipr_spec.specs.{Checking.start, Constraint.at, Steps.with_more, Tests.none}
+use Rattle.vipr_spec.specs.{Checking.start, Steps.with_more, Tests.none}
 use Rattle.vipr_check.specs.declared.no_proof.NoProof.TheVariants as reason
 use Rattle.vipr_cert.specs.Items.{derivation_of}
 use Rattle.vipr_check.specs.Reasons.{stop_reason, text_reason}
-use Rattle.vipr_check.proofs.Laws.{names_for, room_for}
-use Rattle.vipr_tighten.proofs.Reading.{err_given, derived_first, step_accepted, step_refused}
+use Rattle.vipr_tighten.proofs.Reading.{err_given, step_accepted, step_refused}
 use Rattle.vipr_tighten.proofs.Reading.{step_unread, at_end, finish_answers}
 use Rattle.vipr_tighten.proofs.proof_reader.read_derived.Goals as goal
-
-pub steps-init : goal.steps-init
-steps-init g c =
-    let r = c.args.derivations.now in
-    rw c.requires.no_steps (record {
-      same = record { form = refl; objective = refl };
-      variables = refl;
-      read = (
-        [],
-        record { kept = c.requires.none; shapes = All-nil (DerivationShape r.variables); fit = All-nil DerivationFits },
-        λ P p ss is. derived_first P (start p ss) c.args.checker.now r is,
-      );
-    })
-
-pub take_from-requires-clause-phase : goal.take_from-requires-clause-phase
-take_from-requires-clause-phase g c =
-    let (P, p, ss, is) = c.requires.at in
-    let (ds, steps, kept) = c.steps.invariant.read in
-    (kept P p ss is).is_at.phase
-
-pub take_from-requires-clause-room : goal.take_from-requires-clause-room
-take_from-requires-clause-room g c =
-    let (P, p, ss, is) = c.requires.at in
-    let (ds, steps, kept) = c.steps.invariant.read in
-    let h = rw c.if-not-found.false at c.in_ok-found.ensures in
-    room_for P (with_more (start p ss) ds) c.steps.checker c.steps.derivations c.next_into.new.self.left (kept P p ss is).is_at h.moves.counted
-
-pub take_from-requires-clause-names : goal.take_from-requires-clause-names
-take_from-requires-clause-names g c =
-    let (P, p, ss, is) = c.requires.at in
-    let (ds, steps, kept) = c.steps.invariant.read in
-    let h = rw c.if-not-found.false at c.in_ok-found.ensures in
-    names_for P (with_more (start p ss) ds) c.steps.checker c.steps.derivations (at c.next_into.new.step.constraint.row) (kept P p ss is).is_at h.shape.row
 
 pub returns-in_err-take_from-clause-unproved :
     goal.returns-in_err-take_from-clause-unproved
@@ -82,12 +48,6 @@ steps-preserved g c =
             (λ t. let r = h.read p kept.is_at.knows t in (r.1, r.2)) (c.in_ok-take_from.ensures.next now kept.is_at.runs kept.is_at.has),
       );
     })
-
-pub finish-requires : goal.finish-requires
-finish-requires g c =
-    let (P, p, ss, is) = c.requires.at in
-    let (ds, steps, keeps) = c.steps.invariant.read in
-    (keeps P p ss is).is_at.phase
 
 pub returns-in_err-report-clause-unproved : goal.returns-in_err-report-clause-unproved
 returns-in_err-report-clause-unproved g c =

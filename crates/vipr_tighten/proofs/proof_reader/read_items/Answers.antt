@@ -5,15 +5,6 @@ use Rattle.vipr_tighten.proofs.Reading.{err_given, unread_answers, at_then, late
 use Rattle.vipr_tighten.proofs.Reading.{proof_kept}
 use Rattle.vipr_tighten.proofs.proof_reader.read_items.Goals as goal
 
-pub read_listed-requires-clause-among : goal.read_listed-requires-clause-among
-read_listed-requires-clause-among g c = c.requires.among
-
-pub returns-in-Err-clause-unproved : goal.returns-in-Err-clause-unproved
-returns-in-Err-clause-unproved g c = c.in-Err.ensures.unproved
-
-pub finish-requires : goal.finish-requires
-finish-requires g c = c.in_default.ensures.none
-
 pub returns-in_err-derivations-clause-unproved : goal.returns-in_err-derivations-clause-unproved
 returns-in_err-derivations-clause-unproved g c =
     let e = c.in_err-derivations.field-0.0 in

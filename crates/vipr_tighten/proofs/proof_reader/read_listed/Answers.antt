@@ -61,12 +61,6 @@ solutions-preserved g c =
       );
     }
 
-pub end_solutions-requires : goal.end_solutions-requires
-end_solutions-requires g c =
-    let (P, p, is) = c.requires.among in
-    let (ss, lines, shapes, fit, keeps) = c.solutions.invariant.read in
-    (keeps P p is).is_among.phase
-
 pub returns-in_err-end_solutions-in-None-clause-unproved :
     goal.returns-in_err-end_solutions-in-None-clause-unproved
 returns-in_err-end_solutions-in-None-clause-unproved g c =

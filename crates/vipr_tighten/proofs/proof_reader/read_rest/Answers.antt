@@ -13,12 +13,6 @@ read_items-read-requires-clause-among g c =
     let e = c.in-Ok.ensures in
     (P, c.args.problem, among_start P c.args.problem c.in-Ok.checker c.args.solutions e.profile e.problem e.start e.phase e.runs c.requires.knows c.requires.working c.requires.counted)
 
-pub returns-in-Err-clause-unproved : goal.returns-in-Err-clause-unproved
-returns-in-Err-clause-unproved g c =
-    let P = profile_of c.args.profile in
-    let e = c.in-Ok.ensures in
-    c.in-Err.ensures.unproved P c.args.problem (among_start P c.args.problem c.in-Ok.checker c.args.solutions e.profile e.problem e.start e.phase e.runs c.requires.knows c.requires.working c.requires.counted)
-
 pub returns-in-Ok-read-clause-kept : goal.returns-in-Ok-read-clause-kept
 returns-in-Ok-read-clause-kept g c =
     let P = profile_of c.args.profile in

@@ -3,13 +3,9 @@ use Rattle.std.proofs.Common.{ap, ◌∙◌, subst}
 use Rattle.std.proofs.{lemmas.Fn.filter_same, lemmas.List.length-map, lemmas.List.map-set}
 use Rattle.vipr_spec.specs.{Fraction.ℚ, Reading.is_nonzero}
 use Rattle.vipr_tighten.specs.Passes.{index_by}
-use Rattle.vipr_tighten.proofs.Entries.{EntriesSoFar, none_so_far, under, same_entry}
-use Rattle.vipr_tighten.proofs.Entries.{next_entry, all_entries}
+use Rattle.vipr_tighten.proofs.Entries.{EntriesSoFar, under, same_entry, next_entry, all_entries}
 use Rattle.vipr_tighten.proofs.Pairs.{pair_read, pair_filter}
 use Rattle.vipr_tighten.proofs.renumber.renumber_entries.Goals as goal
-
-pub loop-i-init : goal.loop-i-init
-loop-i-init g c = none_so_far c.args.first c.args.table.now (map g.E.SumEntry.pair c.retain.new.self.items)
 
 pub loop-i-preserved : goal.loop-i-preserved
 loop-i-preserved g c =

@@ -1,8 +1,7 @@
-use Rattle.std.proofs.Common.{◌≡◌, ℕ, ◌&&◌, nat_eq, not, true, false, List, map, ap, sym, ◌∙◌, subst}
-use Rattle.std.specs.List.{list_any}
-use Rattle.vipr_spec.specs.{Fraction.ℚ, Reading.is_nonzero, Tightened.referred_by}
+use Rattle.std.proofs.Common.{◌≡◌, nat_eq, not, true, false, map, ap, sym, ◌∙◌, subst}
+use Rattle.vipr_spec.specs.{Reading.is_nonzero, Tightened.referred_by}
 use Rattle.vipr_tighten.proofs.Referring.{entry_referred, entry_skipped, none_referred}
-use Rattle.vipr_tighten.proofs.Pairs.{pair_inside, pair_read, all_pairs}
+use Rattle.vipr_tighten.proofs.Pairs.{pair_inside, pair_read}
 use Rattle.vipr_tighten.proofs.renumber.set_last_named.Goals as goal
 use Rattle.vipr_tighten.proofs.renumber.set_last_named.Goals.{then-not-is_zero, else-not-is_zero}
 
@@ -26,9 +25,3 @@ loop-entry-preserved g c = λ view.
           let t : is_nonzero (pair x) ≡ false = ap not (sym c.is_zero.ensures ∙ w.if-not-is_zero.false) in
           rw w.kept-is (entry_skipped c.args.last c.args.first (map pair es) n (pair x) there is (map (g.D.Tightenable.derived view) c.args.kept.now) (map (g.D.Tightenable.derived view) c.loop-entry.kept) (c.loop-entry.invariant view) t)
     ]
-
-pub returns : goal.returns
-returns g c = λ view.
-    c.loop-entry.invariant view
-    ∙ ap (λ (es : List (ℕ × ℚ)). referred_by (λ i. list_any (λ e. nat_eq i e.0 && is_nonzero e) es) c.args.last c.args.first (map (g.D.Tightenable.derived view) c.args.kept.now))
-    (all_pairs g.E.SumEntry.pair c.args.entries.now c.loop-entry.entry-index c.loop-entry-test.false)

@@ -4,11 +4,6 @@ use Rattle.vipr_tighten.specs.Tightens.{TightensAs}
 use Rattle.vipr_tighten.proofs.Outcomes.{decided_proof, decided_not}
 use Rattle.vipr_tighten.proofs.source_to_sink.tighten_as.Goals as goal
 
-pub write_tightened-written-requires : goal.write_tightened-written-requires
-write_tightened-written-requires g c =
-    let (x, is, found) = c.in-Ok.ensures.proof in
-    (profile_of c.args.profile, c.args.form, x, is)
-
 pub returns-in-Ok-clause-tightens : goal.returns-in-Ok-clause-tightens
 returns-in-Ok-clause-tightens g c =
     let P = profile_of c.args.profile in
