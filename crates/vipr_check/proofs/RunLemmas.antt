@@ -6,8 +6,7 @@ use Rattle.std.specs.Prelude.{◌⊎◌, IsSome, IfSome, IfOk, Option}
 use Rattle.std.specs.Result.{result_transpose}
 use Rattle.vipr_scan.specs.{Faults.Fails, Giving.rest_of, declared.error.TextError.TextError}
 use Rattle.std.proofs.lemmas.List.{length-append}
-use Rattle.vipr_spec.specs.Constraint.{Profile, Row, NamesBelow}
-use Rattle.vipr_spec.specs.Certificate.{Named, Problem, variables, Derivation, Certificate}
+use Rattle.vipr_spec.specs.Certificate.{Named, Problem, Derivation, Certificate}
 use Rattle.vipr_spec.specs.Certificate.{MeetsPrimal, IsProof}
 use Rattle.vipr_spec.specs.Reading.{Rest, problem_read, solution_read, derivations_read}
 use Rattle.vipr_spec.specs.Reading.{derivation_read, end_read}
@@ -17,7 +16,7 @@ use Rattle.vipr_spec.specs.Tests.{no_proof, no_primal, solution_detail, goal_nee
 use Rattle.vipr_spec.specs.Verdict.{Reports, Answer, verified, refuses, answer_of_test, Explained}
 use Rattle.vipr_spec.specs.Verdict.{IsExplained}
 use Rattle.vipr_spec.specs.Progress.{derivations_from, solutions_from}
-use Rattle.vipr_spec.specs.{Checking.start, Shape.ReasonShape}
+use Rattle.vipr_spec.specs.{Checking.start, Constraint.Profile, Constraint.Row, Shape.ReasonShape}
 use Rattle.vipr_rules.specs.{Apply.PassesTestsIn, Solution.test_of}
 use Rattle.vipr_spec.proofs.Laws.{count_next, problem_fault, problem_ok, solution_fault}
 use Rattle.vipr_spec.proofs.Laws.{solution_passes, solution_fails, solutions_unmet}
@@ -57,10 +56,6 @@ stopped_says P k l h e halts s = subst (λ x. SaysWhy P x (stop_reason e)) (sym 
 pub room_for : (P : Profile) (c : Certificate) (k : State) (old : Items) (n : ℕ) → IsAt P c k old
     → old.left ≡ suc n → k.progress.rows.next + 1 < 2 ^ 32
 room_for P c k old n is e = let r = is.room in let next = is.has.rows.next in omega (arith, r, next, e)
-
-pub names_for : (P : Profile) (c : Certificate) (k : State) (old : Items) (row : ℕ → _)
-    → IsAt P c k old → NamesBelow old.variables row → NamesBelow (variables k.progress.problem) row
-names_for P c k old row is names = subst (λ p. NamesBelow (variables p) row) is.has.problem (subst (λ n. NamesBelow n row) is.knows.variables names)
 
 pub at_start : (P : Profile) (p : Problem) (ss : List (Named Row)) (k l : State) (r : Items)
     → IsAmong P p ss k r → EndsSolutions ss k l (Ok tt) → (new : Items) → Knows new p
