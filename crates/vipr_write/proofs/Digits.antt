@@ -1,8 +1,8 @@
 -- Whole numbers: two digits, and the sign
-use Rattle.std.proofs.Common.{◌≡◌, ℕ, ◌+◌, ◌/◌, ◌%◌, ◌<◌, ◌≤◌, ℤ, pos, negsuc, ◌<ℤ◌, ◌≤ℤ◌, [], ◌∷◌}
-use Rattle.std.proofs.Common.{◌++◌, append_assoc, unsigned_abs, refl, sym, ap, ◌∙◌, arith}
-use Rattle.std.proofs.{lemmas.Fmt.decimal_digit, lemmas.Fmt.decimal_step, lemmas.Int.ints}
-use Rattle.std.specs.Fmt.{decimal, signed_decimal}
+use Rattle.std.proofs.Common.{◌≡◌, ℕ, ◌+◌, ◌/◌, ◌%◌, ◌<◌, ◌≤◌, [], ◌∷◌}
+use Rattle.std.proofs.Common.{◌++◌, append_assoc, sym, ap, ◌∙◌, arith}
+use Rattle.std.proofs.{lemmas.Fmt.decimal_digit, lemmas.Fmt.decimal_step}
+use Rattle.std.specs.Fmt.{decimal}
 
 pub two_digits : (n : ℕ) → 10 ≤ n → n < 100
     → (48 + n / 10) ∷ (48 + n % 10) ∷ [] ≡ decimal n
@@ -18,11 +18,3 @@ last_two n more few =
     ∙ sym (append_assoc (decimal (n / 10 / 10)) ((48 + n / 10 % 10) ∷ []) ((48 + n % 10) ∷ []))
     ∙ ap (λ l. l ++ (48 + n % 10) ∷ []) (sym (decimal_step (n / 10) (omega arith) (omega arith)))
     ∙ sym (decimal_step n (omega arith) (omega arith))
-
-pub with_minus : (z : ℤ) → z <ℤ pos 0 → 45 ∷ decimal (unsigned_abs z) ≡ signed_decimal z
-with_minus (pos n) h = absurd (omega (arith, ints))
-with_minus (negsuc n) h = refl
-
-pub without_minus : (z : ℤ) → pos 0 ≤ℤ z → decimal (unsigned_abs z) ≡ signed_decimal z
-without_minus (pos n) h = refl
-without_minus (negsuc n) h = absurd (omega (arith, ints))

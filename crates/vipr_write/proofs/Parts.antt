@@ -1,11 +1,10 @@
 -- Numbers, lines and sections in the parts in which they are appended
 use Rattle.std.proofs.Common.{◌≡◌, ℕ, ℤ, Bool, if◌then◌else◌, List, [], ◌∷◌, ◌++◌, length, map}
 use Rattle.std.proofs.Common.{append_assoc, sym, ap, ◌∙◌}
-use Rattle.std.proofs.lemmas.Bool.{eq-eqb, ne_eqb}
-use Rattle.std.proofs.lemmas.List.{append-nil, length-map}
-use Rattle.std.proofs.{lemmas.Grind.flat_map-append, lemmas.List.Folds.flat_map-map}
+use Rattle.std.proofs.{lemmas.Bool.eq-eqb, lemmas.Grind.flat_map-append, lemmas.List.append-nil}
+use Rattle.std.proofs.{lemmas.List.length-map, lemmas.List.Folds.flat_map-map}
 use Rattle.std.specs.{Fmt.decimal, Fmt.signed_decimal, List.flat_map, Prelude.codes}
-use Rattle.vipr_spec.specs.Certificate.{Problem, integer_variables, Derivation, Certificate}
+use Rattle.vipr_spec.specs.Certificate.{Problem, Derivation, Certificate}
 use Rattle.vipr_spec.specs.{Constraint.Row, Number.number_text}
 use Rattle.vipr_write.specs.Canonical.{sense_word, reason_words, last_word, direction_word}
 use Rattle.vipr_write.specs.Canonical.{vector_words, claim_words, variables_lines, solutions_lines}
@@ -13,9 +12,8 @@ use Rattle.vipr_write.specs.Canonical.{words_after_spaces, heading, line_text, l
 use Rattle.vipr_write.specs.Forms.{row_words, constraint_words_in, derivation_words_in}
 use Rattle.vipr_write.specs.Forms.{given_words_in, problem_lines_in, derivations_lines_in}
 use Rattle.vipr_write.specs.Forms.{certificate_lines_in}
-use Rattle.vipr_write.specs.Lines.{parts_text, words_text, integers_lines, constraints_heading}
-use Rattle.vipr_write.specs.Lines.{constraints_lines_in}
-use Rattle.vipr_write.specs.declared.form.Form.{Form}
+use Rattle.vipr_write.specs.{Lines.parts_text, Lines.words_text, Lines.constraints_heading}
+use Rattle.vipr_write.specs.{Lines.constraints_lines_in, declared.form.Form.Form}
 
 abbrev parts_by : ℤ → ℕ → Bool → List ℕ
 parts_by p q is_whole = if is_whole then signed_decimal p else signed_decimal p ++ 47 ∷ decimal q
@@ -23,9 +21,6 @@ parts_by p q is_whole = if is_whole then signed_decimal p else signed_decimal p 
 -- a number that is its numerator, and one with a denominator
 pub whole_text : (p : ℤ) (q : ℕ) → q ≡ 1 → signed_decimal p ≡ parts_text p q
 whole_text p q one = sym (ap (parts_by p q) (eq-eqb q 1 one))
-
-pub parted_text : (p : ℤ) (q : ℕ) → (q ≡ 1 → ⊥) → signed_decimal p ++ 47 ∷ decimal q ≡ parts_text p q
-parted_text p q more = sym (ap (parts_by p q) (ne_eqb q 1 more))
 
 words_after_spaces-append : (ws us : List (List ℕ))
     → words_after_spaces (ws ++ us) ≡ words_after_spaces ws ++ words_after_spaces us
@@ -58,16 +53,6 @@ section_parts : (start : List ℕ) (front cons : List (List (List ℕ)))
 section_parts start front cons direction vector con claim =
     ap (λ t. start ++ t) (lines_text-append front (direction ∷ vector ∷ con ∷ (cons ++ claim ∷ [])) ∙ ap (λ t. lines_text front ++ (line_text direction ++ (line_text vector ++ (line_text con ++ t)))) (lines_text-append cons (claim ∷ [])))
     ∙ simp (append_assoc, append-nil)
-
-pub variables_parts : (p : Problem) (names : List (List ℕ)) (js : List ℕ) → names ≡ p.names
-    → js ≡ integer_variables p →
-    codes "VER 1.0\n" ++ (line_text (heading (codes "VAR") (length names))
-    ++ (lines_text (map (λ name. name ∷ []) names) ++ lines_text (integers_lines js)))
-    ≡ lines_text (variables_lines p)
-variables_parts p names js same members =
-    ap (λ ns. codes "VER 1.0\n" ++ (line_text (heading (codes "VAR") (length ns)) ++ (lines_text (map (λ name. name ∷ []) ns) ++ lines_text (integers_lines js)))) same
-    ∙ ap (λ ks. codes "VER 1.0\n" ++ (line_text (heading (codes "VAR") (length p.names)) ++ (lines_text (map (λ name. name ∷ []) p.names) ++ lines_text (integers_lines ks)))) members
-    ∙ ap (λ t. codes "VER 1.0\n" ++ (line_text (heading (codes "VAR") (length p.names)) ++ t)) (sym (lines_text-append (map (λ name. name ∷ []) p.names) (integers_lines (integer_variables p))))
 
 pub problem_parts_in : (form : Form) (start : List ℕ) (p : Problem) →
     start ++ lines_text (problem_lines_in form p) ≡

@@ -1,13 +1,12 @@
 -- Short entries
 use Rattle.std.proofs.Common.{◌≡◌, ℕ, suc, ◌+◌, ◌*◌, ◌<◌, ℤ, pos, Bool, List, [], ◌∷◌, ◌++◌, map, take}
 use Rattle.std.proofs.Common.{length, get_or, arith, sym, ap, ap₂, ◌∙◌}
-use Rattle.std.specs.{Fmt.decimal, Ordering.int_eq}
-use Rattle.std.proofs.lemmas.List.{append-nil, length-map, map_push, take_more}
+use Rattle.std.specs.{Ordering.int_eq}
+use Rattle.std.proofs.lemmas.List.{length-map, map_push, take_more}
 use Rattle.vipr_spec.specs.{Certificate.by_entries, Fraction.ℚ, Fraction.over, Number.number_text}
 use Rattle.vipr_spec.proofs.Laws.{is_one, is_over, is_self, parts_of}
-use Rattle.vipr_write.specs.Canonical.{pair_words, reference_words, words_after_spaces}
-use Rattle.vipr_write.specs.StepReasons.{multiplier_of, entry_of}
-use Rattle.vipr_write.specs.{Lines.parts_text, declared.short_entry.ShortEntry.ShortEntry}
+use Rattle.vipr_write.specs.{Canonical.reference_words, Lines.parts_text, StepReasons.multiplier_of}
+use Rattle.vipr_write.specs.{StepReasons.entry_of, declared.short_entry.ShortEntry.ShortEntry}
 use Rattle.vipr_write.proofs.Weighing.{pairs_length}
 
 over_self : (x : ℚ) → over x.numer x.denom ≡ x
@@ -30,12 +29,6 @@ short_text e = let parts = parts_of e.numer e.denom e.lowest in sym (ap₂ parts
 pub short_length : (es : List ShortEntry)
     → 2 + 2 * length es ≡ suc (length (reference_words (by_entries (map entry_of es))))
 short_length es = let p = pairs_length (map entry_of es) in let s = length-map es entry_of in omega (arith, p, s)
-
-pub entry_words : (e : ℕ × ℚ) (n : ℕ) → n ≡ e.0
-    → (32 ∷ decimal n) ++ (32 ∷ number_text e.1) ≡ words_after_spaces (pair_words e)
-entry_words e n index =
-    ap (λ n. (32 ∷ decimal n) ++ (32 ∷ number_text e.1)) index
-    ∙ ap (λ t. (32 ∷ decimal e.0) ++ t) (sym (append-nil (32 ∷ number_text e.1)))
 
 -- one more of the short entries
 pub one_more : (short new : List ShortEntry) (es : List (ℕ × ℚ)) (i : ℕ) (e : ShortEntry)

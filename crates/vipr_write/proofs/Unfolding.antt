@@ -1,12 +1,10 @@
 -- A text with marks that is put with what they mean
-use Rattle.std.proofs.Common.{◌≡◌, ℕ, suc, ◌+◌, ◌*◌, ◌-◌, ◌<◌, ◌≤◌, List, [], ◌∷◌, ◌++◌, length}
-use Rattle.std.proofs.Common.{take, drop, sum, get_or, slice_range, refl, sym, ap, ◌∙◌, append_assoc}
-use Rattle.std.proofs.Common.{drop-cons, arith}
-use Rattle.std.proofs.lemmas.List.{append-nil, drop-drop, drop_all, take_all, length-drop}
-use Rattle.std.proofs.lemmas.List.Sums.{sum_by-cons}
+use Rattle.std.proofs.Common.{◌≡◌, ℕ, suc, ◌+◌, ◌*◌, ◌<◌, ◌≤◌, List, ◌∷◌, ◌++◌, length, take, drop}
+use Rattle.std.proofs.Common.{sum, get_or, slice_range, ap, ◌∙◌, append_assoc, drop-cons, arith}
+use Rattle.std.proofs.{lemmas.List.drop-drop, lemmas.List.Sums.sum_by-cons}
 use Rattle.std.specs.Prelude.{slice_index_or}
 use Rattle.vipr_bytes.specs.Puts.{Puts}
-use Rattle.vipr_bytes.proofs.Laws.{puts_none, puts_then, puts_same}
+use Rattle.vipr_bytes.proofs.Laws.{puts_then, puts_same}
 use Rattle.vipr_write.specs.Folded.{IsFolded, expanded, full}
 use Rattle.vipr_write.specs.declared.folded.Folded.{Folded}
 use Rattle.vipr_write.proofs.Expanding.{long}
@@ -22,10 +20,6 @@ pub record PutUpTo {S : Type 0} (carries : S → List ℕ → S → Type 0) (fir
   pub front : List ℕ
   pub parts : front ++ tail ≡ whole
   pub puts : Puts carries first now front
-
-pub up_to_none : {S : Type 0} {carries : S → List ℕ → S → Type 0} (now : S) (whole : List ℕ)
-    → PutUpTo carries now now whole whole
-up_to_none now whole = record { front = []; parts = refl; puts = puts_none now }
 
 module _ {S : Type 0} {carries : S → List ℕ → S → Type 0} {first now : S} {whole : List ℕ} where
   pub up_to_more : {new : S} (piece tail : List ℕ) → PutUpTo carries first now (piece ++ tail) whole
@@ -59,14 +53,4 @@ next_gap part ns text xs t p i at e s q l h =
       ap (λ ks. expanded part ks (drop at text)) cons ∙ ap (λ u. u ++ (part ++ expanded part (drop (i + 1) ns) (drop gap (drop at text)))) front ∙ ap (λ u. slice_range text at (at + gap) ++ (part ++ expanded part (drop (i + 1) ns) u)) rest,
       omega arith,
     )
-    )
-
--- the text behind the last mark
-pub last_piece : (part ns text xs t : List ℕ) (i at : ℕ) → xs ≡ ns → t ≡ text → length xs ≤ i
-    → expanded part (drop i ns) (drop at text) ≡ slice_range t at (length t) ++ []
-last_piece part ns text xs t i at e s l =
-    rw s (
-    let none : drop i ns ≡ [] = drop_all i ns (rw e at l) in
-    let whole : take (length text - at) (drop at text) ≡ drop at text = take_all (length text - at) (drop at text) (omega (arith, length-drop at text)) in
-    ap (λ ks. expanded part ks (drop at text)) none ∙ sym whole ∙ sym (append-nil (take (length text - at) (drop at text)))
     )

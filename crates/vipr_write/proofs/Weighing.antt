@@ -3,7 +3,7 @@ use Rattle.std.proofs.Common.{◌≡◌, ℕ, suc, ◌+◌, ◌*◌, ◌^◌, �
 use Rattle.std.proofs.Common.{map, take, get_or, All, refl, sym, ap, ◌∙◌, arith}
 use Rattle.std.specs.Prelude.{codes, Bool, true, false, if◌then◌else◌}
 use Rattle.std.specs.{FinMap.entries, Fmt.decimal, List.flat_map, List.sum_by}
-use Rattle.std.proofs.lemmas.List.{length-append, take_all, take_more}
+use Rattle.std.proofs.lemmas.List.{length-append, take_more}
 use Rattle.std.proofs.lemmas.List.Sums.{sum_by-append, sum_by-cons}
 use Rattle.std.proofs.lemmas.List.Elements.{All-head, All-tail}
 use Rattle.vipr_spec.specs.Constraint.{Row, Constraint}
@@ -72,16 +72,6 @@ pub weighs_next : {X : Type 0} (f : X → ℕ) (xs : List X) (i : ℕ) (x : X) (
     → i < length xs → x ≡ get_or xs i x → Weighs f xs i start total → f x ≡ more
     → now ≡ counted (total + more) → Weighs f xs (i + 1) start now
 weighs_next f xs i x start total now more l is before same after = let e = sum_next f xs i x l in let here = ap f is in omega (arith, e, here, before, same, after)
-
-pub weighs_all : {X Y : Type 0} (view : X → Y) (words : Y → List (List ℕ)) (xs : List X)
-    (i start total : ℕ) → length xs ≤ i
-    → Weighs (λ x. suc (length (words (view x)))) xs i start total
-    → total ≡ counted (start + weight (map words (map view xs)))
-weighs_all view words xs i start total l w = w ∙ ap (λ n. counted (start + n)) (ap (sum_by (λ x. suc (length (words (view x))))) (take_all i xs l) ∙ sym (two_maps view words xs))
-  where
-    two_maps : {X Y : Type 0} (view : X → Y) (words : Y → List (List ℕ)) (xs : List X) → weight (map words (map view xs)) ≡ sum_by (λ x. suc (length (words (view x)))) xs
-    two_maps view words [] = refl
-    two_maps view words (x ∷ xs) = sum_by-cons (λ (ws : List (List ℕ)). suc (length ws)) (words (view x)) (map words (map view xs)) ∙ ap (λ n. suc (length (words (view x))) + n) (two_maps view words xs) ∙ sym (sum_by-cons (λ x. suc (length (words (view x)))) x xs)
 
 -- lines of one word
 pub ones_weight : {X : Type 0} (f : X → List ℕ) (xs : List X)

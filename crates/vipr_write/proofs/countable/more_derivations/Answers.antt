@@ -2,7 +2,7 @@ use Rattle.std.proofs.Common.{suc, ◌+◌, ◌*◌, length, ap, ◌∙◌}
 use Rattle.vipr_cert.specs.{Items.derivation_of, declared.items.Derivation.Derivation}
 use Rattle.vipr_write.specs.Canonical.{reason_words, reference_words, derivation_words}
 use Rattle.vipr_bytes.specs.Hands.{counted}
-use Rattle.vipr_write.proofs.Weighing.{weighs_next, weighs_all, derivation_weight, in_turn}
+use Rattle.vipr_write.proofs.Weighing.{weighs_next, derivation_weight, in_turn}
 use Rattle.vipr_write.proofs.countable.more_derivations.Goals as goal
 
 pub loop-derivation-preserved : goal.loop-derivation-preserved
@@ -13,6 +13,3 @@ loop-derivation-preserved c =
     let row = 8 + 2 * length c.entries.result.now in
     let reason = length (reason_words d.reason) in
     weighs_next (λ (x : Derivation). suc (length (derivation_words (derivation_of x)))) c.args.derivations.now c.loop-derivation.derivation-index x c.args.total c.loop-derivation.total c.more_references-total.result (row + reason) c.loop-derivation-test.true c.derivation-item.is c.loop-derivation.invariant (derivation_weight d c.entries.result.now c.entries.ensures.list) (in_turn c.loop-derivation.total row reason c.more-total.result c.more_references-total.result c.more-total.ensures words)
-
-pub returns : goal.returns
-returns c = weighs_all derivation_of derivation_words c.args.derivations.now c.loop-derivation.derivation-index c.args.total c.loop-derivation.total c.loop-derivation-test.false c.loop-derivation.invariant

@@ -1,13 +1,8 @@
-use Rattle.std.proofs.Common.{◌+◌, ◌++◌, drop, slice_range, sym, subst, ◌∙◌, length, arith}
+use Rattle.std.proofs.Common.{◌+◌, ◌++◌, drop, slice_range, subst}
 use Rattle.std.specs.Prelude.{slice_index_or}
-use Rattle.std.proofs.lemmas.List.{append-nil}
-use Rattle.vipr_bytes.proofs.Laws.{puts_same}
 use Rattle.vipr_write.specs.Folded.{expanded, full}
-use Rattle.vipr_write.proofs.Unfolding.{PutUpTo, up_to_none, up_to_more, up_to_end, next_gap, last_piece}
+use Rattle.vipr_write.proofs.Unfolding.{PutUpTo, up_to_more, up_to_end, next_gap}
 use Rattle.vipr_write.proofs.folded.put_full.Goals as goal
-
-pub loop-gap-init : goal.loop-gap-init
-loop-gap-init g c = record { within = let w = c.requires.within in let m = c.requires.marks in omega arith; put = up_to_none c.args.out.now (full c.args.folded.now) }
 
 pub returns-then-has_failed : goal.returns-then-has_failed
 returns-then-has_failed g c = up_to_end c.loop-gap.invariant.put (c.has_failed.ensures c.if-has_failed.true _)
@@ -24,10 +19,3 @@ loop-gap-preserved g c =
     let next = next_gap f.spelled.items f.gaps.items f.text.bytes.items c.deref-gap-items.result.now c.as_slice-text.result.now row i at c.deref-gap-items.ensures.value c.as_slice-text.ensures c.deref.ensures.value c.loop-gap-test.true c.loop-gap.invariant.within in
     let put = subst (λ t. PutUpTo g.O.Out.carries c.args.out.now c.loop-gap.out t (full f)) next.0 c.loop-gap.invariant.put in
     record { within = next.1; put = up_to_more row tail (up_to_more piece (row ++ tail) put c.put.ensures) c.put-in-loop-gap.ensures }
-
-pub returns : goal.returns
-returns g c =
-    let f = c.args.folded.now in
-    let at = c.loop-gap.at in
-    let t = c.as_slice-text.result.now in
-    up_to_end c.loop-gap.invariant.put (puts_same (sym (last_piece f.spelled.items f.gaps.items f.text.bytes.items c.deref-gap-items.result.now t c.loop-gap.gap-index at c.deref-gap-items.ensures.value c.as_slice-text.ensures c.loop-gap-test.false ∙ append-nil (slice_range t at (length t)))) c.put-2.ensures)

@@ -3,11 +3,8 @@ use Rattle.vipr_linear.specs.{Constraint.constraint_of, declared.constraint.Cons
 use Rattle.vipr_write.specs.{Canonical.line_text, Forms.given_words_in, Lines.constraints_heading}
 use Rattle.vipr_cert.specs.{Items.named_of, declared.items.Named.Named}
 use Rattle.vipr_write.proofs.Parts.{headed}
-use Rattle.vipr_bytes.proofs.Laws.{puts_all, puts_next, puts_same, puts_then}
+use Rattle.vipr_bytes.proofs.Laws.{puts_all, puts_same, puts_then}
 use Rattle.vipr_write.proofs.sections.put_constraints.Goals as goal
-
-pub loop-constraint-preserved : goal.loop-constraint-preserved
-loop-constraint-preserved g c = puts_next (λ (x : Named Constraint). line_text (given_words_in c.args.form c.args.objective.now (named_of constraint_of x))) c.args.cons.now c.loop-constraint.constraint-index c.constraint-item.result c.loop-constraint-test.true c.constraint-item.is c.loop-constraint.invariant c.put_constraint.ensures
 
 pub returns : goal.returns
 returns g c =

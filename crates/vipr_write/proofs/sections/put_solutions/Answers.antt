@@ -4,11 +4,8 @@ use Rattle.vipr_linear.specs.declared.row.Solution.{Solution}
 use Rattle.vipr_cert.specs.{Items.solution_of, declared.items.Named.Named}
 use Rattle.vipr_write.specs.Canonical.{heading, solution_words, line_text}
 use Rattle.vipr_write.proofs.Parts.{headed}
-use Rattle.vipr_bytes.proofs.Laws.{puts_all, puts_next, puts_same, puts_then}
+use Rattle.vipr_bytes.proofs.Laws.{puts_all, puts_same, puts_then}
 use Rattle.vipr_write.proofs.sections.put_solutions.Goals as goal
-
-pub loop-solution-preserved : goal.loop-solution-preserved
-loop-solution-preserved g c = puts_next (λ (x : Named Solution). line_text (solution_words (solution_of x))) c.args.solutions.now c.loop-solution.solution-index c.solution-item.result c.loop-solution-test.true c.solution-item.is c.loop-solution.invariant c.put_solution.ensures
 
 pub returns : goal.returns
 returns g c =

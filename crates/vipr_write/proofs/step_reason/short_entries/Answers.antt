@@ -1,7 +1,6 @@
-use Rattle.std.proofs.Common.{ℕ, refl, sym, subst, ◌∙◌}
-use Rattle.std.proofs.{lemmas.Bool.false≢true, lemmas.List.take_all, lemmas.List.Elements.All-more}
+use Rattle.std.proofs.{Common.ℕ, Common.refl, Common.subst, lemmas.List.Elements.All-more}
 use Rattle.vipr_spec.specs.Fraction.{ℚ}
-use Rattle.vipr_write.specs.StepReasons.{IsShort, AreShort}
+use Rattle.vipr_write.specs.StepReasons.{IsShort}
 use Rattle.vipr_write.proofs.StepReasons.{one_more}
 use Rattle.vipr_write.proofs.step_reason.short_entries.Goals as goal
 
@@ -15,18 +14,3 @@ loop-index-preserved c =
       entries = one_more c.loop-index.short.items _ all i c.in-Some.entry x c.loop-index-test.true c.loop-index-item.is c.in_ok-push-in-Some.ensures.items c.in-Some.ensures.entry so_far.entries;
       are_short = All-more (λ (e : ℕ × ℚ). IsShort e.1) all i x c.loop-index-test.true so_far.are_short (subst (λ (e : ℕ × ℚ). IsShort e.1) c.loop-index-item.is (c.in-Some.ensures.short.0 refl));
     }
-
-pub returns-in-None-clause-short : goal.returns-in-None-clause-short
-returns-in-None-clause-short c = (
-  λ some. absurd (false≢true some),
-  λ all. c.in-None.ensures.short.1 (subst (λ (e : ℕ × ℚ). IsShort e.1) (sym c.loop-index-item.is) (all c.loop-index.index-index c.loop-index-item.result c.loop-index-test.true)),
-)
-
-pub returns-clause-entries : goal.returns-clause-entries
-returns-clause-entries c = c.loop-index.invariant.entries ∙ take_all c.loop-index.index-index c.args.entries.now c.loop-index-test.false
-
-pub returns-clause-short : goal.returns-clause-short
-returns-clause-short c = (
-  λ some. subst AreShort (take_all c.loop-index.index-index c.args.entries.now c.loop-index-test.false) c.loop-index.invariant.are_short,
-  λ all. refl,
-)

@@ -1,7 +1,0 @@
-use Rattle.std.proofs.{Common.◌∷◌, Common.sym, lemmas.List.append-nil}
-use Rattle.std.specs.Fmt.{decimal}
-use Rattle.vipr_bytes.proofs.Laws.{puts_then, puts_same}
-use Rattle.vipr_write.proofs.lines.put_heading.Goals as goal
-
-pub returns : goal.returns
-returns g c = puts_then c.put.ensures (puts_then (puts_same (sym (append-nil (32 ∷ decimal c.args.n))) c.put_index.ensures) c.push.ensures)

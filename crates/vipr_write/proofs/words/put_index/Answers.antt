@@ -1,5 +1,0 @@
-use Rattle.vipr_bytes.proofs.Laws.{puts_then}
-use Rattle.vipr_write.proofs.words.put_index.Goals as goal
-
-pub returns : goal.returns
-returns g c = puts_then c.push.ensures c.put_decimal.ensures
