@@ -191,12 +191,6 @@ module _ (o : Row) (cs : List Constraint) (i : ℕ) (row : Row) (same : (nth cs 
     ];
   }
 
-  pub half_end : (columns : Columns) (c : ℕ) → length es ≤ c → AreHalf o cs i es c columns → AreColumns o cs (i + 1) columns
-  half_end columns c past half j = elim (half.after j) [
-    | inl h ↦ h
-    | inr s ↦ absurd (none_occur (λ (e : ℕ × ℚ). e.0) (0, zero_ℚ) es c j past s)
-  ]
-
   module _ (columns : Columns) (c : ℕ) (p : ℕ × ℚ) (l : c < length es) (e : p ≡ get_or es c p) (within : p.0 < length columns) (y : Vec (ℕ × ℕ) Global) (pushed : y.items ≡ column_at columns p.0 ++ (i, c) ∷ []) where
     here : get_or es c (0, zero_ℚ) ≡ p
     here = there es c (0, zero_ℚ) p l e

@@ -55,9 +55,6 @@ front f g xs bs rest i d b same lt at = ap (λ l. slice_index_or (l ++ rest) i d
 
 -- ---- the tests of one index
 module _ (P : Profile) (c : Certificate) (d : Derivation) (i : ℕ) where
-  pub earlier_passes : (n : ℕ) → n ≡ count c → i < n → PassesTestsIn P c d (earlier i ∷ [])
-  earlier_passes n is h = passes_one P c d (earlier i) (omega (arith, is, h))
-
   pub earlier_stops : (n : ℕ) → n ≡ count c → n ≤ i → StopsIn P c d (earlier i ∷ []) (NotEarlier i)
   earlier_stops n is h = stops_one P c d (earlier i) (NotEarlier i) (λ lt. omega (arith, is, h, lt)) (index i, refl, refl)
 

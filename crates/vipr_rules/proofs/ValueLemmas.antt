@@ -1,8 +1,7 @@
 -- Rows with the same coefficients have the same value
-use Rattle.std.proofs.Common.{◌≡◌, ℕ, zero, suc, Option, Some, None, refl, sym, ◌∙◌, ap₂, subst₂}
+use Rattle.std.proofs.Common.{◌≡◌, ℕ, zero, suc, refl, ap₂, subst₂}
 use Rattle.vipr_spec.specs.Constraint.{Point, value, ValueFits}
 use Rattle.vipr_spec.specs.{Fraction.ℚ, Fraction.◌+ℚ◌, Fraction.◌*ℚ◌, MoreEntries.TermFits}
-use Rattle.vipr_rules.specs.Solution.{IsValueOf}
 
 pub value_same : (n : ℕ) (x : Point) (a b : ℕ → ℚ) → ((j : ℕ) → a j ≡ b j)
     → value n a x ≡ value n b x
@@ -12,8 +11,3 @@ value_same (suc n) x a b h = ap₂ (λ v c. v +ℚ c *ℚ x n) (value_same n x a
 pub fits_same : (n : ℕ) (x : Point) (a b : ℕ → ℚ) → ((j : ℕ) → a j ≡ b j) → ValueFits n a x
     → ValueFits n b x
 fits_same n x a b h fits j l = subst₂ (λ v c. TermFits v c (x j)) (value_same j x a b h) (h j) (fits j l)
-
-pub value_of_same : (n : ℕ) (x : Point) (a b : ℕ → ℚ) → ((j : ℕ) → a j ≡ b j) → (v : Option ℚ)
-    → IsValueOf n b x v → IsValueOf n a x v
-value_of_same n x a b h None bad = λ fits. bad (fits_same n x a b h fits)
-value_of_same n x a b h (Some v) good = (fits_same n x b a (λ j. sym (h j)) good.0, good.1 ∙ sym (value_same n x a b h))

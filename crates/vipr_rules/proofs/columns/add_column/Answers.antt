@@ -36,12 +36,6 @@ bounds-entries-place-in-loop-index c =
     let same = given_entries c.args.cons.now place.0 c.index-cons-index.result (omega (arith, within, as_many c.args.cons.now)) c.index-cons-index.is c.entries.result.now c.entries.ensures.list in
     subst (λ xs. place.1 < length xs) same found.1
 
-pub add_product-requires : goal.add_product-requires
-add_product-requires c =
-    let found = c.requires.places.2.found c.loop-index.index-index c.loop-index-test.true in
-    let b = found.0 in
-    omega (arith, b, c.loop-index.invariant.constraints)
-
 pub loop-index-preserved : goal.loop-index-preserved
 loop-index-preserved c =
     let place = get_or c.args.places.now c.loop-index.index-index (0, 0) in

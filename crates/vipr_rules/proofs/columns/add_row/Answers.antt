@@ -1,7 +1,7 @@
 use Rattle.std.proofs.Common.{arith, ap, sym, ◌∙◌, ◌<◌, ◌++◌, ◌∷◌, [], length, rules}
 use Rattle.vipr_spec.specs.Constraint.{at}
 use Rattle.vipr_rules.proofs.ColumnLemmas.{columns_same, rank, entry_below, half_start, half_next}
-use Rattle.vipr_rules.proofs.ColumnLemmas.{half_end, column_read}
+use Rattle.vipr_rules.proofs.ColumnLemmas.{column_read}
 use Rattle.vipr_rules.proofs.columns.add_row.Goals as goal
 
 pub returns-then-is_same : goal.returns-then-is_same
@@ -33,6 +33,3 @@ loop-place-preserved c = λ cs same all.
     let read = column_read c.loop-place.columns c.entry-item.result.0 within c.index-columns-entry.result c.index-columns-entry.is in
     let pushed = c.in_ok-push.ensures.items ∙ ap (λ w. w.items ++ (c.args.index, c.loop-place.place) ∷ []) (sym c.index-columns-entry.is) ∙ ap (λ xs. xs ++ (c.args.index, c.loop-place.place) ∷ []) (sym read) in
     half_next c.args.objective.now cs c.args.index c.args.row.now same es list rising c.loop-place.columns c.loop-place.place c.entry-item.result c.loop-place-test.true c.entry-item.is within c.push.new.self pushed (c.loop-place.invariant cs same all)
-
-pub returns : goal.returns
-returns c = λ cs same all. half_end c.args.objective.now cs c.args.index c.args.row.now same c.entries-entry-items.result.now c.entries-entry-items.ensures.list c.entries-entry-items.ensures.rising c.loop-place.columns c.loop-place.place c.loop-place-test.false (c.loop-place.invariant cs same all)

@@ -1,21 +1,12 @@
-use Rattle.std.proofs.Common.{◌≡◌, Some, None, option_copied, sym, ap, subst, ◌∙◌, inl, inr, refl}
+use Rattle.std.proofs.Common.{◌≡◌, Some, None, option_copied, sym, ap, subst, ◌∙◌, inr}
 use Rattle.std.specs.Prelude.{IfSome}
-use Rattle.std.proofs.lemmas.Result.{err_from_is_err_and}
 use Rattle.vipr_spec.specs.Certificate.{Problem, variables, objective_at, objective_constraint}
 use Rattle.vipr_spec.specs.Certificate.{reaches, IsAsGood}
 use Rattle.vipr_spec.specs.{Constraint.IsTrueAt, Soundness.IsBestValue}
 use Rattle.vipr_spec.proofs.Laws.{dominates_true}
-use Rattle.vipr_rules.proofs.CutoffLemmas.{none_listed, listed_passes, cut_ruled, reached}
+use Rattle.vipr_rules.proofs.CutoffLemmas.{none_listed, cut_ruled, reached}
 use Rattle.vipr_rules.proofs.StepLemmas.{no_set, follows_if_ok}
 use Rattle.vipr_rules.proofs.cutoff.cut_off.Goals as goal
-
-pub returns-in_err-computed-clause-ruled : goal.returns-in_err-computed-clause-ruled
-returns-in_err-computed-clause-ruled g c = λ P d e is says.
-    let p = c.args.context.now.problem.now in
-    let value = c.in-Some.value.now in
-    let best = subst (λ p. IsBestValue p d.solutions (Some value)) (sym is.problem) (subst (IsBestValue p d.solutions) (ap option_copied c.in-Some.is) is.best) in
-    let q = err_from_is_err_and c.from_residual.result c.from_residual.ensures.1 in
-    rw (q.1, q.2) (inl (refl, listed_passes P d e value best))
 
 pub returns-clause-ruled : goal.returns-clause-ruled
 returns-clause-ruled g c = λ P d e is says.

@@ -26,27 +26,15 @@ returns-in-Lin-clause-ruled g c = λ P d is.
     let by = ap reason_of c.in-Lin.is ∙ ap lin (sym c.deref.ensures.value) in
     subst (λ r. IsRuledBy P d (derivation_of c.args.step.now) r c.combine.result) (sym by) (c.combine.ensures.ruled P d (derivation_of c.args.step.now) is refl)
 
-pub returns-in-Lin-clause-sound : goal.returns-in-Lin-clause-sound
-returns-in-Lin-clause-sound g c = IfOk-weaker c.combine.result _ _ (λ s sound says x at next. sound says x at) c.combine.ensures.sound
-
 pub returns-in-Rnd-clause-ruled : goal.returns-in-Rnd-clause-ruled
 returns-in-Rnd-clause-ruled g c = λ P d is.
     let by = ap reason_of c.in-Rnd.is ∙ ap rnd (sym c.deref-in-Rnd.ensures.value) in
     subst (λ r. IsRuledBy P d (derivation_of c.args.step.now) r c.combine-in-Rnd.result) (sym by) (c.combine-in-Rnd.ensures.ruled P d (derivation_of c.args.step.now) is refl)
 
-pub returns-in-Rnd-clause-sound : goal.returns-in-Rnd-clause-sound
-returns-in-Rnd-clause-sound g c = IfOk-weaker c.combine-in-Rnd.result _ _ (λ s sound says x at next. sound says x at) c.combine-in-Rnd.ensures.sound
-
 pub returns-in-Uns-clause-ruled : goal.returns-in-Uns-clause-ruled
 returns-in-Uns-clause-ruled g c = λ P d is.
     subst (λ r. IsRuledBy P d (derivation_of c.args.step.now) r c.join_branches.result) (sym (ap reason_of c.in-Uns.is)) (c.join_branches.ensures.ruled P d (derivation_of c.args.step.now) is refl)
 
-pub returns-in-Uns-clause-sound : goal.returns-in-Uns-clause-sound
-returns-in-Uns-clause-sound g c = IfOk-weaker c.join_branches.result _ _ (λ s sound says x at next. sound says x at) c.join_branches.ensures.sound
-
 pub returns-in-Sol-clause-ruled : goal.returns-in-Sol-clause-ruled
 returns-in-Sol-clause-ruled g c = λ P d is.
     subst (λ r. IsRuledBy P d (derivation_of c.args.step.now) r c.cut_off.result) (sym (ap reason_of c.in-Sol.is)) (c.cut_off.ensures.ruled P d (derivation_of c.args.step.now) is refl)
-
-pub returns-in-Sol-clause-sound : goal.returns-in-Sol-clause-sound
-returns-in-Sol-clause-sound g c = IfOk-weaker c.cut_off.result _ _ (λ s sound says x at next. sound says x at) c.cut_off.ensures.sound

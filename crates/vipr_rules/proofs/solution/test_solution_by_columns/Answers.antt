@@ -18,13 +18,6 @@ find_met-requires-clause-room c =
     let below = objective_below p c.objective-objective.result.now known.objective known.writes in
     subst (λ r. ValueFits (variables p) (at r) (at c.args.solution.now.0)) known.objective ((c.in-Ok.ensures.fits (variables p) below).0 refl)
 
-pub find_met-requires-clause-value : goal.find_met-requires-clause-value
-find_met-requires-clause-value c =
-    let p = c.args.p.now in
-    let known = c.objective-objective.ensures in
-    let below = objective_below p c.objective-objective.result.now known.objective known.writes in
-    c.in-Ok.ensures.value (variables p) below ∙ ap (λ r. value (variables p) (at r) (at c.args.solution.now.0)) known.objective
-
 pub returns-clause-tested : goal.returns-clause-tested
 returns-clause-tested c =
     let p = c.args.p.now in

@@ -1,9 +1,9 @@
 use Rattle.std.proofs.Common.{◌+◌, [], ◌∷◌, ◌++◌, Some, None, take, length, sym, ◌∙◌, ap, subst}
-use Rattle.std.proofs.Common.{subst₂, refl, inl, inr}
+use Rattle.std.proofs.Common.{refl, inl, inr}
 use Rattle.std.proofs.{lemmas.List.length-replicate, lemmas.Result.err_from_is_err_and}
 use Rattle.std.specs.Prelude.{flat_map, IsTrue}
 use Rattle.std.specs.{FinSet.FinSet, FinSet.contains, Ordering.nat_cmp}
-use Rattle.vipr_spec.specs.Constraint.{condition, at, NamesBelow, IsTrueAt}
+use Rattle.vipr_spec.specs.Constraint.{condition, IsTrueAt}
 use Rattle.vipr_spec.specs.Steps.{PassesStep, FirstFailing, reference_tests, entry_tests, sum_tests}
 use Rattle.vipr_spec.specs.Steps.{IsSum}
 use Rattle.vipr_spec.specs.{Certificate.variables, Certificate.entries, Fraction.zero_ℚ}
@@ -35,14 +35,6 @@ loop-position-init g c =
       sound = λ says x at h. subst (IsTrueSum (variables c.args.context.now.problem.now) x) (sym cleared) (nothing_true (variables c.args.context.now.problem.now) x);
       joined = λ i is. absurd (let none = c.requires.not_noted i in cc);
     }
-
-pub add_multiple-requires : goal.add_multiple-requires
-add_multiple-requires g c = record {
-  fresh = c.loop-position.invariant.fresh;
-  below =
-      let below = rw c.in-Some.is at (c.in_ok-known.ensures.below c.requires.rows) in
-      subst₂ (λ m (r : Constraint). NamesBelow m (at r.row)) (sym c.loop-position.invariant.places) (sym c.constraint.ensures) below;
-}
 
 pub loop-position-preserved : goal.loop-position-preserved
 loop-position-preserved g c =

@@ -1,5 +1,4 @@
 use Rattle.std.proofs.Common.{rules, ◌≡◌, sym, ap, subst, ◌∙◌}
-use Rattle.std.specs.Prelude.{OnOk}
 use Rattle.vipr_spec.specs.Steps.{IsSum}
 use Rattle.vipr_linear.specs.{Accumulator.held_condition, Constraint.condition_of}
 use Rattle.vipr_rules.specs.Apply.{DominatesBy}
@@ -25,8 +24,3 @@ pub returns-clause-tests : goal.returns-clause-tests
 returns-clause-tests c = λ P d e es summed ints says.
     let same = ap held_condition (kept (goal.at.returns-clause-tests c).After-check_finished) in
     c.check_finished.ensures.tests P d e es (subst (IsSum d es) (sym same) summed) ints says
-
-pub returns-clause-follows : goal.returns-clause-follows
-returns-clause-follows c =
-    let same = ap held_condition (kept (goal.at.returns-clause-follows c).After-check_finished) in
-    subst (λ h. OnOk c.check_finished.result (DominatesBy c.args.computed c.args.ints.now h (condition_of c.args.stated.now))) same c.check_finished.ensures.follows

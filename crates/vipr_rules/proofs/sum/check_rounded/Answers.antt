@@ -17,21 +17,10 @@ returns-in-Ok-Row-clause-tests c = λ P d e es sum ints says.
     (λ _ h. rounded_dominates P d e es c.args.sum sum c.args.ints.now ints whole_row c.args.stated.now says (dominates.0 h))
     (λ error known. rounded_refused P d e es c.args.sum sum c.args.ints.now ints whole_row c.args.stated.now says c.in-Ok-Row.computed rounding dominates error known)
 
-pub returns-in-Ok-Row-clause-dominates : goal.returns-in-Ok-Row-clause-dominates
-returns-in-Ok-Row-clause-dominates c =
-    let whole_row = c.in-Ok-Row.ensures.ok.0 refl in
-    let dominates = rw c.in-Ok-Row.field-0-is at (c.in-Ok-Row.ensures.dominates (condition_of c.args.stated.now)) in
-    MatchResult-weaker c.check_domination-tested.result c.check_domination-tested.ensures (λ _ h. (whole_row, dominates.0 h)) (λ error known. tt)
-
 pub returns-in-Ok-Absurd-clause-tests : goal.returns-in-Ok-Absurd-clause-tests
 returns-in-Ok-Absurd-clause-tests c = λ P d e es sum ints says.
     let dominates = rw c.in-Ok-Absurd.field-0-is at (c.in-Ok-Absurd.ensures.dominates (condition_of c.args.stated.now)) in
     rounded_dominates P d e es c.args.sum sum c.args.ints.now ints (c.in-Ok-Absurd.ensures.ok.0 refl) c.args.stated.now says (dominates.0 tt)
-
-pub returns-in-Ok-Absurd-clause-dominates : goal.returns-in-Ok-Absurd-clause-dominates
-returns-in-Ok-Absurd-clause-dominates c =
-    let dominates = rw c.in-Ok-Absurd.field-0-is at (c.in-Ok-Absurd.ensures.dominates (condition_of c.args.stated.now)) in
-    (c.in-Ok-Absurd.ensures.ok.0 refl, dominates.0 tt)
 
 pub returns-in-Err-clause-tests : goal.returns-in-Err-clause-tests
 returns-in-Err-clause-tests c = λ P d e es sum ints says.

@@ -25,18 +25,3 @@ pub returns-in_ok-check_earlier-clause-known : goal.returns-in_ok-check_earlier-
 returns-in_ok-check_earlier-clause-known g c = λ P d e is.
     let unused = sym c.is_used.ensures ∙ c.if-is_used.false in
     (unused_passes (PassesStep P d (condition e.stated)) c.args.entry.now _ unused (c.in_ok-check_earlier.ensures P d e is), unused)
-
-pub returns-in_ok-check_earlier-clause-below : goal.returns-in_ok-check_earlier-clause-below
-returns-in_ok-check_earlier-clause-below g c = λ _. tt
-
-pub returns-in_ok-check_earlier-clause-sound : goal.returns-in_ok-check_earlier-clause-sound
-returns-in_ok-check_earlier-clause-sound g c = tt
-
-pub returns-in_ok-find-clause-used : goal.returns-in_ok-find-clause-used
-returns-in_ok-find-clause-used g c = sym c.is_used.ensures ∙ c.if-is_used.true
-
-pub returns-in_ok-check_earlier-clause-set : goal.returns-in_ok-check_earlier-clause-set
-returns-in_ok-check_earlier-clause-set g c = tt
-
-pub returns-in_ok-check_earlier-clause-used : goal.returns-in_ok-check_earlier-clause-used
-returns-in_ok-check_earlier-clause-used g c = sym c.is_used.ensures ∙ c.if-is_used.false

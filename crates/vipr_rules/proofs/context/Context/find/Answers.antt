@@ -1,7 +1,5 @@
-use Rattle.std.proofs.Common.{◌≡◌, ◌<◌, All, [], ◌∷◌, sym, ap, subst, ◌∙◌, length, nat_lt, true}
-use Rattle.std.proofs.Common.{false, cond, arith}
+use Rattle.std.proofs.Common.{All, [], ◌∷◌, sym, ap, subst, ◌∙◌}
 use Rattle.std.proofs.lemmas.Result.{err_from_is_err_and}
-use Rattle.std.proofs.{lemmas.Bool.Decides.nat_tests, lemmas.List.length-map}
 use Rattle.vipr_spec.specs.{Certificate.Problem, Certificate.variables, Constraint.IsTrueAt}
 use Rattle.vipr_spec.specs.{Constraint.condition, Shape.ConstraintShape, Steps.earlier, Steps.live}
 use Rattle.vipr_linear.specs.declared.constraint.Constraint.{Constraint}
@@ -11,9 +9,6 @@ use Rattle.vipr_rules.proofs.ContextLemmas.{given_is_live, given_is_known, deriv
 use Rattle.vipr_rules.proofs.ContextLemmas.{derived_is_known, dropped_is_not, live_passes}
 use Rattle.vipr_rules.proofs.ContextLemmas.{live_stops}
 use Rattle.vipr_rules.proofs.StepLemmas.{stops_first}
-use Rattle.std.specs.FinSet as set
-use Rattle.vipr_rules.specs.Context.{assumptions_at}
-use Rattle.vipr_table.specs.Table.{entry_at}
 use Rattle.vipr_rules.proofs.context.Context.find.Goals as goal
 
 pub returns-in_err-check_earlier-clause-known : goal.returns-in_err-check_earlier-clause-known
@@ -51,16 +46,3 @@ pub returns-in-None-clause-known : goal.returns-in-None-clause-known
 returns-in-None-clause-known g c = λ P d e is.
     let same = c.cons-given.ensures.constraints ∙ sym (ap (λ (q : Problem). q.constraints) is.problem) in
     live_stops P d e c.args.index (c.in_ok-check_earlier.ensures P d e is) (dropped_is_not d _ _ same is.rows c.args.index c.if-index-given.false c.in-None.ensures)
-
-pub returns-then-index-given-clause-set : goal.returns-then-index-given-clause-set
-returns-then-index-given-clause-set g c =
-    let many = sym (length-map c.cons-given.result.now _) ∙ ap length c.cons-given.ensures.constraints in
-    let less : c.args.index < length c.cons-given.result.now = c.if-index-given.true in
-    let given : nat_lt c.args.index (length c.args.self.now.problem.now.constraints) ≡ true = grind (arith, nat_tests) in
-    sym (ap (λ b. cond b set.empty (assumptions_at (entry_at (g.S.Rows.table c.args.self.now.rows.now) c.args.index))) given)
-
-pub returns-in-Some-clause-set : goal.returns-in-Some-clause-set
-returns-in-Some-clause-set g c =
-    let many = sym (length-map c.cons-given.result.now _) ∙ ap length c.cons-given.ensures.constraints in
-    let given : nat_lt c.args.index (length c.args.self.now.problem.now.constraints) ≡ false = grind (arith, nat_tests) in
-    ap assumptions_at c.in-Some.ensures ∙ sym (ap (λ b. cond b set.empty (assumptions_at (entry_at (g.S.Rows.table c.args.self.now.rows.now) c.args.index))) given)
