@@ -2,7 +2,7 @@
 use Rattle.std.proofs.Common.{◌≡◌, ℕ, zero, suc, ◌+◌, ◌-◌, ◌<◌, ◌≤◌, ◌^◌, Bool, true, false, not}
 use Rattle.std.proofs.Common.{cond, ◌||◌, ◌&&◌, min, nat_eq, List, [], ◌∷◌, ◌++◌, length, drop}
 use Rattle.std.proofs.Common.{take, get_or, filter, refl, sym, ap, ◌∙◌, subst, arith, add-zero}
-use Rattle.std.proofs.Common.{add-one, drop-cons, lit≤, length-drop, ◌⊎◌, inl, inr}
+use Rattle.std.proofs.Common.{add-one, drop-cons, length-drop, ◌⊎◌, inl, inr}
 use Rattle.std.proofs.lemmas.List.Folds.{list_any-append}
 use Rattle.std.proofs.{Math.Seq.take-length, lemmas.Bool.cases_lt, lemmas.Bool.Decides.nat_tests}
 use mir.Val.{bool_byte}
@@ -226,9 +226,6 @@ merge_end xs ys i j out zs m over is = record {
     spent : (drop i xs ≡ []) ⊎ (drop j ys ≡ [])
     spent = elim (cases_lt i (length xs)) [ inl more ↦ inr (none_left j ys (over more)) | inr past ↦ inl (none_left i xs past) ]
 
-pub merge_start : (xs ys : List ℕ) → IsRising xs → IsRising ys → Merging xs ys 0 0 []
-merge_start xs ys r s = record { i_within = omega arith; j_within = omega arith; mark = 0; mark_fits = lit≤ tt; done = tt; left = r; right = s; members = λ q. refl }
-
 -- a list that rises is in order
 pub rises_order : (low high : ℕ) (xs : List ℕ) → RisesWithin low high xs → (i j : ℕ) → i ≤ j
     → j < length xs → get_or xs i 0 ≤ get_or xs j 0
@@ -266,12 +263,6 @@ pub below_joined : (xs ys : List ℕ) → IsRising xs → IsRising ys → 0 < le
     → get_or xs (length xs - 1) 0 < get_or ys 0 0 → IsRising (xs ++ ys)
 below_joined xs [] r s h k lt = absurd (omega arith)
 below_joined xs (y ∷ ys) r s h k lt = all_below 0 (2 ^ 32) (length xs - 1) xs y ys (omega arith) lt r s
-
-pub joined_in_order : (xs ys : List ℕ) → IsRising (xs ++ ys) → IsUnion xs ys (xs ++ ys)
-joined_in_order xs ys r = record { rising = r; members = λ q. list_any-append (λ n. nat_eq n q) xs ys }
-
-pub joined_turned : (xs ys : List ℕ) → IsRising (ys ++ xs) → IsUnion xs ys (ys ++ xs)
-joined_turned xs ys r = record { rising = r; members = λ q. list_any-append (λ n. nat_eq n q) ys xs ∙ or_turned (has ys q) (has xs q) }
 
 -- a list without its last item
 not_cond : (b : Bool) (x : ℕ) (xs : List ℕ) → b ≡ false → cond (not b) (x ∷ xs) xs ≡ x ∷ xs

@@ -1,15 +1,7 @@
-use Rattle.std.proofs.Common.{◌≡◌, ◌++◌, ◌∷◌, [], take, length, ◌∙◌, ap, sym, subst, arith}
+use Rattle.std.proofs.Common.{◌≡◌, ◌++◌, ◌∷◌, [], take, length, ◌∙◌, ap, sym, arith}
 use Rattle.std.specs.FinSet.{from_list}
-use Rattle.vipr_table.specs.Rising.{IsRising}
-use Rattle.vipr_table.proofs.ListsLemmas.{rest_rises, front_taken, last_out_rises, last_out_seen, only_item}
+use Rattle.vipr_table.proofs.ListsLemmas.{front_taken, last_out_rises, last_out_seen, only_item}
 use Rattle.vipr_table.proofs.assumptions.list.front_but_last.Goals as goal
-
-pub returns-in-len1-clause-rises : goal.returns-in-len1-clause-rises
-returns-in-len1-clause-rises c =
-    let rest = c.in-Some.rest.now in
-    let front : take c.args.count c.args.items.now.items ≡ rest ++ c.args.index ∷ [] = sym c.front_of.ensures ∙ c.in-Some.ensures.cases.0 ∙ ap (λ x. rest ++ x ∷ []) c.if-last-index.true in
-    let one : length rest ≡ 1 = omega (arith, c.in-len1.len_at_least, c.in-len1.len_below) in
-    subst IsRising (sym (only_item rest one)) (rest_rises rest c.args.index (subst IsRising front c.requires))
 
 pub returns-in-len1-clause-set : goal.returns-in-len1-clause-set
 returns-in-len1-clause-set c =

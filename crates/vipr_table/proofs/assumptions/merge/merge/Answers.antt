@@ -1,12 +1,9 @@
 use Rattle.std.proofs.Common.{◌<◌, ◌≤◌, length, arith}
 use Rattle.std.proofs.lemmas.Result.{IfOk-weaker}
-use Rattle.vipr_table.proofs.RisingLemmas.{merge_start, merge_step, merge_end, to_end}
+use Rattle.vipr_table.proofs.RisingLemmas.{merge_step, merge_end, to_end}
 use Rattle.vipr_table.proofs.assumptions.merge.merge.Goals as goal
 use Rattle.vipr_table.proofs.assumptions.merge.merge.Goals.{then-loop-i-test+else-j-ys}
 use Rattle.vipr_table.proofs.assumptions.merge.merge.Goals.{else-loop-i-test}
-
-pub loop-i-init : goal.loop-i-init
-loop-i-init c = rw c.in_ok-all.ensures.items (merge_start _ _ c.requires.left c.requires.right)
 
 pub loop-i-preserved : goal.loop-i-preserved
 loop-i-preserved c =

@@ -1,7 +1,6 @@
 use Rattle.std.proofs.Common.{◌≡◌, ◌∙◌, ◌++◌, ◌∷◌, [], ap, ap₂, sym}
 use Rattle.std.proofs.lemmas.Result.{MatchResult-weaker}
 use Rattle.std.specs.FinSet.{union, from_list}
-use Rattle.vipr_table.specs.declared.assumptions.union.Union.{Union}
 use Rattle.vipr_table.specs.{Sets.union_of_all, Unions.union_so_far}
 use Rattle.vipr_table.proofs.UnionsLemmas.{union_assoc, one_put, last_two}
 use Rattle.vipr_table.proofs.assumptions.union.Union.place.Goals as goal
@@ -23,9 +22,3 @@ returns-clause-union c =
           ∙ ap (λ s. union s few) (one_put old.below.items old.last more) ∙ past
     ] in
     MatchResult-weaker c.settle.result c.settle.ensures.union (λ _ e. e ∙ step) (λ _ _. tt)
-
-pub returns-clause-noted : goal.returns-clause-noted
-returns-clause-noted c = c.settle.ensures.noted ∙ (elim c.if-is_near.branch [
-  | then-is_near+in_ok-joined w ↦ ap (λ (u : Union). u.noted) w.self-is
-  | else-is_near+in_ok-clone+in_ok-push w ↦ ap (λ (u : Union). u.noted) w.self-is
-])
