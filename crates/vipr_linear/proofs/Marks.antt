@@ -2,11 +2,10 @@
 use Rattle.std.proofs.Common.{◌≡◌, ◌≢◌, ℕ, suc, ◌+◌, ◌<◌, ◌≤◌, take, drop, Bool, true, false, cond}
 use Rattle.std.proofs.Common.{nat_eq, List, [], ◌∷◌, ◌++◌, length, get_or, arith, refl, sym, ◌∙◌}
 use Rattle.std.proofs.Common.{ap, subst, ◌||◌, inl, inr, ◌⊎◌, drop-cons, add-one, ap₂, map, filter}
-use Rattle.std.proofs.Common.{not, pos, replicate, Result, Ok, Err, IsOk, IsErr, All}
+use Rattle.std.proofs.Common.{not, pos, replicate, Result, Ok, Err, IsOk, IsErr}
 use Rattle.std.proofs.lemmas.List.{get_or-set_same, get_or-set_other, get_or_past, get_or_default}
 use Rattle.std.proofs.lemmas.List.{get_or-map, get_or-replicate, length_push, length-set}
-use Rattle.std.proofs.lemmas.List.{length-map, length-replicate, take_all, drop_all, append-nil}
-use Rattle.std.proofs.lemmas.List.{same_lists}
+use Rattle.std.proofs.lemmas.List.{length-map, length-replicate, drop_all, append-nil, same_lists}
 use Rattle.std.proofs.lemmas.List.Folds.{list_any-append, list_any_at}
 use Rattle.std.proofs.lemmas.Map.Steps.{length-le_from_distinct_below}
 use Rattle.std.proofs.{lemmas.Bool.cases_eq, lemmas.Bool.cases_lt, lemmas.Bool.Decides.nat_tests}
@@ -141,10 +140,6 @@ pub not_both : {A E : Type 0} (r : Result A E) → IsErr r → IsOk r → ⊥
 not_both (Ok x) e o = absurd (cc)
 not_both (Err x) e o = absurd (cc)
 
-pub item_within : (es : List (ℕ × ℚ)) (n i : ℕ) (p : ℕ × ℚ) → All (λ e. e.0 < n) es → i < length es
-    → p ≡ get_or es i p → p.0 < n
-item_within es n i p all l e = subst (λ (q : ℕ × ℚ). q.0 < n) (sym e) (all i p l)
-
 -- after the last term
 pub all_fit : (sums : List ℚ) (m : ℚ) (es : List (ℕ × ℚ)) (i : ℕ) → length es ≤ i
     → TermsFitIn sums m (drop i es)
@@ -204,8 +199,3 @@ module _ (sums : List ℚ) (touched : List ℕ) (i : ℕ) (x : ℚ) (l : i < len
 
   pub left_out : int_eq x.numer (pos 0) ≡ true → es ≡ filter is_nonzero (take (i + 1) (map (pick sums) touched))
   left_out t = sym (one_more ∙ ap (λ b. es ++ cond (not b) ((get_or touched i 0, x) ∷ []) []) t ∙ append-nil es)
-
-pub all_picked : (sums : List ℚ) (touched : List ℕ) (i : ℕ) → length touched ≤ i
-    → filter is_nonzero (take i (map (pick sums) touched))
-    ≡ filter is_nonzero (map (pick sums) touched)
-all_picked sums touched i h = ap (filter is_nonzero) (take_all i (map (pick sums) touched) (let e = length-map touched (pick sums) in omega (arith, e)))

@@ -1,7 +1,7 @@
 use Rattle.std.proofs.Common.{ℕ, ◌≡◌, ◌<◌, ◌∙◌, ap, sym, subst, get_or, length, vec_items, All}
 use Rattle.std.proofs.lemmas.List.Elements.{All-push}
 use Rattle.vipr_spec.specs.Fraction.{ℚ, IsBounded}
-use Rattle.vipr_linear.proofs.Marks.{kept, left_out, all_picked}
+use Rattle.vipr_linear.proofs.Marks.{kept, left_out}
 use Rattle.vipr_linear.proofs.places.nonzero_sums.Goals as goal
 use Rattle.vipr_linear.proofs.places.nonzero_sums.Goals.{then-not-is_zero+in_ok-push}
 use Rattle.vipr_linear.proofs.places.nonzero_sums.Goals.{else-not-is_zero}
@@ -27,6 +27,3 @@ loop-variable-preserved c =
             bounded = subst (All (λ (e : ℕ × ℚ). IsBounded e.1)) (sym (ap vec_items w.entries-is)) c.loop-variable.invariant.bounded;
           }
     ]
-
-pub returns-clause-kept : goal.returns-clause-kept
-returns-clause-kept c = c.loop-variable.invariant.kept ∙ all_picked c.args.sums.now c.args.places.now c.loop-variable.variable-index c.loop-variable-test.false

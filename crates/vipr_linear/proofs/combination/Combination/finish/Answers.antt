@@ -4,9 +4,6 @@ use Rattle.vipr_linear.specs.Accumulator.{Accumulator}
 use Rattle.vipr_linear.proofs.Rows.{no_zeros}
 use Rattle.vipr_linear.proofs.combination.Combination.finish.Goals as goal
 
-pub from_rising-requires : goal.from_rising-requires
-from_rising-requires c = c.in-Ok.ensures.entries
-
 pub returns-clause-sum : goal.returns-clause-sum
 returns-clause-sum c = record {
   row_is = λ j. ap (λ m. at m j) c.from_rising.ensures ∙ c.in-Ok.ensures.sums j ∙ ap (λ (a : Accumulator). get_or a.sums j zero_ℚ) c.self.view_is;

@@ -1,13 +1,8 @@
 use Rattle.std.proofs.Common.{arith, ap, ◌≡◌, ◌+◌, ◌∙◌, sym, subst, refl, drop, length}
 use Rattle.std.proofs.{lemmas.Bool.false≢true, lemmas.List.length-set}
 use Rattle.vipr_linear.specs.Accumulator.{with_term, with_terms, TermsFitIn}
-use Rattle.vipr_linear.proofs.Marks.{item_within, not_both, next_fits, next_sums, all_fit, no_more}
+use Rattle.vipr_linear.proofs.Marks.{not_both, next_fits, next_sums, all_fit, no_more}
 use Rattle.vipr_linear.proofs.places.Places.add_terms.Goals as goal
-
-pub add_term-requires : goal.add_term-requires
-add_term-requires c =
-    let at = item_within c.args.entries.now (length c.args.self.now) c.loop-entry.entry-index c.entry-item.result c.requires (omega arith) c.entry-item.is in
-    omega (arith, at, c.loop-entry.invariant.places)
 
 pub returns-in_err-add_term-clause-fits : goal.returns-in_err-add_term-clause-fits
 returns-in_err-add_term-clause-fits c =
@@ -15,9 +10,6 @@ returns-in_err-add_term-clause-fits c =
       λ o. absurd (not_both _ c.from_residual.ensures.0 o),
       λ h. absurd (false≢true (c.in_err-add_term.ensures.fits.1 (fits.0 (c.loop-entry.invariant.fits.0 h)).0)),
     )
-
-pub returns-in_err-add_term-clause-places : goal.returns-in_err-add_term-clause-places
-returns-in_err-add_term-clause-places c = ap length c.in_err-add_term.ensures.kept ∙ c.loop-entry.invariant.places
 
 pub loop-entry-preserved : goal.loop-entry-preserved
 loop-entry-preserved c =

@@ -1,5 +1,5 @@
-use Rattle.std.proofs.Common.{arith, ◌<◌, ◌≡◌, ◌∙◌, ap, sym, subst, false, true, get_or, length}
-use Rattle.std.proofs.Common.{vec_len, vec_capacity, slice_set}
+use Rattle.std.proofs.Common.{arith, ◌<◌, ◌≡◌, ◌∙◌, sym, subst, false, true, get_or, length}
+use Rattle.std.proofs.Common.{vec_len, vec_capacity}
 use Rattle.std.proofs.lemmas.List.{get_or_default, length-set}
 use Rattle.vipr_linear.proofs.Marks.{touch_more, touch_room}
 use Rattle.vipr_linear.proofs.places.Touched.touch.Goals as goal
@@ -26,6 +26,3 @@ invariant_of-self c =
       room = omega (arith, limit, capacity, long);
       touching = rw is (touch_more c.self.inside.marks.items c.self.inside.list.items c.args.place within unmarked c.self.invariant.touching);
     }
-
-pub returns : goal.returns
-returns c = ap (λ xs. slice_set xs c.args.place true) c.self.view_is
