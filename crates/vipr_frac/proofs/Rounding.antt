@@ -1,7 +1,7 @@
 -- The quotient of the numerator by the denominator is the whole number below a fraction.
-use Rattle.std.proofs.Common.{ℕ, ◌/◌, ◌<◌, ◌≤◌, ℤ, pos, negsuc, arith}
-use Rattle.std.proofs.{Math.Nat.div-le_self, lemmas.Int.ints, lemmas.Int.by_lt_z}
-use Rattle.std.specs.Prelude.{◌+ℤ◌, ◌*ℤ◌, ◌≤ℤ◌, ◌<ℤ◌, neg_ℤ, unsigned_abs}
+use Rattle.std.proofs.Common.{ℕ, ◌/◌, ◌<◌, ℤ, pos, negsuc, arith}
+use Rattle.std.proofs.{lemmas.Int.ints, lemmas.Int.by_lt_z}
+use Rattle.std.specs.Prelude.{◌+ℤ◌, ◌*ℤ◌, ◌≤ℤ◌, ◌<ℤ◌, neg_ℤ}
 use Rattle.std.specs.Int.{int_div_euclid}
 use Rattle.vipr_spec.specs.{Fraction.ℚ, Fraction.neg_ℚ, FractionOrder.IsFloor, FractionOrder.IsCeil}
 use Rattle.vipr_spec.proofs.Laws.{mul-le_ℤ, neg-mul, add-mul_ℤ, is_whole, is_self, is_neg, le_in}
@@ -17,10 +17,6 @@ quotient-above (negsuc a) q h = next (negsuc (a / q)) (negsuc a) q (omega (arith
   where
     next : (k p : ℤ) (q : ℕ) → p <ℤ (k *ℤ pos q +ℤ pos q) → p <ℤ ((k +ℤ pos 1) *ℤ pos q)
     next k p q h = let e = add-mul_ℤ k (pos 1) (pos q) in omega (arith, ints)
-
-pub quotient-small : (p : ℤ) (q : ℕ) → unsigned_abs (int_div_euclid p (pos q)) ≤ unsigned_abs p
-quotient-small (pos a) q = div-le_self a q
-quotient-small (negsuc a) q = let h = div-le_self a q in omega arith
 
 pub IsFloor-quotient : (x : ℚ) → IsFloor x (int_div_euclid x.numer (pos x.denom))
 IsFloor-quotient x =

@@ -105,22 +105,6 @@ negated-word p h =
     let small : unsigned_abs (pos 0 -ℤ p) ≤ most = rw (abs-neg p) h in
     rw (as-is p h) (as-is (pos 0 -ℤ p) small ∙ neg-is p)
 
-pub negated-fits : (p : ℤ) → unsigned_abs p ≤ most
-    → FitsSigned w128 (pos 0 -ℤ to_z w128 (of_z w128 p))
-negated-fits p h = rw (as-is p h) (fits_signed_from_abs w128 (pos 0 -ℤ p) (let e = abs-neg p in omega arith))
-
-pub negated-small : (p : ℤ) → unsigned_abs p ≤ most → unsigned_abs (neg_ℤ p) ≤ most
-negated-small p h = rw (← neg-is p, abs-neg p) h
-
-pub IsReduced-negated : (p : ℤ) (q : ℕ) → IsReduced p q → IsReduced (neg_ℤ p) q
-IsReduced-negated p q h =
-    let e : unsigned_abs (neg_ℤ p) ≡ unsigned_abs p = ap unsigned_abs (sym (neg-is p)) ∙ abs-neg p in
-    record {
-      lowest = record { positive = h.lowest.positive; apart = rw e h.lowest.apart };
-      numer_bounded = rw e h.numer_bounded;
-      denom_bounded = h.denom_bounded;
-    }
-
 pub over-negated : (p : ℤ) (q : ℕ) → 0 < q → over (neg_ℤ p) q ≡ neg_ℚ (over p q)
 over-negated p q some = is_one _ _ _ _ (is_over (neg_ℤ p) q some) (is_neg _ _ _ (is_over p q some))
 

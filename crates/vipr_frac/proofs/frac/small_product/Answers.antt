@@ -1,9 +1,9 @@
-use Rattle.std.proofs.Common.{◌≡◌, ◌∙◌, ap, arith, to_z, of_z}
+use Rattle.std.proofs.Common.{◌≡◌, ◌∙◌, ap, to_z, of_z}
 use Rattle.std.specs.{Int.w128, Prelude.◌*ℤ◌}
 use Rattle.vipr_frac.specs.Parts.{product_numer}
 use Rattle.vipr_frac.proofs.Sums.{product-is, IsReduced-product, ProductFits-parts}
 use Rattle.vipr_frac.proofs.{Small.word_fits, Small.small_product_fits, Small.product_numer_small}
-use Rattle.vipr_frac.proofs.{Small.product_denom_small, Views.as-is, Views.words_times}
+use Rattle.vipr_frac.proofs.{Views.as-is, Views.words_times}
 use Rattle.vipr_frac.proofs.{frac.small_product.Goals.After-crossed-p}
 use Rattle.vipr_frac.proofs.frac.small_product.Goals as goal
 
@@ -17,12 +17,6 @@ module _ (c : After-crossed-p) where
 pub overflow_mul-p : goal.overflow_mul-p
 overflow_mul-p c =
     rw (numer_is (goal.at.overflow_mul-p c).After-crossed-p) (word_fits _ (product_numer_small c.args.a c.args.b c.requires.left c.requires.right))
-
-pub overflow_mul-q : goal.overflow_mul-q
-overflow_mul-q c =
-    let small = product_denom_small c.args.a c.args.b c.requires.left c.requires.right in
-    let is = c.crossed-p.ensures.below in
-    omega (arith, small, is)
 
 pub of_parts-requires : goal.of_parts-requires
 of_parts-requires c =

@@ -1,9 +1,9 @@
-use Rattle.std.proofs.Common.{◌≡◌, ℕ, ℤ, ◌≤◌, Bool, true, false, Ok, Err, sym, ap, ◌∙◌, arith, to_z}
+use Rattle.std.proofs.Common.{◌≡◌, ℕ, ℤ, ◌≤◌, Bool, true, false, Ok, sym, ap, ◌∙◌, arith, to_z}
 use Rattle.std.proofs.Common.{of_z}
 use Rattle.std.proofs.{lemmas.Bool.Decides.nat_tests, lemmas.Int.ints}
 use Rattle.std.specs.{Int.w128, Prelude.unsigned_abs}
 use Rattle.vipr_spec.specs.Fraction.{most, over}
-use Rattle.vipr_spec.specs.Number.{signed_integer, written_fraction, zero_denominator}
+use Rattle.vipr_spec.specs.Number.{signed_integer, written_fraction}
 use Rattle.vipr_frac.proofs.Views.{as-is}
 use Rattle.vipr_frac.proofs.number.fraction.Goals as goal
 
@@ -15,23 +15,9 @@ kept : (m : Bool) (p : ℕ) (z : ℤ) → p ≤ most → z ≡ signed_integer m 
     → to_z w128 (of_z w128 z) ≡ signed_integer m p
 kept m p z h e = rw e (as-is (signed_integer m p) (signed_small m p h))
 
-at_zero : (m : Bool) (p q : ℕ) → p ≤ most → q ≡ 0 → written_fraction m p q ≡ Err zero_denominator
-at_zero m p q h e = grind (arith, nat_tests)
-
 at_value : (m : Bool) (p q : ℕ) → p ≤ most → q ≤ most → (q ≡ 0 → ⊥)
     → written_fraction m p q ≡ Ok (over (signed_integer m p) q)
 at_value m p q h k some = grind (arith, nat_tests)
-
-pub returns-then-bottom-eq0 : goal.returns-then-bottom-eq0
-returns-then-bottom-eq0 c = sym (at_zero c.args.is_negative c.args.top c.args.bottom (omega arith) c.if-bottom-eq0.true)
-
-pub with_sign-requires : goal.with_sign-requires
-with_sign-requires c = omega arith
-
-pub reduced-requires-clause-numer : goal.reduced-requires-clause-numer
-reduced-requires-clause-numer c =
-    let small : c.args.top ≤ most = omega arith in
-    rw (kept _ _ _ small c.with_sign.ensures) (signed_small c.args.is_negative c.args.top small)
 
 pub returns : goal.returns
 returns c =

@@ -19,9 +19,6 @@ module _ (c : After-product-2) where
 pub overflow_add-sum : goal.overflow_add-sum
 overflow_add-sum c = rw (left c, right c) (word_fits _ (bound c))
 
-pub overflow_cast-result : goal.overflow_cast-result
-overflow_cast-result c = c.is_word.ensures.0 c.if-is_word.true
-
 pub returns-then-is_word : goal.returns-then-is_word
 returns-then-is_word c =
     let k = (goal.at.returns-then-is_word c).After-product-2 in

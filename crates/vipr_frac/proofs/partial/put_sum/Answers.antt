@@ -4,14 +4,6 @@ use Rattle.vipr_spec.specs.Fraction.{over}
 use Rattle.vipr_frac.proofs.Unreduced.{put_value, sum-swap, turned}
 use Rattle.vipr_frac.proofs.partial.put_sum.Goals as goal
 
-pub returns-then-q-eq1 : goal.returns-then-q-eq1
-returns-then-q-eq1 c =
-    let times : c.args.s ≡ c.args.s * c.args.q = rw c.if-q-eq1.true (omega arith) in
-    let h = c.raised_sum.ensures.value c.args.q c.requires.left.some times in
-    let sum = rw (to_z-of_z w64 c.args.p c.ranges.p, to_z-of_z w64 c.args.r c.ranges.r) at h in
-    let both = put_value c.raised_sum.result c.put.result _ _ _ c.put.ensures sum in
-    record { sum = both.0; kept = both.1 }
-
 pub returns-then-s-eq1 : goal.returns-then-s-eq1
 returns-then-s-eq1 c =
     let times : c.args.q ≡ c.args.q * c.args.s = rw c.if-s-eq1.true (omega arith) in

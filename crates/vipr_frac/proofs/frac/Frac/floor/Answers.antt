@@ -1,8 +1,8 @@
 use Rattle.std.proofs.Common.{◌≡◌, ◌∙◌, pos, sym, subst, to_z, of_z}
-use Rattle.std.proofs.{Math.Nat.le_trans, lemmas.Int.to_z-of_z}
+use Rattle.std.proofs.{lemmas.Int.to_z-of_z}
 use Rattle.std.specs.Int.{w128, int_div_euclid}
 use Rattle.vipr_spec.specs.FractionOrder.{IsFloor}
-use Rattle.vipr_frac.proofs.Rounding.{IsFloor-quotient, quotient-small}
+use Rattle.vipr_frac.proofs.Rounding.{IsFloor-quotient}
 use Rattle.vipr_frac.proofs.{Views.as-is, frac.Frac.floor.Goals.After-div_euclid}
 use Rattle.vipr_frac.proofs.frac.Frac.floor.Goals as goal
 
@@ -16,6 +16,3 @@ result_is c =
 
 pub returns-clause-floor : goal.returns-clause-floor
 returns-clause-floor c = subst (λ k. IsFloor c.args.self k) (sym (result_is c)) (IsFloor-quotient c.args.self)
-
-pub returns-clause-bounded : goal.returns-clause-bounded
-returns-clause-bounded c = rw (result_is c) (le_trans (quotient-small c.args.self.numer c.args.self.denom) c.numer.ensures.bounded.0)

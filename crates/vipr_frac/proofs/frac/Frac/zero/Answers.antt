@@ -1,8 +1,4 @@
-use Rattle.std.proofs.Common.{lit≤}
 use Rattle.vipr_frac.proofs.frac.Frac.zero.Goals as goal
-
-pub of_whole-requires : goal.of_whole-requires
-of_whole-requires c = lit≤ tt
 
 pub returns : goal.returns
 returns c = c.of_whole.ensures

@@ -32,12 +32,6 @@ module _ (c : After-from-then-are_short-2) where
   fits : FitsSigned w128 (c.parts-p.result.0 *ℤ c.parts-r.result.0)
   fits = fits_signed_from_abs w128 _ (let h = short.numer in omega arith)
 
-pub overflow_cast-p : goal.overflow_cast-p
-overflow_cast-p c = (c.are_short.ensures.0 c.if-are_short.true).0
-
-pub overflow_cast-r : goal.overflow_cast-r
-overflow_cast-r c = (c.are_short-then-are_short.ensures.0 c.if-are_short-2.true).0
-
 pub overflow_mul-numer : goal.overflow_mul-numer
 overflow_mul-numer c = rw (p_is c, r_is c) (fits c)
 
@@ -48,11 +42,6 @@ add_short-requires-clause-numer c =
 
 pub overflow_mul-denom : goal.overflow_mul-denom
 overflow_mul-denom c = let h = (short c).denom in omega arith
-
-pub add_short-requires-clause-some : goal.add_short-requires-clause-some
-add_short-requires-clause-some c =
-    let k = (goal.at.add_short-requires-clause-some c).After-from-then-are_short-2 in
-    (short k).some
 
 pub add_short-requires-clause-denom : goal.add_short-requires-clause-denom
 add_short-requires-clause-denom c =
@@ -77,11 +66,4 @@ returns-else-add_short c =
     let left = passed-on c.args.multiplier _ _ c.parts-p.ensures.numer c.parts-p.ensures.denom c.parts-p.ensures.reduced in
     let right = passed-on c.args.coefficient _ _ c.parts-r.ensures.numer c.parts-r.ensures.denom c.parts-r.ensures.reduced in
     let h = rw (left, right, c.add_short.ensures.kept c.if-add_short.false) at c.add_exact.ensures in
-    record { fits = h.fits; sum = h.sum; kept = h.kept }
-
-pub returns-else-are_short : goal.returns-else-are_short
-returns-else-are_short c =
-    let left = passed-on c.args.multiplier _ _ c.parts-p.ensures.numer c.parts-p.ensures.denom c.parts-p.ensures.reduced in
-    let right = passed-on c.args.coefficient _ _ c.parts-r.ensures.numer c.parts-r.ensures.denom c.parts-r.ensures.reduced in
-    let h = rw (left, right) at c.add_long.ensures in
     record { fits = h.fits; sum = h.sum; kept = h.kept }
