@@ -7,10 +7,6 @@ use Rattle.std.specs.List.{flat_map}
 use Rattle.vipr_bytes.specs.Puts.{Puts}
 
 module _ {S : Type 0} {carries : S → List ℕ → S → Type 0} where
-  -- nothing
-  pub puts_none : (s : S) → Puts carries s s []
-  puts_none s = record { law = λ first text c. subst (λ t. carries first t s) (sym (append-nil text)) c }
-
   -- one piece behind another
   pub puts_then : {s t u : S} {a b : List ℕ} → Puts carries s t a → Puts carries t u b
       → Puts carries s u (a ++ b)
