@@ -95,7 +95,7 @@ impl Lists {
         ensures { IfOk result (λ s. s ≡ self) }
     {
         let Lists { mut fronts, more } = self;
-        put_behind(alloc, &mut fronts, more.as_slice())?;
+        fronts.push(Front::of(alloc, more)?)?;
         Ok(Lists {
             fronts,
             more: Vec::new(alloc),
@@ -181,25 +181,6 @@ fn add_fronts(fronts: &mut Vec<Front>, more: &[Front]) -> Result<(), AllocError>
             fronts.push(front.clone()?)?;
         }
     }
-    Ok(())
-}
-
-// Puts these indices behind the lists. They become one list with the last one, if that is short,
-// too.
-fn put_behind(alloc: Global, fronts: &mut Vec<Front>, more: &[u32]) -> Result<(), AllocError>
-    requires { IsRising more.now }
-    ensures { OnOk result (union_of_all fronts.new.items
-        ≡ set.union (union_of_all fronts.old.items) (set.from_list more.now)) }
-{
-    let items = match fronts.pop() {
-        Some(last) if last.len() <= more.len() => join(alloc, last.as_slice(), more)?,
-        Some(last) => {
-            fronts.push(last)?;
-            more.to_vec(alloc)?
-        }
-        None => more.to_vec(alloc)?,
-    };
-    fronts.push(Front::of(alloc, items)?)?;
     Ok(())
 }
 
