@@ -16,9 +16,9 @@ N of the changes, always the same; --scripts runs these scripts alone, as `--scr
 does nothing more.
 
 What each script came to is kept in out/plants, and a run that is cut off goes on there. A change is tried anew if its function
-changes, and with --again if it survived. --write puts what survives into docs/PLANTS.md, with the reasons that stand there. Prints
-each that survives, and last `planted N, refused R, survive S`, and how many not all scripts were run with. The exit status is 1
-if one that survives has no reason.
+changes, and with --again if it survived. --write puts what survives into docs/PLANTS.md, with the reasons that stand there, and
+leaves the other areas as they stand there. Prints each that survives, and last `planted N, refused R, survive S`, and how many
+not all scripts were run with. The exit status is 1 if one that survives has no reason.
 """
 import argparse
 import hashlib
@@ -231,20 +231,31 @@ def reasons():
     return {name: why for name, why in rows if why != NO_REASON}
 
 
-def listed(changes, kept):
-    """The part of the page: how many each script refused, and each change that survives, with its reason."""
+def area_of(file):
+    """The area of a file of python/ or crates/, whose name may stand there without that."""
+    return 'python' if file.startswith('python/') else file.removeprefix('crates/').split('/')[0]
+
+
+def listed(changes, kept, areas):
+    """The part of the page: how many each script refused, and each change that survives, with its reason. What stands there of
+    other areas than these stays."""
     lines = ['| Changed | Planted | Refused | By | Survive | Not tried to the end |', '|---|---|---|---|---|---|']
-    groups, known = defaultdict(list), reasons()
+    groups, known, page = defaultdict(list), reasons(), PAGE.read_text(encoding='utf-8')
     for it in changes:
-        groups['python' if it.file.startswith('python') else it.file.split('/')[1]].append(kept.end(it))
+        groups[area_of(it.file)].append(kept.end(it))
     for group, scripts in groups.items():
+        row = re.search(rf'^\| `{group}` \| \d.*$', page, re.M)
+        if row and group not in areas:
+            lines.append(row[0])
+            continue
         count = Counter(scripts)
         rest, survive = count.pop('?', 0), count.pop('', 0)
         by = ', '.join(f'`{script}.py` {number}' for script, number in count.most_common())
         lines.append(f'| `{group}` | {len(scripts)} | {sum(count.values())} | {by} | {survive} | {rest} |')
     lines += ['', '| Survives | Why |', '|---|---|']
-    lines += [f'| {shown(it)} | {known.get(shown(it), NO_REASON)} |' for it in changes if kept.end(it) == '']
-    return '\n'.join(lines)
+    stay = [row for row in re.findall(r'^\| `\S+`, `.*$', page.split(MARKS[0])[1], re.M) if area_of(row[3:]) not in areas]
+    return '\n'.join([*lines, *stay, *(f'| {shown(it)} | {known.get(shown(it), NO_REASON)} |'
+                                       for it in changes if area_of(it.file) in areas and kept.end(it) == '')])
 
 
 def main():
@@ -274,7 +285,7 @@ def main():
     changes = [it for it in changes if kept.end(it) != '-']
     survive = [it for it in changes if kept.end(it) == '']
     if given.write:
-        text = listed([it for area in AREAS for it in known[area] if kept.end(it) != '-'], kept)
+        text = listed([it for area in AREAS for it in known[area] if kept.end(it) != '-'], kept, given.areas)
         PAGE.write_text(replaced(PAGE.read_text(encoding='utf-8'), MARKS, '\n'.join([MARKS[0], text, MARKS[1]])), encoding='utf-8')
     for it in survive:
         print(f'{it.file}:{it.line}: {it.function}: {it.what}')
