@@ -52,11 +52,6 @@ stopped_says P k l h e halts s = subst (λ x. SaysWhy P x (stop_reason e)) (sym 
 
 -- ---- the derivations
 
--- a derivation that was read has an index, and names variables of the problem
-pub room_for : (P : Profile) (c : Certificate) (k : State) (old : Items) (n : ℕ) → IsAt P c k old
-    → old.left ≡ suc n → k.progress.rows.next + 1 < 2 ^ 32
-room_for P c k old n is e = let r = is.room in let next = is.has.rows.next in omega (arith, r, next, e)
-
 pub at_start : (P : Profile) (p : Problem) (ss : List (Named Row)) (k l : State) (r : Items)
     → IsAmong P p ss k r → EndsSolutions ss k l (Ok tt) → (new : Items) → Knows new p
     → new.failed ≡ false → new.constraints + new.left < 2 ^ 32
@@ -208,11 +203,6 @@ pub listed_says : (P : Profile) (p : Problem) (ss : List (Named Row)) (k : State
     → SaysWith (Explained P (solutions_from p h.now mid.left (rest_of mid.rest))) x y)
     → SaysWith (Explained P (solutions_from p ss old.left (rest_of old.rest))) x y
 listed_says P p ss k old mid h known x y s = SaysWith-by (Explained P (solutions_from p h.now mid.left (rest_of mid.rest))) (Explained P (solutions_from p ss old.left (rest_of old.rest))) x y (h.answers known) (s (h.known known))
-
--- there is a number for one more
-pub one_more : (P : Profile) (p : Problem) (ss : List (Named Row)) (k : State) (old : Items)
-    → IsAmong P p ss k old → 0 < old.left → k.progress.solutions + 1 < 2 ^ 32
-one_more P p ss k old is some = let e = is.has.solutions in let r = is.room in omega (arith, e, r, some)
 
 module _ (P : Profile) (p : Problem) (ss : List (Named Row)) (k l : State) (old new : Items) (s : Named Row) (is : IsAmong P p ss k old) (fewer : old.left ≡ suc new.left) where
   pub solution_taken : Remembers old new → new.failed ≡ false → TakesSolution ss s k l (Ok tt) → IsAmong P p (ss ++ s ∷ []) l new
