@@ -1,9 +1,8 @@
 -- Numbers, lines and sections in the parts in which they are appended
-use Rattle.std.proofs.Common.{◌≡◌, ℕ, ℤ, Bool, if◌then◌else◌, List, [], ◌∷◌, ◌++◌, length, map}
-use Rattle.std.proofs.Common.{append_assoc, sym, ap, ◌∙◌}
-use Rattle.std.proofs.{lemmas.Bool.eq-eqb, lemmas.Grind.flat_map-append, lemmas.List.append-nil}
-use Rattle.std.proofs.{lemmas.List.length-map, lemmas.List.Folds.flat_map-map}
-use Rattle.std.specs.{Fmt.decimal, Fmt.signed_decimal, List.flat_map, Prelude.codes}
+use Rattle.std.proofs.Common.{◌≡◌, ℕ, List, [], ◌∷◌, ◌++◌, length, map, append_assoc, sym, ap, ◌∙◌}
+use Rattle.std.proofs.lemmas.List.{append-nil, length-map}
+use Rattle.std.proofs.{lemmas.Grind.flat_map-append, lemmas.List.Folds.flat_map-map}
+use Rattle.std.specs.{List.flat_map, Prelude.codes}
 use Rattle.vipr_spec.specs.Certificate.{Problem, Derivation, Certificate}
 use Rattle.vipr_spec.specs.{Constraint.Row, Number.number_text}
 use Rattle.vipr_write.specs.Canonical.{sense_word, reason_words, last_word, direction_word}
@@ -12,15 +11,8 @@ use Rattle.vipr_write.specs.Canonical.{words_after_spaces, heading, line_text, l
 use Rattle.vipr_write.specs.Forms.{row_words, constraint_words_in, derivation_words_in}
 use Rattle.vipr_write.specs.Forms.{given_words_in, problem_lines_in, derivations_lines_in}
 use Rattle.vipr_write.specs.Forms.{certificate_lines_in}
-use Rattle.vipr_write.specs.{Lines.parts_text, Lines.words_text, Lines.constraints_heading}
+use Rattle.vipr_write.specs.{Lines.words_text, Lines.constraints_heading}
 use Rattle.vipr_write.specs.{Lines.constraints_lines_in, declared.form.Form.Form}
-
-abbrev parts_by : ℤ → ℕ → Bool → List ℕ
-parts_by p q is_whole = if is_whole then signed_decimal p else signed_decimal p ++ 47 ∷ decimal q
-
--- a number that is its numerator, and one with a denominator
-pub whole_text : (p : ℤ) (q : ℕ) → q ≡ 1 → signed_decimal p ≡ parts_text p q
-whole_text p q one = sym (ap (parts_by p q) (eq-eqb q 1 one))
 
 words_after_spaces-append : (ws us : List (List ℕ))
     → words_after_spaces (ws ++ us) ≡ words_after_spaces ws ++ words_after_spaces us
