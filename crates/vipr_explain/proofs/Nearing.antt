@@ -31,7 +31,7 @@ use Rattle.vipr_table.specs.{History.IsTableOf, declared.rows.Entry.Entry}
 use Rattle.vipr_table.proofs.Laws.{DerivedBelow-step, IsTableOf-step}
 use Rattle.vipr_rules.specs.{Apply.entry_resting_on, Claim.IsTargetIn, declared.claim.Target.Target}
 use Rattle.vipr_explain.specs.Found.{AreDerivationsRead, HasFault, head_read}
-use Rattle.vipr_explain.specs.Near.{IsLike, comes_before, with_near, in_order, IsNear, AreNearest}
+use Rattle.vipr_explain.specs.Near.{AreKeptSteps, IsLike, comes_before, with_near, in_order, IsNear, AreNearest}
 use Rattle.vipr_explain.specs.Near.{IsOpenJoin, join_of, of_like, of_unlike, without_solutions}
 use Rattle.vipr_explain.specs.Near.{IsNextEntry, HasPassedAll, HasReplayed, SearchesTo, HasNoStep}
 use Rattle.vipr_explain.specs.Near.{IsStepOf, LacksGoal, passed_to, up_to}
@@ -129,9 +129,9 @@ back_next c d back earlier k = elim (cases_lt k (count c)) [
 -- the next one was passed
 pub replayed_next : (p : Problem) (ds : List Derivation) (d : Derivation) (e : Entry) (s t : Replay)
     → t.rows ≡ step s.rows e → length t.scratch.sums ≡ length s.scratch.sums
-    → NamesBelow (variables p) (condition d.stated).row → IsNextEntry (without_solutions p ds) d e
-    → HasReplayed p ds s → HasReplayed p (ds ++ d ∷ []) t
-replayed_next p ds d e s t rows scratch names next so_far =
+    → NamesBelow (variables p) (condition d.stated).row → AreKeptSteps p (ds ++ d ∷ []) t.kept.items
+    → IsNextEntry (without_solutions p ds) d e → HasReplayed p ds s → HasReplayed p (ds ++ d ∷ []) t
+replayed_next p ds d e s t rows scratch names kept next so_far =
     let c = without_solutions p ds in
     let now = with_next c d in
     record {
@@ -139,6 +139,7 @@ replayed_next p ds d e s t rows scratch names next so_far =
       back = back_next c d so_far.back next.earlier;
       below = subst (DerivedBelow (variables p)) (sym rows) (DerivedBelow-step (variables p) s.rows e so_far.below (subst (λ (x : Condition). NamesBelow (variables p) x.row) (sym (constraint_next c d) ∙ next.entry.says) names));
       scratch = scratch ∙ so_far.scratch;
+      kept = kept;
     }
 
 -- it is kept so, and its constraint was added
@@ -146,6 +147,7 @@ pub passed_next : (P : Profile) (p : Problem) (ds : List Derivation) (d : Deriva
     (s t : NearSearch) (i : ℕ) (join : Option Join) → i ≡ s.replay.rows.next
     → join ≡ join_of d.reason → t.target ≡ s.target → t.replay.rows ≡ step s.replay.rows e
     → length t.replay.scratch.sums ≡ length s.replay.scratch.sums → NamesBelow (variables p) (condition d.stated).row
+    → AreKeptSteps p (ds ++ d ∷ []) t.replay.kept.items
     → ((c : Certificate) → constraint_at c i ≡ condition_of e.constraint
     → ((a : ℕ) → IsTrue (contains e.assumptions a) ↔ RestsOn c i a)
     → AreNearest c s.target i s.near.items → AreNearest c s.target (i + 1) t.near.items)
@@ -154,7 +156,7 @@ pub passed_next : (P : Profile) (p : Problem) (ds : List Derivation) (d : Deriva
     → All (IsOpenJoin c) s.joins.items → All (IsOpenJoin c) t.joins.items)
     → IsNextEntry (without_solutions p ds) d e → HasPassedAll P p ds s
     → HasPassedAll P p (ds ++ d ∷ []) t
-passed_next P p ds d e s t i join index joins target rows scratch names added keeps next so_far =
+passed_next P p ds d e s t i join index joins target rows scratch names kept added keeps next so_far =
     let c = without_solutions p ds in
     let now = with_next c d in
     let here : count c ≡ i = sym (index ∙ so_far.replayed.rows.next) in
@@ -168,7 +170,7 @@ passed_next P p ds d e s t i join index joins target rows scratch names added ke
     subst (λ k. IsTrue (contains e.assumptions a) ↔ RestsOn (with_more now more) k a) here (λ h. kept.1 ((next.entry.rests a).0 h), λ r. (next.entry.rests a).1 (kept.0 r)) in
     record {
       target = subst (IsTargetIn P p) (sym target) so_far.target;
-      replayed = replayed_next p ds d e s.replay t.replay rows scratch names next so_far.replayed;
+      replayed = replayed_next p ds d e s.replay t.replay rows scratch names kept next so_far.replayed;
       near = λ more.
           let all = with_more now more in
           let before = subst (λ xs. AreNearest (without_solutions p xs) s.target (count c) s.near.items) (moved more) (so_far.near (d ∷ more)) in

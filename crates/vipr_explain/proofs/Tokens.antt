@@ -1,41 +1,40 @@
 -- The tokens of a text, as they are read one by one
-use Rattle.std.proofs.Common.{◌≡◌, ℕ, ◌+◌, ◌<◌, ◌≤◌, false, true, List, [], ◌∷◌, length, take}
+use Rattle.std.proofs.Common.{◌≡◌, ℕ, ◌+◌, ◌-◌, ◌<◌, ◌≤◌, zero, suc, false, true, List, [], ◌∷◌, length, take}
 use Rattle.std.proofs.Common.{drop, get_or, inl, inr, refl, sym, ap, ◌∙◌, arith}
-use Rattle.std.proofs.lemmas.List.{at_drop_more, get_or-drop, length-drop, length-take-le}
+use Rattle.std.proofs.lemmas.List.{length-take-le}
+use Rattle.std.specs.{List.suffix_len, Prelude.not}
+use Rattle.std.proofs.lemmas.{Bool.Decides.eqb_tells, List.Sums.count_by_more_no, List.Sums.suffix_len-take_yes}
 use Rattle.std.proofs.lemmas.Bool.{cases_lt, false≢true}
 use Rattle.vipr_spec.specs.Tokens.{Token, is_white, tokens_after_front, tokens_from}
 use Rattle.vipr_spec.proofs.Laws.{token_whole}
 use Rattle.vipr_scan.specs.declared.place.Position.TheVariants.{Front, Comment, Past}
 use Rattle.vipr_scan.specs.{Places.tokens_in, declared.place.Position.Position}
+use Rattle.vipr_explain.specs.Places.{column_behind, is_line_feed, line_behind, place_at}
 use Rattle.vipr_explain.specs.Words.{GivesFirst, IsAtByte, sized, words_at}
-use Rattle.vipr_explain.specs.declared.words.TextWord.{TextWord}
-use Rattle.vipr_explain.specs.{Places.place_at, declared.words.Words.Words}
+use Rattle.vipr_explain.specs.{declared.words.TextWord.TextWord, declared.words.Words.Words}
 
 -- ---- up to a token
 
 -- a byte was passed that begins no token
-pub byte_passed : (p q : Position) (n offset b : ℕ) (bytes : List ℕ) → n < length bytes
-    → b ≡ get_or bytes n 0
+pub byte_passed : (p q : Position) (offset b : ℕ) (bytes : List ℕ) → 0 < length bytes
+    → b ≡ get_or bytes 0 0
     → ((fails : _) (o : ℕ) (rest : List ℕ)
     → tokens_in p fails o (b ∷ rest) ≡ tokens_in q fails (o + 1) rest)
-    → words_at p (offset + n) (drop n bytes) ≡ words_at q (offset + (n + 1)) (drop (n + 1) bytes)
-byte_passed p q n offset b bytes within byte gap =
-    at_drop_more (words_at p (offset + n)) bytes n 0 within
-    ∙ ap (λ x. words_at p (offset + n) (x ∷ drop (n + 1) bytes)) (sym byte)
-    ∙ gap false (offset + n) (drop (n + 1) bytes) ∙ ap (λ o. words_at q o (drop (n + 1) bytes)) (omega arith)
+    → words_at p offset bytes ≡ words_at q (offset + 1) (drop 1 bytes)
+byte_passed p q offset b [] some byte gap = absurd (omega (arith, some))
+byte_passed p q offset b (x ∷ bytes) some byte gap =
+    ap (λ y. words_at p offset (y ∷ bytes)) (sym byte) ∙ gap false offset bytes
 
 -- a byte begins a token
-pub byte_begins : (p : Position) (n offset b : ℕ) (bytes : List ℕ) → n < length bytes
-    → b ≡ get_or bytes n 0
+pub byte_begins : (p : Position) (offset b : ℕ) (bytes : List ℕ) → 0 < length bytes
+    → b ≡ get_or bytes 0 0
     → ((fails : _) (o : ℕ) (rest : List ℕ)
     → tokens_in p fails o (b ∷ rest) ≡ tokens_in Past fails o (b ∷ rest))
-    → words_at p (offset + n) (drop n bytes) ≡ words_at Past (offset + n) (drop n bytes)
-byte_begins p n offset b bytes within byte token =
-    let rest = drop (n + 1) bytes in
-    at_drop_more (words_at p (offset + n)) bytes n 0 within
-    ∙ ap (λ x. words_at p (offset + n) (x ∷ rest)) (sym byte) ∙ token false (offset + n) rest
-    ∙ ap (λ x. words_at Past (offset + n) (x ∷ rest)) byte
-    ∙ sym (at_drop_more (words_at Past (offset + n)) bytes n 0 within)
+    → words_at p offset bytes ≡ words_at Past offset bytes
+byte_begins p offset b [] some byte token = absurd (omega (arith, some))
+byte_begins p offset b (x ∷ bytes) some byte token =
+    ap (λ y. words_at p offset (y ∷ bytes)) (sym byte) ∙ token false offset bytes
+    ∙ ap (λ y. words_at Past offset (y ∷ bytes)) byte
 
 -- nothing is left
 pub none_left : (p : Position) (n : ℕ) (rest : List ℕ) → length rest ≡ 0 → words_at p n rest ≡ []
@@ -45,15 +44,12 @@ none_left Comment n [] e = refl
 none_left Past n [] e = refl
 none_left p n (b ∷ bs) e = absurd (omega (arith, e))
 
--- behind the gap no token begins
-pub nothing_there : (rest mid : List ℕ) (count size : ℕ) → mid ≡ drop count rest → size ≡ 0
-    → (count < length rest → is_white (get_or rest count 0) ≡ false)
-    → (size < length mid → is_white (get_or mid size 0) ≡ true) → length mid ≡ 0
-nothing_there rest mid count size is none solid white = elim (cases_lt 0 (length mid)) [
-  | inl lt ↦
-      let within : count < length rest = omega (arith, ap length is, length-drop count rest) in
-      let same : get_or mid size 0 ≡ get_or rest count 0 = ap (λ n. get_or mid n 0) none ∙ ap (λ xs. get_or xs 0 0) is ∙ get_or-drop count rest 0 0 ∙ ap (λ n. get_or rest n 0) (omega arith) in
-      absurd (false≢true (sym (solid within) ∙ sym (ap is_white same) ∙ white (omega arith)))
+-- no token begins
+pub nothing_there : (rest : List ℕ) (size : ℕ) → size ≡ 0
+    → (0 < length rest → is_white (get_or rest 0 0) ≡ false)
+    → (size < length rest → is_white (get_or rest size 0) ≡ true) → length rest ≡ 0
+nothing_there rest size none solid white = elim (cases_lt 0 (length rest)) [
+  | inl lt ↦ absurd (false≢true (sym (solid lt) ∙ ap (λ n. is_white (get_or rest n 0)) (sym none) ∙ white (omega (arith, none, lt))))
   | inr le ↦ omega arith
 ]
 
@@ -82,3 +78,28 @@ word_taken text ts n size p mid new w past at some within solid white are bytes 
         tokens = ap (λ q. words_at q (n + size) new.rest.now) same ∙ ap (λ ys. words_at Past (n + size) ys) rest;
       };
     }
+
+no_feed : (b : ℕ) → is_white b ≡ false → is_line_feed b ≡ false
+unfolding is_white
+no_feed b solid = elim (eqb_tells b 10) [
+  | inl is ↦ absurd (false≢true (sym solid ∙ ap is_white is.1))
+  | inr not ↦ not.0
+]
+
+-- bytes that are no white space end no line
+pub along_line : (text : List ℕ) (n size : ℕ) → n + size ≤ length text
+    → ((k : ℕ) → k < size → is_white (get_or text (n + k) 0) ≡ false)
+    → (line_behind (take (n + size) text) ≡ line_behind (take n text))
+    × (column_behind (take (n + size) text) ≡ column_behind (take n text) + size)
+along_line text n zero within solid =
+    let same : n + zero ≡ n = omega arith in
+    (ap (λ m. line_behind (take m text)) same, ap (λ m. column_behind (take m text)) same ∙ omega arith)
+along_line text n (suc size) within solid =
+    let so_far = along_line text n size (omega (arith, within)) (λ k l. solid k (omega (arith, l))) in
+    let byte = no_feed _ (solid size (omega arith)) in
+    let more : n + suc size ≡ n + size + 1 = omega arith in
+    let back : n + size + 1 - 1 ≡ n + size = omega arith in
+    let column = suffix_len-take_yes (λ b. not (is_line_feed b)) text (n + size + 1) 0 (omega arith) (omega (arith, within)) (ap (λ m. not (is_line_feed (get_or text m 0))) back ∙ ap not byte) in (
+      ap (λ m. line_behind (take m text)) more ∙ ap (λ k. k + 1) (count_by_more_no is_line_feed text (n + size) 0 (omega (arith, within)) byte) ∙ so_far.0,
+      ap (λ m. column_behind (take m text)) more ∙ ap (λ k. k + 1) (column ∙ ap (λ m. 1 + suffix_len (λ b. not (is_line_feed b)) (take m text)) back) ∙ omega (arith, so_far.1),
+    )

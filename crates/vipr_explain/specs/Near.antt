@@ -15,7 +15,8 @@ use Rattle.vipr_spec.specs.Certificate.{RestsOn, RestsOnNothing, NamesEarlier, R
 use Rattle.vipr_spec.specs.Steps.{with_more, with_next, RefersBack, Refuses, StepDetail}
 use Rattle.vipr_spec.specs.Reading.{Rest, Read, ◌>>=◌, read_each, derivation_read}
 use Rattle.vipr_read.specs.Items.{Items as Reader}
-use Rattle.vipr_linear.specs.Constraint.{condition_of}
+use Rattle.vipr_linear.specs.Constraint.{condition_of, constraint_of}
+use Rattle.vipr_cert.specs.Items.{reason_of}
 use Rattle.vipr_table.specs.History.{IsEntryOf, IsTableOf}
 use Rattle.vipr_table.specs.{Table.DerivedBelow, declared.rows.Entry.Entry}
 use Rattle.vipr_rules.specs.declared.claim.Target.TheVariants.{Absurdity, Bound, WholeBound}
@@ -23,7 +24,7 @@ use Rattle.vipr_rules.specs.declared.claim.Target.TheVariants.{Nothing}
 use Rattle.vipr_rules.specs.{Claim.IsMetBy, Claim.IsTargetIn, declared.claim.Target.Target}
 use Rattle.vipr_page.specs.Algebra.{size}
 use Rattle.vipr_explain.specs.Found.{AreDerivationsRead, AreReadSoFar, HasFault, head_read}
-use Rattle.vipr_explain.specs.declared.near.NearSearch.{NearSearch}
+use Rattle.vipr_explain.specs.declared.near.{NearSearch.NearSearch, Numbered.Numbered}
 use Rattle.vipr_explain.specs.{declared.changes.Replay.Replay, declared.near.Join.Join}
 use Rattle.vipr_explain.specs.{declared.near.Near.Near, declared.near.OpenJoin.OpenJoin}
 
@@ -174,13 +175,23 @@ pub record IsNextEntry (c : Certificate) (d : Derivation) (e : Entry) : Type 0 w
 abbrev pub IsRefusedNext : Profile → Certificate → Derivation → Type 0
 IsRefusedNext P c d = (d.reason ≢ sol) × (n : ℕ) × (x : StepDetail) × Refuses P c d n x
 
+-- one of these derivations, with its constraint's index
+abbrev pub IsKeptStep : Problem → List Derivation → Numbered → Type 0
+IsKeptStep p ds n = (d : Derivation) × (front back : List Derivation) × (ds ≡ front ++ d ∷ back)
+    × (count (without_solutions p front) ≡ n.index)
+    × (constraint_of n.constraint ≡ d.stated) × (reason_of n.reason ≡ d.reason)
+
+abbrev pub AreKeptSteps : Problem → List Derivation → List Numbered → Type 0
+AreKeptSteps p ds kept = All (IsKeptStep p ds) kept
+
 -- The table has all these derivations of a problem, and no variable but those of the problem; the
--- scratch has a place for each.
+-- scratch has a place for each. Some are kept for themselves.
 pub record HasReplayed (p : Problem) (ds : List Derivation) (r : Replay) : Type 0 where
   pub rows : IsTableOf (without_solutions p ds) r.rows
   pub back : RefersBack (without_solutions p ds)
   pub below : DerivedBelow (variables p) r.rows
   pub scratch : length r.scratch.sums ≡ variables p
+  pub kept : AreKeptSteps p ds r.kept.items
 
 -- the first k constraints of a problem with these derivations were passed; whatever comes behind
 -- them, the nearest of them are kept

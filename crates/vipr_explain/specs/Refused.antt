@@ -1,12 +1,12 @@
 -- What is found of a derivation or a listed solution that is refused
-use Rattle.std.specs.Prelude.{◌≡◌, ◌↔◌, ℕ, ⊤, List, [], ◌∷◌, IsTrue, Option, Some, None, All, find}
+use Rattle.std.specs.Prelude.{◌≡◌, ◌↔◌, ℕ, ⊤, List, [], ◌∷◌, IsTrue, Option, Some, None, find}
 use Rattle.std.specs.Prelude.{option_map, ◌==◌, if◌then◌else◌, slice_get}
 use Rattle.std.specs.{FinMap.entries, Option.option_or}
 use Rattle.vipr_spec.specs.Constraint.{Constraint, Ints, IsSplit, Profile, two}
 use Rattle.vipr_spec.specs.Certificate.{Derivation, Named, Problem}
-use Rattle.vipr_spec.specs.{Causes.dropped, Fraction.ℚ, Reading.Rest, Reading.problem_read}
+use Rattle.vipr_spec.specs.{Causes.dropped, Fraction.ℚ, Reading.problem_read}
 use Rattle.vipr_linear.specs.Constraint.{condition_of, constraint_of}
-use Rattle.vipr_cert.specs.{Items.derivation_of, declared.items.Derivation.Derivation as Kept}
+use Rattle.vipr_cert.specs.Items.{derivation_of}
 use Rattle.vipr_table.specs.{History.IsTableOf, Table.entry_at}
 use Rattle.vipr_check.specs.{declared.detail.Detail.Detail, declared.detail.StepDetail.StepDetail}
 use Rattle.vipr_check.specs.{declared.verdict.Place.Place, declared.verdict.Verdict.Verdict}
@@ -17,13 +17,14 @@ use Rattle.vipr_check.specs.declared.verdict.Verdict.TheVariants as verdict
 use Rattle.vipr_page.specs.{Differences.row_differences, RowFaults.row_faults}
 use Rattle.vipr_explain.specs.Excerpts.{IsExcerptAt, part_of}
 use Rattle.vipr_explain.specs.Marked.{AreMarksIn, IsItemPlace, place_found}
-use Rattle.vipr_explain.specs.Near.{IsStepOf, LacksBefore, LacksGoal, LacksStep, without_solutions}
+use Rattle.vipr_explain.specs.Near.{AreKeptSteps, IsStepOf, LacksBefore, LacksGoal, LacksStep}
+use Rattle.vipr_explain.specs.Near.{without_solutions}
 use Rattle.vipr_explain.specs.declared.shown.PlacedItems.{PlacedItems}
 use Rattle.vipr_explain.specs.declared.step.RefusedStep.{RefusedStep}
 use Rattle.vipr_explain.specs.{Changes.FollowEach, Found.LacksListed, Found.text_rest}
 use Rattle.vipr_explain.specs.{declared.excerpt.Excerpt.Excerpt, declared.marks.ItemPart.ItemPart}
 use Rattle.vipr_explain.specs.{declared.marks.ItemPlace.ItemPlace, declared.marks.Marks.Marks}
-use Rattle.vipr_explain.specs.{declared.marks.Sought.Sought, declared.step.Numbered.Numbered}
+use Rattle.vipr_explain.specs.{declared.marks.Sought.Sought, declared.near.Numbered.Numbered}
 use Rattle.vipr_explain.specs.{declared.step.StepFacts.StepFacts, declared.text.Span.Span}
 use Rattle.vipr_explain.specs.declared.marks.ItemSort.TheVariants as kind
 use Rattle.vipr_explain.specs.declared.marks.ItemPart.TheVariants as part
@@ -65,21 +66,14 @@ AreFacts integers (what.Entry entry) fact.Nothing = ⊤
 AreFacts integers what.Nothing fact.Nothing = ⊤
 AreFacts integers _ _ = ⊥
 
--- a derivation of a text by its constraint's index
-pub record IsNumberedIn (text : Rest) (n : Numbered) : Type 0 where
-  pub problem : Problem
-  pub before : List Derivation
-  pub step : IsStepOf text problem before n.index (Some (derivation_of n.derivation))
-
 -- the places of the constraints that a derivation names, the last use of the one that was dropped,
--- if that is the cause, what is behind its fault, and those constraints that were dropped
+-- if that is the cause, and what is behind its fault
 pub record AreNamedBy (text : List ℕ) (integers : Ints) (cause : ℕ) (what : StepDetail)
-    (marks : Marks) (found : StepFacts) (kept : List Numbered) : Type 0 where
+    (marks : Marks) (found : StepFacts) : Type 0 where
   pub sought : Sought
   pub used : sought.used ≡ used_by cause what
   pub marked : AreMarksIn text sought marks
   pub facts : AreFacts integers what found
-  pub lost : All (IsNumberedIn (text_rest text)) kept
 
 -- the derivation of constraint k, which is refused for this cause, behind those before it, of which
 -- the live ones are kept
@@ -90,19 +84,19 @@ pub record IsRefusedStep (P : Profile) (text : List ℕ) (cause k : ℕ) (detail
   pub rows : IsTableOf (without_solutions s.known.problem before) s.rows
   pub text_is : s.known.text.now ≡ text
   pub named : AreNamedBy text s.known.problem.integers cause detail s.known.marks s.facts
-      s.dropped.items
+  pub kept : AreKeptSteps s.known.problem before s.kept.items
   pub changes : FollowEach P (without_solutions s.known.problem before) (derivation_of s.own)
       s.changes
 
--- a constraint of the problem, or a derived one that is live, or one that was dropped
-abbrev pub dropped_as : RefusedStep → ℕ → Option Kept
-dropped_as s index = option_map (λ n. n.derivation) (find (λ n. n.index == index) s.dropped.items)
+-- a constraint of the problem, or a derived one that is live, or one that was kept
+abbrev pub kept_as : RefusedStep → ℕ → Option Numbered
+kept_as s index = find (λ n. n.index == index) s.kept.items
 
 abbrev pub known_constraint : RefusedStep → ℕ → Option Constraint
 known_constraint s index =
     option_or (option_map (λ n. n.item) (slice_get s.known.problem.constraints index))
     (option_or (option_map (λ e. constraint_of e.constraint) (entry_at s.rows index))
-    (option_map (λ d. constraint_of d.constraint) (dropped_as s index)))
+    (option_map (λ d. constraint_of d.constraint) (kept_as s index)))
 
 -- the name of a constraint of the problem, or of another one whose place is known
 abbrev pub known_name : PlacedItems → ℕ → Option (List ℕ)

@@ -47,7 +47,7 @@ impl<'a> ProvedGoal<'a> {
             (profile_of subject.entry.profile) (text_rest subject.entry.text.now) (Some index))) }
     {
         let marks = find_names(subject, [index].as_slice())?;
-        match find_step(subject, index) {
+        match find_step(subject, index, [].as_slice()) {
             Ok((problem, replay, step)) => {
                 drop(replay);
                 let text = subject.text;

@@ -5,7 +5,8 @@ ghost use Rattle.std.specs.Prelude.{option_and_then, option_map};
 ghost use Rattle.std.specs.{FinSet.contains, List.position_or_len};
 ghost use Rattle.vipr_spec.specs.Constraint.{at, NamesBelow};
 ghost use Rattle.vipr_spec.specs.Certificate.{Certificate, Derivation as DerivationMeant, RestsOn};
-ghost use Rattle.vipr_spec.specs.Certificate.{constraint_at, reason_at, variables};
+ghost use Rattle.vipr_spec.specs.Certificate.{Problem as ProblemMeant};
+ghost use Rattle.vipr_spec.specs.Certificate.{constraint_at, count, reason_at, variables};
 ghost use Rattle.vipr_spec.specs.{Fraction.most, Fraction.whole, Steps.RefersBack};
 ghost use Rattle.vipr_linear.specs.Constraint.{condition_of, sense_of};
 ghost use Rattle.vipr_cert.specs.Items.{derivation_of, reason_of};
@@ -14,12 +15,13 @@ ghost use Rattle.vipr_rules.specs.declared.error.RuleError.TheVariants.{Memory a
 ghost use Rattle.vipr_rules.specs.{Profile.profile_of, declared.claim.Target.Target as TargetMeant};
 ghost use Rattle.vipr_scan.specs.declared.error.TextError.TheVariants.{Memory};
 ghost use Rattle.vipr_explain.specs.Found.{AreDerivationsRead, Because, text_rest};
-ghost use Rattle.vipr_explain.specs.Near.{AreInOrder, AreNearest, HasPassedAll, HasPlace};
-ghost use Rattle.vipr_explain.specs.Near.{HasSearched, IsGapBetween, IsGapTo, IsOpenJoin, IsLike};
-ghost use Rattle.vipr_explain.specs.Near.{IsLikeBound, IsNearSearch, IsNextEntry, IsStepRead};
-ghost use Rattle.vipr_explain.specs.Near.{IsRefusedNext, IsRoundedSide, LacksBefore, MissesBy};
-ghost use Rattle.vipr_explain.specs.Near.{comes_before, is_turned, join_of, misses_less, rank_of};
-ghost use Rattle.vipr_explain.specs.Near.{SearchesTo, passed_to, with_near, without_solutions};
+ghost use Rattle.vipr_explain.specs.Near.{AreInOrder, AreKeptSteps, AreNearest};
+ghost use Rattle.vipr_explain.specs.Near.{HasPassedAll, HasPlace, HasSearched, IsGapBetween};
+ghost use Rattle.vipr_explain.specs.Near.{IsGapTo, IsOpenJoin, IsLike, IsLikeBound, IsNearSearch};
+ghost use Rattle.vipr_explain.specs.Near.{IsNextEntry, IsStepRead, IsRefusedNext, IsRoundedSide};
+ghost use Rattle.vipr_explain.specs.Near.{LacksBefore, MissesBy, comes_before, is_turned, join_of};
+ghost use Rattle.vipr_explain.specs.Near.{misses_less, rank_of, SearchesTo, passed_to, with_near};
+ghost use Rattle.vipr_explain.specs.Near.{without_solutions};
 ghost use Rattle.vipr_explain.specs.declared.near.Near.{Near as NearMeant};
 
 use crate::changes::Replay;
@@ -73,6 +75,14 @@ pub(crate) struct OpenJoin {
     pub(crate) second: bool,
 }
 
+/// A derivation that was passed: its constraint's index, what it states, and why.
+#[derive(Drop)]
+pub(crate) struct Numbered {
+    pub(crate) index: u32,
+    pub(crate) constraint: Constraint,
+    pub(crate) reason: Reason,
+}
+
 /// A search for the three constraints that come nearest to a claim. Those that are strong enough
 /// come first, then those that miss it by less. If two are alike, the one that rests on nothing
 /// comes first, or else the later one.
@@ -93,7 +103,7 @@ pub(crate) fn find_near(subject: Subject<'_>) -> Reread<(Problem, NearSearch)>
         (profile_of subject.entry.profile) (text_rest subject.entry.text.now) None)) }
 {
     let (problem, mut derivations) = open_derivations(subject.alloc, subject.text)?;
-    let search = search_to(subject, &problem, &mut derivations, None);
+    let search = search_to(subject, &problem, &mut derivations, None, [].as_slice());
     drop(derivations);
     match search {
         Ok(search) => Ok((problem, search)),
@@ -104,11 +114,12 @@ pub(crate) fn find_near(subject: Subject<'_>) -> Reread<(Problem, NearSearch)>
     }
 }
 
-/// The problem of a text, what is kept of the derivations before that of a constraint, and that
-/// one, if the text has one.
+/// The problem of a text, what is kept of the derivations before that of a constraint, among it
+/// these, and that one, if the text has one.
 pub(crate) fn find_step(
     subject: Subject<'_>,
     index: u32,
+    named: &[u32],
 ) -> Reread<(Problem, Replay, Option<Derivation>)>
     ensures step { IfOk result (λ x. IsStepRead (text_rest subject.entry.text.now) index x.0 x.1
         (option_map derivation_of x.2)) }
@@ -116,7 +127,7 @@ pub(crate) fn find_step(
         (profile_of subject.entry.profile) (text_rest subject.entry.text.now) (Some index))) }
 {
     let (problem, mut derivations) = open_derivations(subject.alloc, subject.text)?;
-    let found = step_behind(subject, &problem, &mut derivations, index);
+    let found = step_behind(subject, &problem, &mut derivations, index, named);
     drop(derivations);
     match found {
         Ok((replay, step)) => Ok((problem, replay, step)),
@@ -133,6 +144,7 @@ fn step_behind(
     problem: &Problem,
     derivations: &mut Derivations<Bytes<'_>>,
     index: u32,
+    named: &[u32],
 ) -> Reread<(Replay, Option<Derivation>)>
     requires behind { AreDerivationsRead (text_rest subject.text.now) problem.now []
         derivations.old }
@@ -142,7 +154,7 @@ fn step_behind(
     ensures missing { IfErr result (λ m. Because m (LacksBefore
         (profile_of subject.entry.profile) (text_rest subject.entry.text.now) (Some index))) }
 {
-    let search = search_to(subject, problem, derivations, Some(index))?;
+    let search = search_to(subject, problem, derivations, Some(index), named)?;
     let NearSearch {
         target,
         near,
@@ -179,6 +191,7 @@ fn search_to(
     problem: &Problem,
     derivations: &mut Derivations<Bytes<'_>>,
     end: Option<u32>,
+    named: &[u32],
 ) -> Reread<NearSearch>
     requires behind { AreDerivationsRead (text_rest subject.text.now) problem.now []
         derivations.old }
@@ -189,7 +202,7 @@ fn search_to(
         (profile_of subject.entry.profile) (text_rest subject.entry.text.now) end)) }
 {
     let mut search = NearSearch::new(subject, problem)?;
-    match search.pass_to(subject, problem, derivations, end) {
+    match search.pass_to(subject, problem, derivations, end, named) {
         Ok(()) => Ok(search),
         Err(missing) => {
             drop(search);
@@ -238,6 +251,7 @@ impl NearSearch {
         problem: &Problem,
         derivations: &mut Derivations<Bytes<'_>>,
         end: Option<u32>,
+        named: &[u32],
     ) -> Reread<()>
         requires behind { AreDerivationsRead (text_rest subject.text.now) problem.now []
             derivations.old }
@@ -253,7 +267,7 @@ impl NearSearch {
         for passed in 0..count {
             match derivations.next(subject.alloc)? {
                 Some(mut step) => {
-                    let kept = self.pass(subject, problem, &mut step);
+                    let kept = self.pass(subject, problem, named, &mut step);
                     drop(step);
                     kept?;
                 }
@@ -284,7 +298,13 @@ impl NearSearch {
     }
 
     // Passes a derivation, whose constraint moves to the table.
-    fn pass(&mut self, subject: Subject<'_>, problem: &Problem, step: &mut Derivation) -> Reread<()>
+    fn pass(
+        &mut self,
+        subject: Subject<'_>,
+        problem: &Problem,
+        named: &[u32],
+        step: &mut Derivation,
+    ) -> Reread<()>
         requires room { self.old.replay.rows.next + 1 < 2 ^ 32 }
         requires names { NamesBelow (variables problem.now) (at step.old.constraint.row) }
         requires searched { (ds : List DerivationMeant)
@@ -300,6 +320,7 @@ impl NearSearch {
     {
         let index = self.replay.rows.next();
         let join = join_of(&step.reason);
+        keep(&mut self.replay.kept, named, index, step)?;
         let entry = entry_of(
             subject,
             problem,
@@ -321,6 +342,38 @@ impl NearSearch {
                 Err(error.into())
             }
         }
+    }
+}
+
+// Keeps the next derivation, if it is one of these.
+fn keep(
+    kept: &mut Vec<Numbered>,
+    named: &[u32],
+    index: u32,
+    step: &Derivation,
+) -> Result<(), AllocError>
+    ensures { (p : ProblemMeant) (ds : List DerivationMeant)
+        → count (without_solutions p ds) ≡ index → AreKeptSteps p ds kept.old.items
+        → OnOk result (AreKeptSteps p (ds ++ derivation_of step.now ∷ []) kept.new.items) }
+{
+    if named.contains(&index) {
+        kept.push(Numbered {
+            index,
+            reason: copy_of(&step.reason)?,
+            constraint: step.constraint.clone()?,
+        })?;
+    }
+    Ok(())
+}
+
+// The same reason once more.
+fn copy_of(reason: &Reason) -> Result<Reason, AllocError>
+    ensures { IfOk result (λ r. reason_of r ≡ reason_of reason.now) }
+{
+    match reason {
+        Reason::Lin(entries) => Ok(Reason::Lin(entries.clone()?)),
+        Reason::Rnd(entries) => Ok(Reason::Rnd(entries.clone()?)),
+        other => other.clone(),
     }
 }
 

@@ -199,9 +199,9 @@ pub(crate) fn write_reason(
 // Writes the word of a constraint's reason, `given` if it is of the problem.
 fn write_word(page: &mut Page, refused: &RefusedStep<'_>, index: u32) {
     let known = &refused.known;
-    match (refused.dropped(index), known.marks.place(index)) {
+    match (refused.kept(index), known.marks.place(index)) {
         _ if (index as usize) < known.problem.cons().len() => page.put(" given"),
-        (Some(dropped), _) => write!(page, " {}", dropped.reason.word()),
+        (Some(kept), _) => write!(page, " {}", kept.reason.word()),
         (None, Some(place)) => {
             write!(page, " {}", ShownName(part_of(known.text, place.part)));
         }

@@ -1,22 +1,19 @@
 //! A derivation that is refused.
-ghost use Rattle.std.specs.Prelude.{◌≡◌, ◌↔◌, List, [], IfErr, IfOk, OnOk, IsTrue, Some};
-ghost use Rattle.std.specs.Prelude.{option_map};
+ghost use Rattle.std.specs.Prelude.{◌≡◌, ◌↔◌, List, [], IfErr, IfOk, IsTrue, Some, option_map};
 ghost use Rattle.std.specs.List.{All};
-ghost use Rattle.vipr_spec.specs.Certificate.{Derivation as DerivationMeant};
-ghost use Rattle.vipr_spec.specs.{Fraction.neg_ℚ, Reading.Rest};
+ghost use Rattle.vipr_spec.specs.{Certificate.Derivation as DerivationMeant, Fraction.neg_ℚ};
 ghost use Rattle.vipr_linear.specs.Constraint.{constraint_of};
 ghost use Rattle.vipr_cert.specs.Items.{derivation_of};
 ghost use Rattle.vipr_rules.specs.Profile.{profile_of};
-ghost use Rattle.vipr_explain.specs.Found.{Because, Missed, text_rest};
-ghost use Rattle.vipr_explain.specs.Near.{HasReplayed, LacksStep, read_to, without_solutions};
-ghost use Rattle.vipr_explain.specs.Refused.{AreFacts, AreNamedBy, IsNumberedIn, IsRefusedStep};
-ghost use Rattle.vipr_explain.specs.Refused.{dropped_as, known_constraint, used_by};
+ghost use Rattle.vipr_explain.specs.Found.{Because, text_rest};
+ghost use Rattle.vipr_explain.specs.Near.{HasReplayed, LacksStep, without_solutions};
+ghost use Rattle.vipr_explain.specs.Refused.{AreFacts, AreNamedBy, IsRefusedStep, kept_as};
+ghost use Rattle.vipr_explain.specs.Refused.{known_constraint, used_by};
 ghost use Rattle.vipr_explain.specs.{Changes.FollowEach, Marked.AreMarksIn};
 
 use crate::changes::{Changes, Replay};
-use crate::items::open_derivations;
 use crate::marks::{ItemSort, Marks, Sought};
-use crate::near::{find_step, is_turned, passed_to};
+use crate::near::{Numbered, find_step, is_turned};
 use crate::reason::{label_of, part_at_fault, step_indices, write_reason, write_sources};
 use crate::shown::{PlacedItems, write_last_use};
 use crate::solution::PAST_LIMIT;
@@ -44,13 +41,6 @@ pub(crate) struct StepFault<'a> {
     pub(crate) what: &'a StepDetail,
 }
 
-/// A derivation with its constraint's index.
-#[derive(Drop)]
-pub(crate) struct Numbered {
-    index: u32,
-    derivation: Derivation,
-}
-
 /// A derivation that is refused, the constraints that are live there, the places of those that are
 /// shown, and what is behind the fault.
 #[derive(Drop)]
@@ -61,8 +51,8 @@ pub(crate) struct RefusedStep<'a> {
     facts: StepFacts,
     /// Changes with which it follows.
     changes: Changes,
-    /// The constraints that it names and that were dropped.
-    dropped: Vec<Numbered>,
+    /// Those before it that are kept, whether they were dropped or not.
+    kept: Vec<Numbered>,
     profile: Profile,
 }
 
@@ -88,15 +78,43 @@ impl<'a> RefusedStep<'a> {
             (LacksStep (profile_of subject.entry.profile) (text_rest subject.entry.text.now)
             fault.entry.index)) }
     {
-        let (problem, mut replay, step) = find_step(subject, fault.index)?;
+        // (if none was dropped, it is the derivation itself, which isn't before it)
+        let dropped = [used_by(fault).unwrap_or(fault.index)];
+        let found = RefusedStep::find_with(subject, fault, dropped.as_slice())?;
+        let named = found.unknown(subject.alloc, fault.index)?;
+        if named.is_empty() {
+            return Ok(found);
+        }
+        drop(found);
+        RefusedStep::find_with(subject, fault, named.as_slice())
+    }
+
+    // Reads it, and keeps these before it.
+    fn find_with(
+        subject: Subject<'a>,
+        fault: StepFault<'_>,
+        named: &[u32],
+    ) -> Reread<RefusedStep<'a>>
+        ensures found { IfOk result
+            (IsRefusedStep (profile_of subject.entry.profile) subject.entry.text.now
+            fault.entry.cause fault.entry.index fault.entry.what.now) }
+        ensures missing { IfErr result (λ m. Because m
+            (LacksStep (profile_of subject.entry.profile) (text_rest subject.entry.text.now)
+            fault.entry.index)) }
+    {
+        let (problem, mut replay, step) = find_step(subject, fault.index, named)?;
         let Some(own) = step else {
             drop(replay);
             drop(problem);
             return Err(TextError::Read);
         };
         match find_behind(subject, fault, &problem, &mut replay, &own) {
-            Ok((marks, facts, changes, dropped)) => {
-                let Replay { rows, scratch } = replay;
+            Ok((marks, facts, changes)) => {
+                let Replay {
+                    rows,
+                    scratch,
+                    kept,
+                } = replay;
                 drop(scratch);
                 Ok(RefusedStep {
                     own,
@@ -108,20 +126,34 @@ impl<'a> RefusedStep<'a> {
                     },
                     facts,
                     changes,
-                    dropped,
+                    kept,
                     profile: subject.profile,
                 })
             }
-            Err(missing) => {
+            Err(error) => {
                 drop(own);
                 drop(replay);
                 drop(problem);
-                Err(missing)
+                Err(error.into())
             }
         }
     }
 
-    /// A constraint of the problem, or a derived one that is live, or one that was dropped.
+    // All constraints that are named, if one of them isn't known.
+    fn unknown(&self, alloc: Global, own: u32) -> Result<Vec<u32>, AllocError> {
+        let mut named = Vec::new(alloc);
+        let mut is_known = true;
+        for place in &self.known.marks.places {
+            is_known = is_known && (place.index == own || self.constraint(place.index).is_some());
+            named.push(place.index)?;
+        }
+        if is_known {
+            named.clear();
+        }
+        Ok(named)
+    }
+
+    /// A constraint of the problem, or a derived one that is live, or one that was kept.
     pub(crate) fn constraint(&self, index: u32) -> Option<&Constraint>
         ensures { option_map (λ c. constraint_of c.now) result ≡ known_constraint self.now index }
     {
@@ -131,16 +163,15 @@ impl<'a> RefusedStep<'a> {
         ) {
             (Some(named), _) => Some(&named.item),
             (None, Some(entry)) => Some(&entry.constraint),
-            (None, None) => Some(&self.dropped(index)?.constraint),
+            (None, None) => Some(&self.kept(index)?.constraint),
         }
     }
 
-    /// The derivation of a constraint, if it is one that was dropped.
-    pub(crate) fn dropped(&self, index: u32) -> Option<&Derivation>
-        ensures { option_map (λ d. d.now) result ≡ dropped_as self.now index }
+    /// The derivation of a constraint, if it is one that was kept.
+    pub(crate) fn kept(&self, index: u32) -> Option<&Numbered>
+        ensures { option_map (λ d. d.now) result ≡ kept_as self.now index }
     {
-        let dropped = self.dropped.iter().find(|dropped| dropped.index == index)?;
-        Some(&dropped.derivation)
+        self.kept.iter().find(|kept| kept.index == index)
     }
 
     /// Writes its page.
@@ -192,6 +223,7 @@ fn changes_for(
         → IfOk result (FollowEach (profile_of subject.entry.profile)
         (without_solutions problem.now ds) (derivation_of step.now)) }
     ensures rows { replay.new.rows ≡ replay.old.rows }
+    ensures kept { replay.new.kept ≡ replay.old.kept }
 {
     match fault.cause {
         cause::NOT_EARLIER
@@ -205,49 +237,33 @@ fn changes_for(
     }
 }
 
-// Finds the places of the constraints that a derivation names, what is behind its fault, changes of
-// it, and those of these constraints that were dropped.
+// Finds the places of what a derivation names, what is behind its fault, and changes of it.
 fn find_behind(
     subject: Subject<'_>,
     fault: StepFault<'_>,
     problem: &Problem,
     replay: &mut Replay,
     step: &Derivation,
-) -> Reread<(Marks, StepFacts, Changes, Vec<Numbered>)>
+) -> Result<(Marks, StepFacts, Changes), AllocError>
     requires { (ds : List DerivationMeant) × HasReplayed problem.now ds replay.old }
     ensures named { IfOk result (λ x. AreNamedBy subject.entry.text.now problem.now.integers
-        fault.entry.cause fault.entry.what.now x.0 x.1 x.3.items) }
+        fault.entry.cause fault.entry.what.now x.0 x.1) }
     ensures changes { (ds : List DerivationMeant) → HasReplayed problem.now ds replay.old
         → IfOk result (λ x. FollowEach (profile_of subject.entry.profile)
         (without_solutions problem.now ds) (derivation_of step.now) x.2) }
     ensures rows { replay.new.rows ≡ replay.old.rows }
-    ensures missing { IfErr result (λ m. Because m
-        (LacksStep (profile_of subject.entry.profile) (text_rest subject.entry.text.now)
-        fault.entry.index)) }
+    ensures kept { replay.new.kept ≡ replay.old.kept }
 {
     let changes = changes_for(subject, fault, problem, replay, step)?;
     let wanted = step_indices(subject.alloc, fault, &step.reason, &changes)?;
-    let lost = lost_among(
-        subject,
-        problem,
-        &replay.rows,
-        wanted.as_slice(),
-        fault.index,
-    )?;
-    let dropped = find_dropped(subject, lost.as_slice(), fault.index)?;
     let sought = Sought {
         kind: ItemSort::Constraints,
         items: wanted.as_slice(),
         part: part_at_fault(fault, &step.reason, &changes),
         used: used_by(fault),
     };
-    match find_facts(subject, fault, problem, sought) {
-        Ok((marks, facts)) => Ok((marks, facts, changes, dropped)),
-        Err(error) => {
-            drop(dropped);
-            Err(error.into())
-        }
-    }
+    let (marks, facts) = find_facts(subject, fault, problem, sought)?;
+    Ok((marks, facts, changes))
 }
 
 // Finds the places of constraints, and what is behind the fault of a derivation that names them.
@@ -269,83 +285,6 @@ fn find_facts(
             Err(error)
         }
     }
-}
-
-// Those of these constraints in front of a derivation that are neither of the problem nor live.
-fn lost_among(
-    subject: Subject<'_>,
-    problem: &Problem,
-    rows: &Table,
-    wanted: &[u32],
-    own: u32,
-) -> Result<Vec<u32>, AllocError> {
-    let mut lost = Vec::new(subject.alloc);
-    for index in wanted {
-        let is_given = (*index as usize) < problem.cons().len();
-        if *index < own && !is_given && rows.get(*index).is_none() {
-            lost.push(*index)?;
-        }
-    }
-    Ok(lost)
-}
-
-// Reads the derivations of these constraints, which are before this one.
-fn find_dropped(subject: Subject<'_>, lost: &[u32], own: u32) -> Reread<Vec<Numbered>>
-    ensures found { IfOk result
-        (λ kept. All (IsNumberedIn (text_rest subject.entry.text.now)) kept.items) }
-    ensures missing { IfErr result
-        (λ m. Missed m (read_to (Some own) (text_rest subject.entry.text.now))) }
-{
-    let mut kept = Vec::new(subject.alloc);
-    if lost.is_empty() {
-        return Ok(kept);
-    }
-    match keep_all(subject, lost, own, &mut kept) {
-        Ok(()) => Ok(kept),
-        Err(missing) => {
-            drop(kept);
-            Err(missing)
-        }
-    }
-}
-
-// Keeps the derivations of these constraints.
-fn keep_all(subject: Subject<'_>, lost: &[u32], own: u32, kept: &mut Vec<Numbered>) -> Reread<()>
-    requires { kept.old.items ≡ [] }
-    ensures found { OnOk result
-        (All (IsNumberedIn (text_rest subject.entry.text.now)) kept.new.items) }
-    ensures missing { IfErr result
-        (λ m. Missed m (read_to (Some own) (text_rest subject.entry.text.now))) }
-{
-    let (problem, mut derivations) = open_derivations(subject.alloc, subject.text)?;
-    let given = problem.cons().len() as u32;
-    drop(problem);
-    for passed in 0..passed_to(Some(own), given, derivations.left()) {
-        match derivations.next(subject.alloc)? {
-            Some(derivation) => keep(kept, lost, given.saturating_add(passed), derivation)?,
-            None => {}
-        }
-    }
-    Ok(())
-}
-
-// Keeps a derivation, if it is that of one of these constraints.
-fn keep(
-    kept: &mut Vec<Numbered>,
-    lost: &[u32],
-    index: u32,
-    derivation: Derivation,
-) -> Result<(), AllocError>
-    ensures { (text : Rest) → IsNumberedIn text (record { index = index; derivation = derivation })
-        → All (IsNumberedIn text) kept.old.items
-        → OnOk result (All (IsNumberedIn text) kept.new.items) }
-{
-    if lost.contains(&index) {
-        kept.push(Numbered { index, derivation })?;
-    } else {
-        drop(derivation);
-    }
-    Ok(())
 }
 
 // The constraint whose last use is looked for, if the cause is that it was dropped.

@@ -40,20 +40,8 @@ impl Span {
         }
     }
 
-    /// The place behind bytes that are here.
-    pub(crate) fn behind(self, bytes: &[u8]) -> Span
-        ensures { (front : List ℕ) → self ≡ place_behind front
-            → result ≡ place_behind (front ++ bytes.now) }
-    {
-        let mut here = self;
-        for byte in bytes {
-            here = here.after(*byte);
-        }
-        here
-    }
-
-    // The place behind a byte that is here.
-    fn after(self, byte: u8) -> Span
+    /// The place behind a byte that is here.
+    pub(crate) fn after(self, byte: u8) -> Span
         ensures { (front : List ℕ) → self ≡ place_behind front
             → result ≡ place_behind (front ++ byte ∷ []) }
     {

@@ -3,7 +3,7 @@ ghost use Rattle.std.specs.Prelude.{◌≡◌, ◌+◌, ◌<◌, ◌≤◌, ℕ,
 ghost use Rattle.std.specs.Prelude.{IfSome, false, slice_index};
 ghost use Rattle.vipr_spec.specs.Tokens.{Token, is_white, text_tokens};
 ghost use Rattle.vipr_scan.specs.declared.place.Position.TheVariants.{Past};
-ghost use Rattle.vipr_explain.specs.Words.{AreLeft, GivesWord, IsAtByte, words_at};
+ghost use Rattle.vipr_explain.specs.Words.{AreLeft, GivesWord, IsAtByte};
 
 use crate::text::Span;
 use vipr_scan::{Position, run_end, step};
@@ -43,9 +43,7 @@ impl<'a> Words<'a> {
         ensures given { (text : List ℕ) (ts : List Token) → AreLeft text ts self.old
             → GivesWord text ts self.new result }
     {
-        let (count, position) = gap(self.position, self.rest);
-        self.skip(count);
-        self.position = position;
+        self.pass_gap();
         let size = run_end(self.rest, 0);
         if size == 0 {
             return None;
@@ -54,37 +52,46 @@ impl<'a> Words<'a> {
             bytes: &self.rest[..size],
             span: Span { size, ..self.here },
         };
-        self.skip(size);
+        self.pass_word(size);
         Some(word)
     }
 
-    // Passes so many bytes.
-    fn skip(&mut self, count: usize)
-        requires { count ≤ length self.old.rest.now }
-        ensures position { self.new.position ≡ self.old.position }
-        ensures rest { self.new.rest.now ≡ drop count self.old.rest.now }
-        ensures at { (text : List ℕ) (n : ℕ) → IsAtByte text n self.old
-            → IsAtByte text (n + count) self.new }
+    // Passes the bytes in front of the next token.
+    fn pass_gap(&mut self)
+        ensures within { length self.new.rest.now ≤ length self.old.rest.now }
+        ensures left { (text : List ℕ) (ts : List Token) → AreLeft text ts self.old
+            → AreLeft text ts self.new }
+        ensures token { 0 < length self.new.rest.now → (self.new.position ≡ Past)
+            × (is_white (slice_index self.new.rest.now 0) ≡ false) }
     {
-        self.here = self.here.behind(&self.rest[..count]);
-        self.rest = &self.rest[count..];
-    }
-}
-
-// How many bytes are before the next token, and the position there.
-fn gap(start: Position, bytes: &[u8]) -> (usize, Position)
-    ensures within { result.0 ≤ length bytes.now }
-    ensures tokens { (offset : ℕ) → words_at start offset bytes.now
-        ≡ words_at result.1 (offset + result.0) (drop result.0 bytes.now) }
-    ensures token { result.0 < length bytes.now
-        → (result.1 ≡ Past) × (is_white (slice_index bytes.now result.0) ≡ false) }
-{
-    let mut position = start;
-    for passed in 0..bytes.len() {
-        match step(position, bytes[passed]) {
-            Some(next) => position = next,
-            None => return (passed, Position::Past),
+        'gap: while self.rest.len() > 0 {
+            let byte = self.rest[0];
+            match step(self.position, byte) {
+                Some(next) => {
+                    self.position = next;
+                    self.here = self.here.after(byte);
+                    self.rest = &self.rest[1..];
+                }
+                None => {
+                    self.position = Position::Past;
+                    return;
+                }
+            }
         }
     }
-    (bytes.len(), position)
+
+    // Passes so many bytes, none of them white space.
+    fn pass_word(&mut self, size: usize)
+        requires within { size ≤ length self.old.rest.now }
+        requires solid { (k : ℕ) → k < size
+            → is_white (slice_index self.old.rest.now k) ≡ false }
+        ensures position { self.new.position ≡ self.old.position }
+        ensures rest { self.new.rest.now ≡ drop size self.old.rest.now }
+        ensures at { (text : List ℕ) (n : ℕ) → IsAtByte text n self.old
+            → IsAtByte text (n + size) self.new }
+    {
+        self.here.offset = self.here.offset.saturating_add(size as u64);
+        self.here.column = self.here.column.saturating_add(size as u64);
+        self.rest = &self.rest[size..];
+    }
 }
