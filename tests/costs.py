@@ -35,7 +35,7 @@ COMPACT = 'show --compact', 'tighten --compact'
 # how much more a text of four times the length may cost
 GROWTH = 5
 # a set that gets an index copies a short list, as long as a root of the set: k sets that get one each take k√k
-ROOTS, ROOT_GROWTH = {'joined_sets', 'split_on_sets', 'own_in_front'}, 8
+ROOTS, ROOT_GROWTH = {'joined_sets', 'split_on_sets', 'own_in_front', 'growing_at_the_front'}, 8
 # bytes of memory for a byte of text, and what is free beside them
 MOST = {'check': 50, 'explain': 50, 'show': 50, 'tighten': 50}
 ROOM = 2 << 20
