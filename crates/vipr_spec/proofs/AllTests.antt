@@ -49,10 +49,7 @@ after_given : (xs : List (Named Constraint)) (ys : List Derivation) (k : ℕ) (d
     (none : Known) → k < length ys
     → slice_index_or (map given_constraint xs ++ map derived_constraint ys) (length xs + k) none
     ≡ derived_constraint (slice_index_or ys k d)
-after_given xs ys k d none h =
-    let n : length (map given_constraint xs) ≡ length xs = simp length-map in
-    ap (λ n. slice_index_or (map given_constraint xs ++ map derived_constraint ys) (n + k) none) (sym n) ∙ get_or-append-add (map given_constraint xs) (map derived_constraint ys) k none
-    ∙ get_or-map derived_constraint ys k d none h
+after_given xs ys k d none h = grind (arith, length-map, get_or-append-add, get_or-map)
 
 reason_derived : (c : Certificate) (k : ℕ) (d : Derivation) → k < length c.derivations
     → reason_at c (length c.problem.constraints + k)

@@ -1,9 +1,9 @@
 -- The rule of a derivation, reason by reason
 use Rattle.std.proofs.Common.{◌≡◌, ◌≢◌, ℕ, ◌<◌, List, [], ◌∷◌, ◌⊎◌, Some, All, Contains, refl}
-use Rattle.std.proofs.Common.{subst, sym, inl, inr}
 use Rattle.std.specs.Prelude.{◌↔◌, IsTrue}
 use Rattle.std.proofs.lemmas.List.Elements.{All-nil, All-cons, All-head, All-tail, All-weaker}
 use Rattle.std.proofs.lemmas.List.Elements.{All-contains, All-contains_itself}
+use Rattle.std.proofs.Common.{arith, inl, inr}
 use Rattle.vipr_spec.specs.{ℚ, zero_ℚ, Profile, Sense, Row, Condition, HasSense, SumOfFits, sum_of}
 use Rattle.vipr_spec.specs.{Dominates, DominatesRounded, IsWholeRow, IsSplit, Named, asm, lin, rnd}
 use Rattle.vipr_spec.specs.{uns, sol, entries, constraint_at, reason_at, is_live, IsBest, cutoff}
@@ -44,10 +44,7 @@ module _ (P : Profile) (c : Certificate) (k : ℕ) where
   IsThere i = (i < k) × IsTrue (is_live c k i)
 
   named_live : (i1 l1 i2 l2 i : ℕ) → IsThere i1 → IsThere l1 → IsThere i2 → IsThere l2 → (i ≡ i1) ⊎ (i ≡ l1) ⊎ (i ≡ i2) ⊎ (i ≡ l2) → IsTrue (is_live c k i)
-  named_live i1 l1 i2 l2 i a b e f (inl h) = subst (λ j. IsTrue (is_live c k j)) (sym h) a.1
-  named_live i1 l1 i2 l2 i a b e f (inr (inl h)) = subst (λ j. IsTrue (is_live c k j)) (sym h) b.1
-  named_live i1 l1 i2 l2 i a b e f (inr (inr (inl h))) = subst (λ j. IsTrue (is_live c k j)) (sym h) e.1
-  named_live i1 l1 i2 l2 i a b e f (inr (inr (inr h))) = subst (λ j. IsTrue (is_live c k j)) (sym h) f.1
+  named_live i1 l1 i2 l2 i a b e f h = grind arith
 
   pub good_branched : (i1 l1 i2 l2 : ℕ) (d : Condition) → IsGoodStep P c k (uns i1 l1 i2 l2) d
       ↔ (All IsThere (i1 ∷ l1 ∷ i2 ∷ l2 ∷ []) × (reason_at c l1 ≡ Some asm) × (reason_at c l2 ≡ Some asm)

@@ -58,11 +58,7 @@ module _ (P : Profile) (p : Problem) (ss : List (Named Row)) where
 
 proves_next : (P : Profile) (c : Certificate) (d : Derivation)
     → ProvesDual P (with_next c d) (count c) ↔ ProvesNext P c d
-proves_next P c d =
-    let e = ap (λ (x : Known). x.stated) (known_next c d []) in (
-      λ q. (q.1, subst (MeetsDual P c.problem c.problem.claim) e q.2),
-      λ q. ((let n = count_next c d in omega arith), q.0, subst (MeetsDual P c.problem c.problem.claim) (sym e) q.1),
-    )
+proves_next P c d = grind (arith, known_next, count_next)
 
 next_goal : (P : Profile) (c : Certificate) (d : Derivation) (goal next : Option ℕ) → RefersBack c
     → GoalIs P c goal → NextGoal P c d goal next → GoalIs P (with_next c d) next

@@ -1,19 +1,17 @@
 -- Digits read one by one
-use Rattle.std.proofs.Common.{◌≡◌, ◌≢◌, ℕ, ◌+◌, ◌-◌, ◌*◌, ◌<◌, ◌≤◌, ◌⊎◌, List, [], ◌∷◌, length}
-use Rattle.std.proofs.Common.{drop, get_or, Some, None, arith, refl, sym, ◌∙◌, ap, drop-cons}
+use Rattle.std.proofs.Common.{◌≡◌, ◌≢◌, ℕ, ◌+◌, ◌-◌, ◌*◌, ◌<◌, ◌≤◌, ◌⊎◌, List, ◌∷◌, length}
+use Rattle.std.proofs.Common.{drop, get_or, Some, None, arith, sym, ◌∙◌, ap, drop-cons}
 use Rattle.std.proofs.Common.{add-one}
 use Rattle.std.proofs.{lemmas.Bool.Decides.nat_tests, lemmas.List.drop_all}
 use Rattle.vipr_spec.specs.{natural_after, natural_of}
 
 pub natural_of_empty : (bs : List ℕ) → length bs ≡ 0 → natural_of bs ≡ None
 unfolding natural_of
-natural_of_empty [] e = refl
-natural_of_empty (b ∷ bs) e = absurd (omega arith)
+natural_of_empty bs e = grind arith
 
 pub natural_of_some : (bs : List ℕ) → length bs ≢ 0 → natural_after 0 bs ≡ natural_of bs
 unfolding natural_of
-natural_of_some [] e = absurd (e refl)
-natural_of_some (b ∷ bs) e = refl
+natural_of_some bs e = grind arith
 
 head_digit : (n b : ℕ) (bs : List ℕ) → 48 ≤ b → b ≤ 57
     → natural_after n (b ∷ bs) ≡ natural_after (n * 10 + (b - 48)) bs

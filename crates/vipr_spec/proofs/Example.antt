@@ -1,13 +1,13 @@
 -- x ≥ 1 and x ≤ 0 have no point: a proof by the difference of the two
 use Rattle.std.proofs.Common.{◌≡◌, ℕ, zero, suc, ◌<◌, ◌⊎◌, [], ◌∷◌, Some, None, ℤ, pos, negsuc, All}
-use Rattle.std.proofs.Common.{Contains, Bool, true, false, cond, arith, refl, sym, ◌∙◌, ap, subst}
+use Rattle.std.proofs.Common.{Contains, Bool, cond, arith, refl, sym, ◌∙◌, ap, subst}
 use Rattle.std.proofs.Common.{inl, inr, ⊎_elim, slice_index_or, IsTrue, lit<, lit≤, unwrap_or}
 use Rattle.std.proofs.{lemmas.Int.ints, lemmas.List.Elements.All-nil, lemmas.List.Elements.All-cons}
 use Rattle.std.specs.FinMap.{empty, get-empty, get-insert}
 use Rattle.std.specs.{Cmp.nat_cmp_total, Ordering.nat_cmp}
 use Rattle.vipr_spec.specs.{gcd, ℚ, over, whole, zero_ℚ, ◌+ℚ◌, ◌*ℚ◌, neg_ℚ, ◌≤ℚ◌, ProductFits}
 use Rattle.vipr_spec.specs.{Profile, at_most, at_least, at, Entry, pull, Combines, TermsFit}
-use Rattle.vipr_spec.specs.{SumOfFits, constraint_at, reason_at, entries, lin, IsProof, IsGoodStep}
+use Rattle.vipr_spec.specs.{SumOfFits, constraint_at, entries, lin, IsProof, IsGoodStep}
 use Rattle.vipr_spec.specs.{HasGoodSteps, is_live, RestsOn, itself, RestsOnNothing}
 use Rattle.vipr_spec.specs.Examples.{row, both, example, assumed}
 use Rattle.vipr_spec.proofs.Fractions.{whole-add, whole-mul, whole-le, is_one, is_neg, not_one}
@@ -16,8 +16,7 @@ use Rattle.vipr_spec.proofs.Rests.{rests_out, rests_given}
 
 one_or_zero : (q : ℚ) (b : Bool) → (unwrap_or (cond b (Some q) None) zero_ℚ ≡ q)
     ⊎ (unwrap_or (cond b (Some q) None) zero_ℚ ≡ zero_ℚ)
-one_or_zero q true = inl refl
-one_or_zero q false = inr refl
+one_or_zero q b = grind arith
 
 at_row : (j : ℕ) → (at row j ≡ whole (pos 1)) ⊎ (at row j ≡ zero_ℚ)
 unfolding row
@@ -43,8 +42,7 @@ bound_sum = ap (λ z. whole (pos 1) *ℚ whole (pos 1) +ℚ z) (add-zero_ℚ _ �
 
 pulls : All (λ e. zero_ℚ ≤ℚ pull e) (first ∷ second ∷ [])
 unfolding first second
-pulls = All-cons (λ e. zero_ℚ ≤ℚ pull e) first (second ∷ []) one_positive
-    (All-cons (λ e. zero_ℚ ≤ℚ pull e) second [] (subst (λ z. zero_ℚ ≤ℚ z) (sym neg_minus_one) one_positive) (All-nil (λ e. zero_ℚ ≤ℚ pull e)))
+pulls = grind (arith, first, second, one_positive, neg_minus_one)
 
 the_sum : Combines (first ∷ second ∷ [])
     (record { row = at empty; sense = at_least; bound = whole (pos 1) })
@@ -88,8 +86,7 @@ in_both e m = by m.0 m.1 m.2
     by (suc (suc k)) h p = absurd (omega arith)
 
 live : (i : ℕ) → (i ≡ 0) ⊎ (i ≡ 1) → IsTrue (is_live example 2 i)
-live i (inl e) = subst (λ i. IsTrue (is_live example 2 i)) (sym e) refl
-live i (inr e) = subst (λ i. IsTrue (is_live example 2 i)) (sym e) refl
+live i h = grind arith
 
 the_combination : Combines (entries example both) (constraint_at example 2)
 unfolding both first second
@@ -105,8 +102,7 @@ steps P (suc (suc zero)) r e = let q : lin both ≡ r = ap (λ o. unwrap_or o r)
 steps P (suc (suc (suc k))) r e = absurd (cc)
 
 given : (a i : ℕ) → (i ≡ 0) ⊎ (i ≡ 1) → ¬ RestsOn example i a
-given a i (inl e) r = rests_given example i a (ap (reason_at example) e) r
-given a i (inr e) r = rests_given example i a (ap (reason_at example) e) r
+given a i h r = grind (arith, rests_given)
 
 nothing : RestsOnNothing example 2
 nothing a r = let u = rests_out example 2 a r in given a u.0.0 (in_both u.0 u.1) u.3

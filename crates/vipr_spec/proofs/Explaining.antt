@@ -1,8 +1,8 @@
 -- The answer with its detail for what remains of a text, item by item
 use Rattle.std.proofs.Common.{◌≡◌, ℕ, suc, List, [], ◌∷◌, ◌++◌, length, Option, Some, None, Ok, Err}
-use Rattle.std.proofs.Common.{refl, ◌∙◌, ap}
+use Rattle.std.proofs.Common.{refl, ◌∙◌, ap, arith}
 use Rattle.std.specs.Prelude.{◌↔◌}
-use Rattle.vipr_spec.specs.{ℚ, Profile, Row, condition, Named, Problem, Derivation, Known, known_at}
+use Rattle.vipr_spec.specs.{ℚ, Profile, Row, condition, Named, Problem, Derivation}
 use Rattle.vipr_spec.specs.{MeetsPrimal, count, Rest, Fault, problem_read, solution_read}
 use Rattle.vipr_spec.specs.{derivations_read, derivation_read, end_read, with_more, with_next}
 use Rattle.vipr_spec.specs.{StepTest, PassesStep, step_tests, FirstFailing, StepDetail, Shows}
@@ -31,10 +31,7 @@ name_here (x ∷ ss) s more = name_here ss s more
 next_shown : (c : Certificate) (d : Derivation) (ds : List Derivation) (t : StepTest) (x : Detail)
     → Explains (with_more c (d ∷ ds)) (of_step (count c) t) x
     ↔ ((what : StepDetail) × Shows c (condition d.stated) t what × (x ≡ step d.name what))
-next_shown c d ds t x =
-    let k = known_at (with_more c (d ∷ ds)) (count c) in
-    same_type (ap (λ s. (what : StepDetail) × Shows s k.stated t what × (x ≡ step k.name what)) (before_more c (d ∷ ds))
-    ∙ ap (λ (k : Known). (what : StepDetail) × Shows c k.stated t what × (x ≡ step k.name what)) (known_next c d ds))
+next_shown c d ds t x = grind (arith, same_type, before_more, known_next)
 
 module _ (P : Profile) (a : Answer) (x : Detail) where
   abbrev Says : Certificate → Option Test → Type 0

@@ -1,6 +1,6 @@
 -- Which constraint proves the dual side, the first of them, and what profile two adds
 use Rattle.std.proofs.Common.{◌≡◌, ℕ, ◌<◌, ◌≤◌, ◌⊎◌, List, [], ◌∷◌, length, Option, Some, None}
-use Rattle.std.proofs.Common.{IsSome, IsSomeAnd, arith, refl, sym, subst, inl, inr, ⊎_elim}
+use Rattle.std.proofs.Common.{IsSome, IsSomeAnd, arith, refl, sym, subst, inl, ⊎_elim}
 use Rattle.std.specs.Prelude.{◌↔◌}
 use Rattle.std.proofs.lemmas.Bool.{cases_lt}
 use Rattle.vipr_spec.specs.{ℚ, Profile, one, two, Condition, Problem, Claim, infeasible, range}
@@ -29,10 +29,7 @@ module _ (P : Profile) (c : Certificate) where
 
   -- an index that proves the dual side is an earlier one, or the next
   dual_cases : (d : Derivation) (k : ℕ) → RefersBack c → ProvesDual P (with_next c d) k → (ProvesDual P c k × (k < count c)) ⊎ (k ≡ count c)
-  dual_cases d k back p = ⊎_elim
-      (λ (l : k < count c). inl ((dual_before (d ∷ []) k back l).0 p, l))
-      (λ (l : count c ≤ k). let n = count_next c d in let h = p.0 in inr (omega arith))
-      (cases_lt k (count c))
+  dual_cases d k back p = grind (arith, dual_before, count_next, cases_lt)
 
   pub goal_stays : (d : Derivation) (goal : ℕ) → RefersBack c → GoalIs P c (Some goal) → GoalIs P (with_next c d) (Some goal)
   goal_stays d goal back g = (
@@ -47,10 +44,7 @@ module _ (P : Profile) (c : Certificate) where
   )
 
   pub goal_missing : (d : Derivation) → RefersBack c → GoalIs P c None → ¬ ProvesDual P (with_next c d) (count c) → GoalIs P (with_next c d) None
-  goal_missing d back none not k p = ⊎_elim
-      (λ (r : ProvesDual P c k × (k < count c)). none k r.0)
-      (λ (e : k ≡ count c). not (subst (ProvesDual P (with_next c d)) e p))
-      (dual_cases d k back p)
+  goal_missing d back none not k p = grind (arith, dual_cases)
 
 -- nothing proves a dual side that needs no goal
 pub goal_needed : (P : Profile) (c : Certificate) (k : ℕ) → ProvesDual P c k

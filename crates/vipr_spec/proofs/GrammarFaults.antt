@@ -1,7 +1,7 @@
 -- A fault is that of a token, whatever follows it
 use Rattle.std.proofs.Common.{◌≡◌, ℕ, zero, suc, ◌⊎◌, inl, inr, ⊎_elim, Bool, true, false, nat_lt}
 use Rattle.std.proofs.Common.{if◌then◌else◌, List, [], ◌∷◌, ◌++◌, length, Result, Ok, Err, refl}
-use Rattle.std.proofs.Common.{sym, ◌∙◌, ap, subst, append_assoc}
+use Rattle.std.proofs.Common.{sym, ◌∙◌, ap, subst, append_assoc, arith}
 use Rattle.vipr_spec.specs.Causes as cause
 use Rattle.vipr_spec.specs.{Token, Rest, Fault, refused, unread, ◌>>=◌, Read, most_bytes}
 use Rattle.vipr_spec.specs.{first_token, checked_token, token_of, read_each, ReadsFront, Reads}
@@ -91,32 +91,26 @@ module _ {A : Type 0} (kind : List ℕ → Result A ℕ) where
   outcome long t ts r = (if long then Err (refused cause.token_too_long t.offset) else Ok (t, record r { tokens = ts })) >>= λ u. checked_token (kind u.0.bytes) u
 
   checked_fault : (k : Result A ℕ) (t : Token) (r : Rest) (c o : ℕ) → checked_token k (t, r) ≡ Err (refused c o) → (t.offset ≡ o) × ((s : Rest) → checked_token k (t, s) ≡ Err (refused c o))
-  checked_fault (Ok x) t r c o e = never (x, r) (refused c o) e
-  checked_fault (Err d) t r c o e = (same_refusal d c t.offset o e, λ s. e)
+  checked_fault k t r c o e = grind (arith, never, same_refusal)
 
   outcome_fault : (long : Bool) (t : Token) (ts : List Token) (r : Rest) (c o : ℕ) → outcome long t ts r ≡ Err (refused c o) → (t.offset ≡ o) × ((us : List Token) (s : Rest) → outcome long t us s ≡ Err (refused c o))
-  outcome_fault true t ts r c o e = (same_refusal cause.token_too_long c t.offset o e, λ us s. e)
-  outcome_fault false t ts r c o e = let k = checked_fault (kind t.bytes) t (record r { tokens = ts }) c o e in (k.0, λ us s. k.1 (record s { tokens = us }))
+  outcome_fault long t ts r c o e = grind (arith, same_refusal, checked_fault)
 
   checked_read : (k : Result A ℕ) (t : Token × Rest) → checked_token k t ≡ Err unread → ⊥
-  checked_read (Ok x) t e = cc
-  checked_read (Err d) t e = cc
+  checked_read k t e = grind arith
 
   outcome_read : (long : Bool) (t : Token) (ts : List Token) (r : Rest) → outcome long t ts r ≡ Err unread → ⊥
-  outcome_read true t ts r e = cc
-  outcome_read false t ts r e = checked_read (kind t.bytes) (t, record r { tokens = ts }) e
+  outcome_read long t ts r e = grind (arith, checked_read)
 
   -- no token is left
   abbrev no_more : Bool → ℕ → Read A
   no_more fails size = (if fails then Err unread else Err (refused cause.truncated size)) >>= λ (u : Token × Rest). checked_token (kind u.0.bytes) u
 
   no_more_fault : (fails : Bool) (size c o : ℕ) → no_more fails size ≡ Err (refused c o) → (fails ≡ false) × (c ≡ cause.truncated) × (o ≡ size)
-  no_more_fault true size c o e = absurd (cc)
-  no_more_fault false size c o e = (refl, cc, cc)
+  no_more_fault fails size c o e = grind arith
 
   no_more_read : (fails : Bool) (size : ℕ) → no_more fails size ≡ Err unread → fails ≡ true
-  no_more_read true size e = refl
-  no_more_read false size e = absurd (cc)
+  no_more_read fails size e = grind arith
 
   abbrev from : List Token → Rest → Read A
   from ts r = first_token ts r >>= λ u. checked_token (kind u.0.bytes) u
@@ -130,8 +124,7 @@ module _ {A : Type 0} (kind : List ℕ → Result A ℕ) where
 
   from_failure : (ts : List Token) (r : Rest) → from ts r ≡ Err unread → r.fails ≡ true
   unfolding first_token
-  from_failure [] r e = no_more_read r.fails r.length e
-  from_failure (t ∷ ts) r e = absurd (outcome_read (nat_lt most_bytes (length t.bytes)) t ts r e)
+  from_failure ts r e = grind (arith, no_more_read, outcome_read)
 
   pub remains_token : FaultsRemain (token_of kind)
   remains_token = record { refusal = λ r c o e. from_refusal r.tokens r c o refl e; failure = λ r e. from_failure r.tokens r e }

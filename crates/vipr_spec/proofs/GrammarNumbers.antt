@@ -1,6 +1,6 @@
 -- Digits, and the number that they write
-use Rattle.std.proofs.Common.{◌≡◌, ℕ, ◌+◌, ◌-◌, ◌*◌, ◌<◌, Bool, true, false, if◌then◌else◌, List}
-use Rattle.std.proofs.Common.{[], ◌∷◌, Some, None, arith, refl, sym, ◌∙◌, ap}
+use Rattle.std.proofs.Common.{◌≡◌, ℕ, ◌+◌, ◌-◌, ◌*◌, ◌<◌, Bool, true, if◌then◌else◌, List}
+use Rattle.std.proofs.Common.{[], ◌∷◌, Some, None, arith, refl}
 use Rattle.std.proofs.lemmas.Bool.Decides.{nat_tests}
 use Rattle.std.specs.{Char.digit_value, Str.Parse.AllDigits, Str.Parse.digits_value_after}
 use Rattle.vipr_spec.specs.{is_digit, natural_after, natural_of, ReadsNaturals}
@@ -18,8 +18,7 @@ is_digit-from_value b h = grind (arith, nat_tests)
 module _ (b : ℕ) (bs : List ℕ) (n m : ℕ) where
   more_sound : (natural_after (n * 10 + (b - 48)) bs ≡ Some m → AllDigits 10 bs × (digits_value_after 10 (n * 10 + (b - 48)) bs ≡ m)) → (d : Bool) → is_digit b ≡ d → (if d then natural_after (n * 10 + (b - 48)) bs else None) ≡ Some m
       → AllDigits 10 (b ∷ bs) × (digits_value_after 10 n (b ∷ bs) ≡ m)
-  more_sound k true h f = ((digit-lt b h, (k f).0), ap (λ v. digits_value_after 10 (n * 10 + v) bs) (digit_value-is b h) ∙ (k f).1)
-  more_sound k false h f = absurd (cc)
+  more_sound k d h f = grind (arith, digit-lt, digit_value-is)
 
 after_sound : (bs : List ℕ) (n m : ℕ) → natural_after n bs ≡ Some m
     → AllDigits 10 bs × (digits_value_after 10 n bs ≡ m)
@@ -31,20 +30,15 @@ after_complete : (bs : List ℕ) (n : ℕ) → AllDigits 10 bs
     → natural_after n bs ≡ Some (digits_value_after 10 n bs)
 unfolding natural_after
 after_complete [] n h = refl
-after_complete (b ∷ bs) n h =
-    let d = is_digit-from_value b h.0 in
-    ap (λ t. if t then natural_after (n * 10 + (b - 48)) bs else None) d ∙ after_complete bs (n * 10 + (b - 48)) h.1
-    ∙ ap (λ v. Some (digits_value_after 10 (n * 10 + v) bs)) (sym (digit_value-is b d))
+after_complete (b ∷ bs) n h = grind (arith, is_digit-from_value, digit_value-is, (after_complete bs (n * 10 + (b - 48)) h.1))
 
 pub natural_sound : (t : List ℕ) (n : ℕ) → natural_of t ≡ Some n → SpellsNatural t n
 unfolding natural_of
-natural_sound [] n e = absurd (cc)
-natural_sound (b ∷ bs) n e = let k = after_sound (b ∷ bs) 0 n e in ((omega arith, k.0), k.1)
+natural_sound t n e = grind (arith, after_sound)
 
 pub natural_complete : (t : List ℕ) (n : ℕ) → SpellsNatural t n → natural_of t ≡ Some n
 unfolding natural_of
-natural_complete [] n h = absurd (omega arith)
-natural_complete (b ∷ bs) n h = after_complete (b ∷ bs) 0 h.0.1 ∙ ap Some h.1
+natural_complete t n h = grind (arith, after_complete)
 
 pub reads_naturals : ReadsNaturals
 reads_naturals t n = (natural_sound t n, natural_complete t n)

@@ -1,12 +1,12 @@
 -- One token of a kind, and shapes in a row
-use Rattle.std.proofs.Common.{◌≡◌, false, nat_lt, if◌then◌else◌, ℕ, zero, suc, ◌≤◌, List, [], ◌∷◌}
-use Rattle.std.proofs.Common.{◌++◌, length, Result, Ok, Err, All, arith, refl, sym, ◌∙◌, ap, subst}
+use Rattle.std.proofs.Common.{◌≡◌, false, nat_lt, ℕ, zero, suc, ◌≤◌, List, [], ◌∷◌}
+use Rattle.std.proofs.Common.{◌++◌, length, Result, Ok, All, arith, refl, sym, ◌∙◌, ap, subst}
 use Rattle.std.proofs.lemmas.Bool.Decides.{nat_tests}
 use Rattle.std.proofs.lemmas.List.Elements.{All-nil, All-cons, All-head}
-use Rattle.vipr_spec.specs.{Token, Rest, refused, Read, most_bytes, first_token, token_read}
+use Rattle.vipr_spec.specs.{Token, Rest, Read, first_token, token_read}
 use Rattle.vipr_spec.specs.{checked_token, token_of, read_each, name_of, word_of, ReadsKind}
 use Rattle.vipr_spec.specs.{ReadsFront, Reads}
-use Rattle.vipr_spec.specs.Grammar.{one, ◌then◌, each, word}
+use Rattle.vipr_spec.specs.Grammar.{one, each, word}
 use Rattle.vipr_spec.proofs.GrammarTokens.{kinds_of_token}
 use Rattle.vipr_spec.proofs.GrammarSteps.{bind_ok, ok_then, same_ok, bytes_of, IsShort, read_is}
 use Rattle.vipr_spec.proofs.GrammarSteps.{read_nothing, nothing_read, read_then, parted, Next}
@@ -35,13 +35,11 @@ within_size n m h = grind (arith, nat_tests)
 
 pub next_complete : {r : Rest} {t : Token} {s : Rest} → Next r t s → token_read r ≡ Ok (t, s)
 unfolding first_token
-next_complete {r} {t} {s} n =
-    ap token_read n.joined ∙ ap (λ b. if b then Err (refused 17 t.offset) else Ok (t, s)) (within_size (length t.bytes) most_bytes n.short)
+next_complete {r} {t} {s} n = grind (arith, within_size)
 
 checked_ok : {A : Type 0} (k : Result A ℕ) (t : Token × Rest) (x : A) (s : Rest)
     → checked_token k t ≡ Ok (x, s) → (k ≡ Ok x) × (t.1 ≡ s)
-checked_ok (Ok y) t x s e = let both = same_ok e in (ap (λ p. Ok p.0) both, ap (λ p. p.1) both)
-checked_ok (Err c) t x s e = absurd (cc)
+checked_ok k t x s e = grind (arith, same_ok)
 
 module _ {A : Type 0} (kind : List ℕ → Result A ℕ) (P : List ℕ → A → Type 0) (law : ReadsKind kind P) where
   read_sound : (r s : Rest) (x : A) → token_of kind r ≡ Ok (x, s) → ReadsFront (one P x) r s
@@ -80,10 +78,7 @@ reads_fixed w c = reads_like (reads_one (word_of w c) (λ t x. t ≡ w) (kinds_o
 module _ {A : Type 0} (read : Rest → Read A) (S : A → List (List ℕ) → Type 0) (law : Reads read S) where
   pub repeated_sound : (n : ℕ) (r s : Rest) (xs : List A) → read_each read n r ≡ Ok (xs, s) → (length xs ≡ n) × ReadsFront (each S xs) r s
   unfolding read_each
-  repeated_sound zero r s xs e =
-      let both = same_ok e in
-      let none : [] ≡ xs = ap (λ p. p.0) both in
-      (ap length (sym none), read_is (each S) e (read_nothing r))
+  repeated_sound zero r s xs e = grind (arith, same_ok, read_is, read_nothing)
   repeated_sound (suc n) r s xs e =
       let x = bind_ok e in
       let ys = bind_ok x.2 in

@@ -1,5 +1,5 @@
 -- Readings and shapes, one after another
-use Rattle.std.proofs.Common.{◌≡◌, ℕ, ◌≤◌, ◌⊎◌, inl, inr, Bool, true, false, nat_lt, if◌then◌else◌}
+use Rattle.std.proofs.Common.{◌≡◌, ℕ, ◌≤◌, ◌⊎◌, Bool, true, false, nat_lt, if◌then◌else◌}
 use Rattle.std.proofs.Common.{List, [], ◌∷◌, ◌++◌, length, map, Result, Ok, Err, All, arith, refl}
 use Rattle.std.proofs.Common.{sym, ◌∙◌, ap, subst, append_assoc}
 use Rattle.std.proofs.lemmas.List.Elements.{All-nil, All-cons, All-head, All-tail, All-append}
@@ -11,18 +11,15 @@ use Rattle.vipr_spec.specs.{first_token, token_read, ReadsFront, Grammar.◌then
 
 pub chosen : {A : Type 0} (b : Bool) (x y z : A) → (if b then x else y) ≡ z
     → ((b ≡ true) × (x ≡ z)) ⊎ ((b ≡ false) × (y ≡ z))
-chosen true x y z e = inl (refl, e)
-chosen false x y z e = inr (refl, e)
+chosen b x y z e = grind arith
 
 pub guard_true : {A E : Type 0} (b : Bool) (x y : A) (c : E) → (if b then Ok x else Err c) ≡ Ok y
     → (b ≡ true) × (x ≡ y)
-guard_true true x y c e = (refl, cc)
-guard_true false x y c e = absurd (cc)
+guard_true b x y c e = grind arith
 
 pub guard_false : {A E : Type 0} (b : Bool) (x y : A) (c : E) → (if b then Err c else Ok x) ≡ Ok y
     → (b ≡ false) × (x ≡ y)
-guard_false true x y c e = absurd (cc)
-guard_false false x y c e = (refl, cc)
+guard_false b x y c e = grind arith
 
 abbrev pub success : {A : Type 0} → (E : Type 0) → A → Result A E
 success E x = Ok x
@@ -58,9 +55,7 @@ answer x s = Ok (x, s)
 -- what was read is this
 pub read_is : {A : Type 0} (S : A → List (List ℕ) → Type 0) {r q s : Rest} {v x : A}
     → answer v q ≡ answer x s → ReadsFront (S v) r q → ReadsFront (S x) r s
-read_is S {r} {q} {s} {v} {x} e t =
-    let both = same_ok e in let same : v ≡ x = ap (λ p. p.0) both in let left : q ≡ s = ap (λ p. p.1) both in
-    subst (λ y. ReadsFront (S y) r s) same (subst (λ p. ReadsFront (S v) r p) left t)
+read_is S {r} {q} {s} {v} {x} e t = grind (arith, same_ok)
 
 pub is_answer : {A : Type 0} (P : A → Rest → Type 0) {q s : Rest} {v x : A}
     → answer v q ≡ answer x s → P v q → P x s
@@ -142,8 +137,7 @@ pub record Next (r : Rest) (t : Token) (s : Rest) : Type 0 where
 
 unread_none : (fails : Bool) (n : ℕ) (x : Token × Rest)
     → (if fails then Err unread else Err (refused 1 n)) ≡ Ok x → ⊥
-unread_none true n x e = cc
-unread_none false n x e = cc
+unread_none fails n x e = grind arith
 
 next_from : (ts : List Token) (r : Rest) (t : Token) (s : Rest) → r.tokens ≡ ts
     → first_token ts r ≡ Ok (t, s) → Next r t s

@@ -99,9 +99,7 @@ at_most_sound most (Some m) absent larger n e = let g = guard_true (nat_le m mos
 
 at_most_complete : (most : ℕ) (found : Option ℕ) (absent larger n : ℕ) → found ≡ Some n → n ≤ most
     → at_most_or most found absent larger ≡ Ok n
-at_most_complete most found absent larger n e h =
-    let t : nat_le n most ≡ true = grind (arith, nat_tests, h) in
-    ap (λ o. at_most_or most o absent larger) e ∙ ap (λ b. if b then Ok n else Err larger) t
+at_most_complete most found absent larger n e h = grind (arith, nat_tests)
 
 bounded : (most absent larger : ℕ) → ReadsKind (λ t. at_most_or most (natural_of t) absent larger)
     (λ t n. SpellsNatural t n × (n ≤ most))
@@ -128,9 +126,7 @@ below_sound n None i e = absurd (cc)
 below_sound n (Some j) i e = let g = guard_true (nat_lt j n) j i _ e in let h : j < n = grind (arith, nat_tests, g.0) in (ap Some g.1, subst (λ k. k < n) g.1 h)
 
 below_complete : (n : ℕ) (found : Option ℕ) (i : ℕ) → found ≡ Some i → i < n → below n found ≡ Ok i
-below_complete n found i e h =
-    let t : nat_lt i n ≡ true = grind (arith, nat_tests, h) in
-    ap (λ o. below n o) e ∙ ap (λ b. if b then Ok i else Err cause.bad_index) t
+below_complete n found i e h = grind (arith, nat_tests)
 
 variable_is : (n : ℕ) → ReadsKind (variable_of n) (SpellsVariable n)
 unfolding variable_of
@@ -138,8 +134,7 @@ variable_is n t i = (λ e. let k = below_sound n (natural_of t) i e in (natural_
 
 among_sound : (before : List ℕ) (found : Result ℕ ℕ) (i : ℕ) → unless_among before found ≡ Ok i
     → (found ≡ Ok i) × (list_any (nat_eq i) before ≡ false)
-among_sound before (Err c) i e = absurd (cc)
-among_sound before (Ok j) i e = let g = guard_false (list_any (nat_eq j) before) j i _ e in (ap Ok g.1, subst (λ k. list_any (nat_eq k) before ≡ false) g.1 g.0)
+among_sound before found i e = grind (arith, guard_false)
 
 among_complete : (before : List ℕ) (found : Result ℕ ℕ) (i : ℕ) → found ≡ Ok i
     → list_any (nat_eq i) before ≡ false → unless_among before found ≡ Ok i
@@ -157,8 +152,7 @@ new_variable_is n before t i = (
 
 pub some_sound : {A : Type 0} (found : Result A ℕ) (o : Option A) → some_of found ≡ Ok o
     → (x : A) × (found ≡ Ok x) × (o ≡ Some x)
-some_sound (Ok x) o e = (x, refl, sym (same_ok e))
-some_sound (Err c) o e = absurd (cc)
+some_sound found o e = grind (arith, same_ok)
 
 no_number : (i : ℕ) → ¬ SpellsCount (codes "-1") i
 no_number i h = absurd (omega arith)

@@ -1,5 +1,5 @@
 -- The whole certificate, and that no tokens spell two
-use Rattle.std.proofs.Common.{◌≡◌, ◌↔◌, ℕ, ◌<◌, ◌≤◌, Bool, true, false, if◌then◌else◌, List, []}
+use Rattle.std.proofs.Common.{◌≡◌, ◌↔◌, ℕ, ◌<◌, ◌≤◌, Bool, false, if◌then◌else◌, List, [], arith}
 use Rattle.std.proofs.Common.{◌∷◌, ◌++◌, length, Result, Ok, Err, All, codes, refl, sym, ◌∙◌, ap}
 use Rattle.std.proofs.Common.{subst, append-nil}
 use Rattle.std.proofs.lemmas.List.Elements.{All-nil, All-cons}
@@ -22,13 +22,11 @@ abbrev done : Result (Unit {0}) Fault
 done = Ok tt
 
 no_failure : (fails : Bool) → (if fails then Err unread else done) ≡ done → fails ≡ false
-no_failure true e = absurd (cc)
-no_failure false e = refl
+no_failure fails e = grind arith
 
 end_from : (ts : List Token) (r : Rest) → r.tokens ≡ ts → end_of ts r ≡ Ok tt → EndsHere r
 unfolding end_of
-end_from [] r h e = (h, no_failure r.fails e)
-end_from (t ∷ ts) r h e = absurd (cc)
+end_from ts r h e = grind (arith, no_failure)
 
 end_sound : (r : Rest) → end_read r ≡ Ok tt → EndsHere r
 end_sound r e = end_from r.tokens r refl e
@@ -70,10 +68,7 @@ solved p = read_each (solution_read p.0.0) p.0.1 p.1 >>= headed p.0.0
 
 few_constraints : (p : Problem) {r s : Rest} → ReadsFront (problem p) r s
     → length p.constraints ≤ most_count
-few_constraints p t =
-    let names = (parted t).after in let integers = (parted names).after in let objective = (parted integers).after in let constraints = (parted objective).after in
-    let count = parted (parted (parted constraints).before).after in
-    count.before.shape.2.1
+few_constraints p t = grind (arith, parted)
 
 variables_below : (n : ℕ) (is : List ℕ) (ts : List (List ℕ)) → each (one (SpellsVariable n)) is ts
     → All (λ i. i < n) is

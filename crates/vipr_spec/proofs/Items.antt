@@ -6,6 +6,7 @@ use Rattle.std.proofs.Common.{append-nil}
 use Rattle.std.specs.List.{IsDistinct, AllByRecursion, list_any}
 use Rattle.std.specs.{FinSet.from_list, Str.bytes_eq}
 use Rattle.std.proofs.lemmas.Bool.Decides.{nat_tests}
+use Rattle.std.proofs.lemmas.Grind.{common_steps}
 use Rattle.vipr_spec.specs.Causes as cause
 use Rattle.vipr_spec.specs.{ℚ, Token, Row, Problem, variables, Reason, asm, lin, rnd, uns, sol}
 use Rattle.vipr_spec.specs.{Claim, infeasible, range, natural_after, natural_of, SpellsNumber}
@@ -72,18 +73,14 @@ abbrev AllDiffer : ℕ → List ℕ → Type 0
 AllDiffer i is = AllByRecursion (λ j. nat_eq i j ≡ false) is
 
 neither : (a b : Bool) → (a || b) ≡ false → (a ≡ false) × (b ≡ false)
-neither true b e = absurd (cc)
-neither false b e = (refl, e)
+neither a b e = grind arith
 
 flipped : (i j : ℕ) → nat_eq i j ≡ false → nat_eq j i ≡ false
 flipped i j e = grind (arith, nat_tests)
 
 apart : (i : ℕ) (before is : List ℕ) → AreNew (i ∷ before) is → AreNew before is × AllDiffer i is
 apart i before [] h = (tt, tt)
-apart i before (j ∷ js) h =
-    let k = neither (nat_eq j i) (list_any (nat_eq j) before) h.0 in
-    let rest = apart i before js h.1 in
-    ((k.1, rest.0), (flipped j i k.0, rest.1))
+apart i before (j ∷ js) h = grind (arith, neither, flipped, (apart i before js h.1))
 
 joined : (i : ℕ) (before is : List ℕ) → AreNew before is → AllDiffer i is → AreNew (i ∷ before) is
 joined i before [] h d = tt
@@ -112,8 +109,7 @@ DistinctPairs n before k ps ts = (length ps ≡ k) × AreNew before (variables_o
 
 no_pairs : (n : ℕ) (before : List ℕ) (ps : List (ℕ × ℚ)) (ts : List (List ℕ))
     → DistinctPairs n before 0 ps ts → (ps ≡ []) × (ts ≡ [])
-no_pairs n before [] ts h = (refl, h.3)
-no_pairs n before (p ∷ ps) ts h = absurd (cc)
+no_pairs n before ps ts h = grind (arith, common_steps)
 
 abbrev PairThen : ℕ → List ℕ → ℕ → List (ℕ × ℚ) → List (List ℕ) → Type 0
 PairThen n before k = Chain (λ p ts. IsNew before p.0 × pair n p ts) (λ p. Last (DistinctPairs n (p.0 ∷ before) k) (λ ps. p ∷ ps))
@@ -121,11 +117,7 @@ PairThen n before k = Chain (λ p ts. IsNew before p.0 × pair n p ts) (λ p. La
 one_pair : (n : ℕ) (before : List ℕ) (k : ℕ) (ps : List (ℕ × ℚ)) (ts : List (List ℕ))
     → PairThen n before k ps ts → DistinctPairs n before (suc k) ps ts
 unfolding IsDistinct
-one_pair n before k ps ts h =
-    let p = h.0 in let t = h.1 in let others = t.4.0 in let d = t.4.2 in
-    let differ = apart p.0 before (variables_of others) d.1 in
-    subst (λ all. DistinctPairs n before (suc k) all ts) (sym t.4.1)
-    (ap suc d.0, (t.3.0, differ.0), (differ.1, d.2), (t.0, t.1, t.2, t.3.1, d.3))
+one_pair n before k ps ts h = grind (arith, apart)
 
 pair_first : (n : ℕ) (before : List ℕ) (k : ℕ) (ps : List (ℕ × ℚ)) (ts : List (List ℕ))
     → DistinctPairs n before (suc k) ps ts → PairThen n before k ps ts
@@ -175,8 +167,7 @@ module _ (n : ℕ) (objective : Row) (r s : Rest) (row : Row) where
   no_count t k e f = let g : checked_token (count_of (codes "OBJ")) t ≡ Ok k = subst (λ b. checked_token (count_of b) t ≡ Ok k) e f in cc
 
   counted_complete : (t : Token × Rest) (k : ℕ × Rest) → checked_token (count_of t.0.bytes) t ≡ Ok k → counted_read n k ≡ Ok (row, s) → (b : Bool) → bytes_eq t.0.bytes (codes "OBJ") ≡ b → (if b then Ok (objective, t.1) else counted t) ≡ Ok (row, s)
-  counted_complete t k e f true g = absurd (no_count t k (same_bytes t.0.bytes _ g) e)
-  counted_complete t k e f false g = ok_then _ e f
+  counted_complete t k e f b g = grind (arith, no_count, same_bytes, ok_then)
 
   row_complete : ReadsFront (coefficients n objective row) r s → row_read n objective r ≡ Ok (row, s)
   unfolding row_read vector_read
@@ -203,8 +194,7 @@ IsOther (t ∷ ts) = is_objective t ≡ false
 front_other : (before : List Token) (token : Token) (after : List Token)
     → IsOther (before ++ token ∷ after) → IsOther before
 unfolding IsOther
-front_other [] token after h = tt
-front_other (t ∷ ts) token after h = h
+front_other before token after h = grind arith
 
 still_other : (before : List Token) (t : Token) (after more : List Token)
     → IsOther (before ++ t ∷ after) → IsOther (before ++ t ∷ more)
@@ -229,34 +219,25 @@ module _ (n : ℕ) (objective : Row) where
   some long t r = if long then Err (refused cause.token_too_long t.offset) else Ok (t, r)
 
   none_same : (fails : Bool) (size : ℕ) → row_with (none fails size) ≡ vector_with (none fails size)
-  none_same true size = refl
-  none_same false size = refl
+  none_same fails size = grind arith
 
   some_same : (long : Bool) (t : Token) (r : Rest) → is_objective t ≡ false → row_with (some long t r) ≡ vector_with (some long t r)
-  some_same true t r h = refl
-  some_same false t r h = ap (λ b. chosen_by b (t, r)) h
+  some_same long t r h = grind arith
 
   row_same : (ts : List Token) (r : Rest) → IsOther ts → row_with (first_token ts r) ≡ vector_with (first_token ts r)
   unfolding first_token IsOther
-  row_same [] r h = none_same r.fails r.length
-  row_same (t ∷ ts) r h = some_same (nat_lt most_bytes (length t.bytes)) t (record r { tokens = ts }) h
+  row_same ts r h = grind (arith, none_same, some_same)
 
   row_is_vector : (r : Rest) → IsOther r.tokens → row_read n objective r ≡ vector_read n r
   unfolding row_read vector_read
   row_is_vector r h = row_same r.tokens r h
 
   other_by : (t : Token) (r : Rest) (d : Fault) (b : Bool) → is_objective t ≡ b → row_with (some (nat_lt most_bytes (length t.bytes)) t r) ≡ Err d → is_objective t ≡ false
-  other_by t r d false h e = h
-  other_by t r d true h e =
-      let size : nat_lt most_bytes (length t.bytes) ≡ false = ap (λ (b : List ℕ). nat_lt most_bytes (length b)) (same_bytes t.bytes (codes "OBJ") h) in
-      let read : chosen_by (is_objective t) (t, r) ≡ Err d = subst (λ l. row_with (some l t r) ≡ Err d) size e in
-      let given : chosen_by true (t, r) ≡ Err d = subst (λ b. chosen_by b (t, r) ≡ Err d) h read in
-      never (objective, r) d given
+  other_by t r d b h e = grind (arith, common_steps, same_bytes, never)
 
   other_from : (ts : List Token) (r : Rest) (d : Fault) → row_with (first_token ts r) ≡ Err d → IsOther ts
   unfolding first_token IsOther
-  other_from [] r d e = tt
-  other_from (t ∷ ts) r d e = other_by t (record r { tokens = ts }) d (is_objective t) refl e
+  other_from ts r d e = grind (arith, common_steps, other_by)
 
   other : (r : Rest) (d : Fault) → row_read n objective r ≡ Err d → IsOther r.tokens
   unfolding row_read
@@ -347,10 +328,7 @@ range_is false = done infeasible
 range_is true = chain (bound_token (codes "-inf") (bound_is (codes "-inf") no_lower)) _ (λ l. last (bound_token (codes "inf") (bound_is (codes "inf") no_upper)) (λ u. range l u))
 
 ranged : (b : Bool) (x : Claim) (ts : List (List ℕ)) → (word (codes "RTP") then one SpellsRange b then IsRange b x) ts → claim x ts
-ranged false x ts h = let r = h.4 in subst (λ x. claim x ts) (sym r.4.0) (retail h (r.2 ∙ ap (λ us. r.0 ++ us) r.4.1 ∙ append-nil r.0 ∙ r.3.1 ∙ ap (λ t. t ∷ []) r.3.2))
-ranged true x ts h =
-    let r = h.4 in let l = r.4 in
-    subst (λ x. claim x ts) (sym l.1.4.1) (retail h (r.0, r.1, r.2, r.3.1 ∙ ap (λ t. t ∷ []) r.3.2, retail l.1 l.1.4.2))
+ranged b x ts h = grind (arith, retail, append-nil)
 
 claimed : (x : Claim) (ts : List (List ℕ)) → claim x ts
     → Chain (λ (u : Unit {0}). word (codes "RTP")) (λ u. Chain (one SpellsRange) IsRange) x ts
@@ -441,9 +419,7 @@ by_rule : (x : Reason) (ts : List (List ℕ)) → reason x ts → Chain (one Spe
 by_rule asm ts h = (by_asm, (ts, [], sym (append-nil ts), (rule_word by_asm, h, refl), (refl, refl)))
 by_rule (lin es) ts h = (by_lin, (h.0, h.1, h.2, (rule_word by_lin, h.3, refl), (es, refl, h.4)))
 by_rule (rnd es) ts h = (by_rnd, (h.0, h.1, h.2, (rule_word by_rnd, h.3, refl), (es, refl, h.4)))
-by_rule (uns i1 l1 i2 l2) ts h =
-    let a = h.4 in let b = a.4 in let c = b.4 in
-    (by_uns, (h.0, h.1, h.2, (rule_word by_uns, h.3, refl), (i1, retail a (l1, retail b (i2, retail c (l2, refl, c.4))))))
+by_rule (uns i1 l1 i2 l2) ts h = grind (arith, retail)
 by_rule sol ts h = (by_sol, (ts, [], sym (append-nil ts), (rule_word by_sol, h, refl), (refl, refl)))
 
 abbrev pub braced : Reason → List (List ℕ) → Type 0
@@ -497,8 +473,7 @@ reads_derivations p few = reads_like (any_count_is p).reads
 
 no_end : (fails : Bool) (c o : ℕ)
     → (if fails then Err unread else Ok tt) ≡ fault (Unit {0}) (refused c o) → ⊥
-no_end true c o e = cc
-no_end false c o e = cc
+no_end fails c o e = grind arith
 
 end_refusal : (ts : List Token) (r : Rest) (c o : ℕ) → r.tokens ≡ ts
     → end_of ts r ≡ Err (refused c o) → IsRefusedAt end_read r c o ⊎ EndsEarly r c o

@@ -3,7 +3,7 @@ use Rattle.std.proofs.Common.{◌≡◌, ℕ, Option, zero, suc, ◌+◌, ◌<�
 use Rattle.std.proofs.Common.{cond, List, [], ◌∷◌, map, length, slice_index_or, arith, refl, sym}
 use Rattle.std.proofs.Common.{◌∙◌, ap, ap₂, subst, inl, inr, ⊎_elim}
 use Rattle.std.proofs.{lemmas.Bool.cases_Bool, lemmas.Bool.cases_order, lemmas.List.length-map}
-use Rattle.vipr_spec.specs.{Derivation, kept_of, new_index, with_new_indices, last_reference}
+use Rattle.vipr_spec.specs.{Derivation, kept_of, new_index}
 use Rattle.vipr_spec.specs.{with_last_references, kept_derivations}
 
 -- ---- new indices
@@ -55,15 +55,13 @@ index_lt_back keep i j h = ⊎_elim
 
 pub index_injective : (keep : ℕ → Bool) (i j : ℕ) → keep i ≡ true → keep j ≡ true
     → new_index keep i ≡ new_index keep j → i ≡ j
-index_injective keep i j k l e = let a = index_le_back keep i j l (omega arith) in
-    let b = index_le_back keep j i k (omega arith) in omega arith
+index_injective keep i j k l e = grind (arith, index_le_back)
 
 -- they are the old ones where all before is kept
 pub index_same : (keep : ℕ → Bool) (n : ℕ) → ((i : ℕ) → i < n → keep i ≡ true) → (i : ℕ) → i ≤ n
     → new_index keep i ≡ i
 index_same keep n all zero h = refl
-index_same keep n all (suc i) h = index_yes keep i (all i h)
-    ∙ ap suc (index_same keep n all i (omega arith))
+index_same keep n all (suc i) h = grind (arith, index_yes, (index_same keep n all i (omega arith)))
 
 -- each new index has an old one
 pub old_index : (keep : ℕ → Bool) (n p : ℕ) → p < new_index keep n
@@ -127,8 +125,7 @@ length_kept keep k (x ∷ xs) = by (length_kept keep (suc k) xs) (cases_Bool (ke
 pub kept_all : {A : Type 0} (keep : ℕ → Bool) (k : ℕ) (xs : List A)
     → ((i : ℕ) → k ≤ i → i < k + length xs → keep i ≡ true) → kept_of keep k xs ≡ xs
 kept_all keep k [] all = refl
-kept_all keep k (x ∷ xs) all = kept_yes keep k x xs (all k (omega arith) (omega arith))
-    ∙ ap (λ l. x ∷ l) (kept_all keep (suc k) xs (λ i a b. all i (omega arith) (omega arith)))
+kept_all keep k (x ∷ xs) all = grind (arith, kept_yes, (kept_all keep (suc k) xs (λ i a b. all i (omega arith) (omega arith))))
 
 -- what was at an index that is kept
 pub kept_at : {A : Type 0} (keep : ℕ → Bool) (d : A) (k j p : ℕ) (xs : List A) → keep (k + j) ≡ true
@@ -186,18 +183,8 @@ pub map_with : {X : Type 0} (f : Derivation → X)
     → ((d : Derivation) (l : Option ℕ) → f (record d { last = l }) ≡ f d)
     → (k : ℕ) (ds : List Derivation) → map f (with_last_references k ds) ≡ map f ds
 map_with f same k [] = refl
-map_with f same k (d ∷ ds) =
-    ap₂ (λ x xs. x ∷ xs) (same d (last_reference (suc k) ds k)) (map_with f same (suc k) ds)
+map_with f same k (d ∷ ds) = grind (arith, same, (map_with f same (suc k) ds))
 
 pub length_kept_derivations : (keep : ℕ → Bool) (m : ℕ) (ds : List Derivation)
     → length (kept_derivations keep m ds) + new_index keep m ≡ new_index keep (m + length ds)
-length_kept_derivations keep m ds =
-    let kept = kept_of keep m ds in
-    let size : length (map (with_new_indices (new_index keep)) kept) ≡ length kept =
-    length-map kept (with_new_indices (new_index keep)) in
-    let all : length (kept_derivations keep m ds)
-    ≡ length (map (with_new_indices (new_index keep)) kept) =
-    length_with m (map (with_new_indices (new_index keep)) kept) in
-    let few : length kept + new_index keep m ≡ new_index keep (m + length ds) =
-    length_kept keep m ds in
-    omega arith
+length_kept_derivations keep m ds = grind (arith, length-map, length_with, length_kept)

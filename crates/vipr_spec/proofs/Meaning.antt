@@ -64,15 +64,11 @@ said at_least v b h = h.1 refl
 
 true_to : (n : ℕ) (c : Named Constraint) (d : short.Constraint) (v w : ℚ) → AreOneConstraint n c d
     → v ≡ w → Compares c.item.sense v c.item.bound → Says d.sense w d.bound
-true_to n c d v w r e h =
-    subst (λ u. Says d.sense u d.bound) e
-    (subst (λ s. Says s v d.bound) (sym r.sense) (subst (λ b. Says (sense_word c.item.sense) v b) (sym r.bound) (says c.item.sense v c.item.bound h)))
+true_to n c d v w r e h = grind (arith, says)
 
 true_from : (n : ℕ) (c : Named Constraint) (d : short.Constraint) (v w : ℚ) → AreOneConstraint n c d
     → v ≡ w → Says d.sense w d.bound → Compares c.item.sense v c.item.bound
-true_from n c d v w r e h =
-    said c.item.sense v c.item.bound
-    (subst (λ s. Says s v c.item.bound) r.sense (subst (λ b. Says d.sense v b) r.bound (subst (λ u. Says d.sense u d.bound) (sym e) h)))
+true_from n c d v w r e h = grind (arith, said)
 
 -- ---- points
 

@@ -57,10 +57,7 @@ module _ (b : ℕ) (bs : List ℕ) (e : is_slash b ≡ false) where
   drop_next p = let k : suc p + 1 ≡ suc (p + 1) = omega arith in ap (λ n. drop n (b ∷ bs)) k
 
   bottom_next : bottom_of (b ∷ bs) ≡ bottom_of bs
-  bottom_next =
-      ap (λ n. if nat_lt n (suc (length bs)) then drop (n + 1) (b ∷ bs) else 49 ∷ []) place_next
-      ∙ ap (λ t. if t then drop (suc (slash_place bs) + 1) (b ∷ bs) else 49 ∷ []) (test_next (slash_place bs) (length bs))
-      ∙ ap (λ t. if nat_lt (slash_place bs) (length bs) then t else 49 ∷ []) (drop_next (slash_place bs))
+  bottom_next = grind (arith, place_next, test_next, drop_next)
 
 module _ (b : ℕ) (bs : List ℕ) (e : is_slash b ≡ true) where
   place_here : slash_place (b ∷ bs) ≡ 0
@@ -111,11 +108,7 @@ pub sign_of : (sign : List ℕ) (is_negative : Bool) (top rest : List ℕ) → I
     → IsNumeral 10 top → (starts_with_minus (sign ++ top ++ rest) ≡ is_negative)
     × (without_leading_sign (sign ++ top ++ rest) ≡ top ++ rest)
 sign_of sign is_negative [] rest s h = absurd (omega arith)
-sign_of sign is_negative (b ∷ bs) rest s h =
-    let n = no_sign b h.1.0 in elim s [
-      | inl k ↦ rw (k.0, k.1) (n.0, rw (n.0, n.1))
-      | inr r ↦ elim r [ inl k ↦ rw (k.0, k.1) (refl, refl) | inr k ↦ rw (k.0, k.1) (refl, refl) ]
-    ]
+sign_of sign is_negative (b ∷ bs) rest s h = grind (arith, no_sign)
 
 -- ---- the bound and the denominator
 record Fits (is_negative : Bool) (p q : ℕ) (x : ℚ) : Type 0 where
@@ -139,11 +132,7 @@ written_sound is_negative p q x h = fits_by is_negative p q x (nat_lt most p) (n
 
 written_complete : (is_negative : Bool) (p q : ℕ) → p ≤ most → q ≤ most → 1 ≤ q
     → written_fraction is_negative p q ≡ Ok (over (signed_integer is_negative p) q)
-written_complete is_negative p q h k l =
-    let e : nat_lt most p ≡ false = grind (arith, nat_tests) in
-    let f : nat_lt most q ≡ false = grind (arith, nat_tests) in
-    let g : (q == 0) ≡ false = grind (arith, nat_tests) in
-    rw (e, f, g)
+written_complete is_negative p q h k l = grind (arith, nat_tests)
 
 -- ---- numbers
 bottom_complete : (bottom : Option (List ℕ)) → IfSome bottom (IsNumeral 10)

@@ -92,8 +92,7 @@ unfolding over gcd ◌+ℚ◌ ◌*ℚ◌
 two_fits = ((lit≤ tt, lit≤ tt), (lit≤ tt, lit≤ tt, lit≤ tt, lit≤ tt))
 
 value_fits : (f : ℕ → ℚ) (a : ℚ) → f 0 ≡ a → FitsAtOne a → ValueFits 1 f (at row)
-value_fits f a e h zero l = subst (λ z. ProductFits z (at row 0) × SumFits zero_ℚ (z *ℚ at row 0)) (sym e) (subst (λ y. ProductFits a y × SumFits zero_ℚ (a *ℚ y)) (sym row_first) h)
-value_fits f a e h (suc j) l = absurd (omega arith)
+value_fits f a e h k l = grind (arith, row_first)
 
 solution_fits : SolutionFits optimum.problem (at row)
 solution_fits = (All-cons (λ c. ValueFits 1 (at c.item.row) (at row)) doubled [] (value_fits (at twice) (whole (pos 2)) twice_first two_fits) (All-nil (λ c. ValueFits 1 (at c.item.row) (at row))), value_fits (at row) (whole (pos 1)) row_first one_fits)

@@ -9,7 +9,7 @@ use Rattle.vipr_spec.specs.{ℚ, zero_ℚ, condition, Reason, asm, lin, rnd, uns
 use Rattle.vipr_spec.specs.{constraint_at, reason_at, last_at, no_constraint, is_assumption}
 use Rattle.vipr_spec.specs.{lasts_to, is_live, RefersTo, count, kept_of, new_index}
 use Rattle.vipr_spec.specs.{renumbered_entries, renumbered_reason, renumbered_at, with_new_indices}
-use Rattle.vipr_spec.specs.{with_last_references, with_kept, is_nonzero, Certificate.Certificate}
+use Rattle.vipr_spec.specs.{with_kept, is_nonzero, Certificate.Certificate}
 use Rattle.vipr_spec.proofs.Kept.{map_with, length_with, index_mono, index_same, old_index}
 use Rattle.vipr_spec.proofs.Kept.{kept_map, length_kept, kept_at}
 use Rattle.vipr_spec.proofs.Prefix.{constraints_listed, reasons_listed, lasts_listed}
@@ -112,11 +112,7 @@ given_none (x ∷ cs) ys (suc i) h = given_none cs ys i (omega arith)
 module _ (c : Certificate) (keep : ℕ → Bool) (given : (i : ℕ) → i < length c.problem.constraints → keep i ≡ true) where
   pub kept_values : {X : Type 0} (g h : Derivation → X) → ((d : Derivation) (l : Option ℕ) → h (record d { last = l }) ≡ h d) → ((d : Derivation) → h (with_new_indices (new_index keep) d) ≡ g d)
       → map h (with_kept c keep).derivations ≡ kept_of keep (length c.problem.constraints) (map g c.derivations)
-  kept_values g h same new =
-      let m = length c.problem.constraints in
-      let ds = kept_of keep m c.derivations in
-      map_with h same m (map (with_new_indices (new_index keep)) ds) ∙ map_map (with_new_indices (new_index keep)) h ds
-      ∙ ap (λ (f : Derivation → _). map f ds) (λ i d. new d i) ∙ sym (kept_map g keep m c.derivations)
+  kept_values g h same new = grind (arith, map_with, map_map, kept_map)
 
   pub new_given : (i : ℕ) → i ≤ length c.problem.constraints → new_index keep i ≡ i
   new_given i h = index_same keep (length c.problem.constraints) given i h
@@ -143,14 +139,7 @@ module _ (c : Certificate) (keep : ℕ → Bool) (given : (i : ℕ) → i < leng
       ∙ ap (renumbered_at (new_index keep)) (sym (reasons_listed c i))
 
   pub length_new : length (with_kept c keep).derivations + length c.problem.constraints ≡ new_index keep (count c)
-  length_new =
-      let m = length c.problem.constraints in
-      let ds = map (with_new_indices (new_index keep)) (kept_of keep m c.derivations) in
-      let a : length (with_last_references m ds) ≡ length ds = length_with m ds in
-      let b : length ds ≡ length (kept_of keep m c.derivations) = length-map (kept_of keep m c.derivations) (with_new_indices (new_index keep)) in
-      let l = length_kept keep m c.derivations in
-      let e = new_given m (omega arith) in
-      omega arith
+  length_new = grind (arith, length_with, length-map, length_kept, new_given)
 
   pub count_new : count (with_kept c keep) ≡ new_index keep (count c)
   count_new = let e = length_new in omega arith

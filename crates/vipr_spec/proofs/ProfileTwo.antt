@@ -1,6 +1,6 @@
 -- Two certificates that are proofs under profile two, and none under profile one
 use Rattle.std.proofs.Common.{◌≡◌, ◌≢◌, ℕ, zero, suc, Some, ℤ, pos, ◌+ℤ◌, ◌≤ℤ◌, ◌⊎◌, IsTrue, arith}
-use Rattle.std.proofs.Common.{refl, sym, ◌∙◌, ap, subst, inl, inr, lit<, unwrap_or, List, []}
+use Rattle.std.proofs.Common.{refl, sym, ap, subst, inl, inr, lit<, unwrap_or, List, []}
 use Rattle.std.proofs.{lemmas.Int.ints, lemmas.List.Elements.All-nil}
 use Rattle.std.specs.{FinMap.get-empty, Ordering.nat_cmp}
 use Rattle.vipr_spec.specs.Examples.{first_variable, rounded_bound, split_at_half}
@@ -64,8 +64,7 @@ bound_two = proof_by_steps two _ _ 0 no_steps tt (lit< tt, bound_nothing, inr (w
 
 not_dominated : ¬ MeetsBound one rounded_bound.problem (constraint_at rounded_bound 0)
     (whole (pos 1))
-not_dominated (inl a) = one_not_zero (sym row_first ∙ a.0 0)
-not_dominated (inr d) = one_above_half d.2
+not_dominated h = grind (arith, one_not_zero, row_first, one_above_half)
 
 pub bound_one : ¬ IsProof one rounded_bound
 bound_one p =
@@ -85,10 +84,7 @@ splits = inl (record { row = λ j. refl; whole_row = whole_row; senses = (refl, 
     whole_bounds = omega (arith, ints)
 
 live : (i : ℕ) → (i ≡ 0) ⊎ (i ≡ 1) ⊎ (i ≡ 0) ⊎ (i ≡ 2) → IsTrue (is_live split_at_half 3 i)
-live i (inl e) = subst (λ n. IsTrue (is_live split_at_half 3 n)) (sym e) refl
-live i (inr (inl e)) = subst (λ n. IsTrue (is_live split_at_half 3 n)) (sym e) refl
-live i (inr (inr (inl e))) = subst (λ n. IsTrue (is_live split_at_half 3 n)) (sym e) refl
-live i (inr (inr (inr e))) = subst (λ n. IsTrue (is_live split_at_half 3 n)) (sym e) refl
+live i h = grind arith
 
 joined : IsGoodStep two split_at_half 3 (uns 0 1 0 2) (constraint_at split_at_half 3)
 joined = record {
@@ -121,8 +117,7 @@ split_two = proof_by_steps two _ _ 0 steps tt (lit< tt, given_nothing, absurdity
 
 not_split : ¬ IsSplit one first_variable (constraint_at split_at_half 1)
     (constraint_at split_at_half 2)
-not_split (inl c) = half_not_whole c.bounds.0 c.bounds.1
-not_split (inr c) = half_not_whole c.bounds.0 c.bounds.1
+not_split h = grind (arith, half_not_whole)
 
 pub split_one : ¬ IsProof one split_at_half
 split_one p = not_split (p.steps 3 (uns 0 1 0 2) refl).follows.2.0

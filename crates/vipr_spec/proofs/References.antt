@@ -1,15 +1,16 @@
 -- What a reason refers to, as it is tested, and the last references
 use Rattle.std.proofs.Common.{◌≡◌, ◌≢◌, ℕ, zero, suc, ◌+◌, ◌<◌, ◌≤◌, Bool, true, false, cond, ◌&&◌}
-use Rattle.std.proofs.Common.{◌||◌, nat_eq, List, [], ◌∷◌, map, length, slice_index_or, Option}
+use Rattle.std.proofs.Common.{nat_eq, List, [], ◌∷◌, map, length, slice_index_or, Option}
 use Rattle.std.proofs.Common.{Some, None, Contains, arith, refl, sym, ap, ap₂, subst, inl, inr}
-use Rattle.std.proofs.Common.{⊎_elim, eq-eqb, eqb-true}
+use Rattle.std.proofs.Common.{eq-eqb, eqb-true}
 use Rattle.std.specs.List.{list_any}
 use Rattle.std.proofs.lemmas.Bool.{and_parts, and_from, or_cases, or_left, or_right}
 use Rattle.std.proofs.lemmas.List.Folds.{Any-from_list_any, list_any-from_Any}
+use Rattle.std.proofs.lemmas.Grind.{common_steps}
 use Rattle.vipr_spec.specs.{ℚ, zero_ℚ, Reason, asm, lin, rnd, uns, sol, Derivation, NamesEarlier}
 use Rattle.vipr_spec.specs.{RefersTo, refers_to, or_else, last_reference, with_last_references}
 use Rattle.vipr_spec.specs.{is_nonzero}
-use Rattle.vipr_spec.proofs.SmallerSums.{not_zero_is, Any-contains, Any-of}
+use Rattle.vipr_spec.proofs.SmallerSums.{not_zero_is, Any-contains}
 use Rattle.vipr_spec.proofs.{Kept.map_with, PairRows.not_zero}
 use Rattle.std.proofs.lemmas.List.Elements.{All-contains}
 
@@ -25,21 +26,13 @@ entry_true es i t =
 
 entry_from : (es : List (ℕ × ℚ)) (i : ℕ) (m : ℚ) → Contains es (i, m) → m ≢ zero_ℚ
     → list_any (λ e. nat_eq i e.0 && is_nonzero e) es ≡ true
-entry_from es i m h n =
-    list_any-from_Any (λ (e : ℕ × ℚ). nat_eq i e.0 && is_nonzero e) es
-    (Any-of (λ (e : ℕ × ℚ). (nat_eq i e.0 && is_nonzero e) ≡ true) es (i, m) h (and_from (nat_eq i i) (is_nonzero (i, m)) (eq-eqb i i refl) (not_zero_is m n)))
+entry_from es i m h n = grind (arith, common_steps, list_any-from_Any, and_from, eq-eqb, not_zero_is)
 
 pub refers_true : (r : Reason) (i : ℕ) → refers_to r i ≡ true → RefersTo (Some r) i
 refers_true asm i h = absurd (cc)
 refers_true (lin es) i h = entry_true es i h
 refers_true (rnd es) i h = entry_true es i h
-refers_true (uns i1 l1 i2 l2) i h = ⊎_elim
-    (λ (e : nat_eq i i1 ≡ true). inl (eqb-true i i1 e))
-    (λ f. ⊎_elim
-    (λ (e : nat_eq i l1 ≡ true). inr (inl (eqb-true i l1 e)))
-    (λ g. ⊎_elim (λ (e : nat_eq i i2 ≡ true). inr (inr (inl (eqb-true i i2 e)))) (λ (e : nat_eq i l2 ≡ true). inr (inr (inr (eqb-true i l2 e)))) (or_cases (nat_eq i i2) (nat_eq i l2) g))
-    (or_cases (nat_eq i l1) (nat_eq i i2 || nat_eq i l2) f))
-    (or_cases (nat_eq i i1) (nat_eq i l1 || (nat_eq i i2 || nat_eq i l2)) h)
+refers_true (uns i1 l1 i2 l2) i h = grind (arith, eqb-true, or_cases)
 refers_true sol i h = absurd (cc)
 
 pub refers_from : (r : Reason) (i : ℕ) → RefersTo (Some r) i → refers_to r i ≡ true
@@ -137,5 +130,4 @@ same_reference k (d ∷ ds) (f ∷ fs) i e =
 pub with_again : (k : ℕ) (ds : List Derivation)
     → with_last_references k (with_last_references k ds) ≡ with_last_references k ds
 with_again k [] = refl
-with_again k (d ∷ ds) =
-    ap₂ (λ l xs. record d { last = l } ∷ xs) (same_reference (suc k) (with_last_references (suc k) ds) ds k (map_with (λ d. d.reason) (λ d l. refl) (suc k) ds)) (with_again (suc k) ds)
+with_again k (d ∷ ds) = grind (arith, same_reference, map_with, (with_again (suc k) ds))

@@ -2,10 +2,10 @@
 use Rattle.std.proofs.Common.{◌≡◌, ℕ, Option, Some, None, MatchOption, arith, refl, sym, ◌∙◌, ap}
 use Rattle.std.proofs.Common.{subst, unwrap_or}
 use Rattle.std.specs.Prelude.{IsSome}
-use Rattle.vipr_spec.specs.{Profile, condition, Derivation, known_at, constraint_at, NeedsGoal}
-use Rattle.vipr_spec.specs.{IsGoal, GoalIs, Rest, Fault, refused, unread, before, PassesStep}
-use Rattle.vipr_spec.specs.{step_tests, FirstFailing, IsGoodNext, Test, spelled, of_solution}
-use Rattle.vipr_spec.specs.{meets_primal, of_step, meets_dual, Passes, Detail, step, no_primal}
+use Rattle.vipr_spec.specs.{Profile, condition, Derivation, NeedsGoal}
+use Rattle.vipr_spec.specs.{IsGoal, GoalIs, Rest, Fault, PassesStep}
+use Rattle.vipr_spec.specs.{step_tests, FirstFailing, IsGoodNext, Test, spelled}
+use Rattle.vipr_spec.specs.{meets_dual, Passes, Detail}
 use Rattle.vipr_spec.specs.{Explains, Found, found_in, Report, Reports, Answer, verified}
 use Rattle.vipr_spec.specs.{answer_of_test, IsAnswerOfTest, Answers, IsAnswer, IsExplainedBy}
 use Rattle.vipr_spec.specs.{Explained, IsExplained, Certificate.Certificate}
@@ -36,13 +36,7 @@ same_goal P c (Some k) (Some l) p q = let a = p.1 l q.0 in let b = q.1 k p.0 in 
 
 pub one_report : (P : Profile) (c : Certificate) (x y : Report) → Reports P c x → Reports P c y
     → x ≡ y
-one_report P c x y p q =
-    let claims = p.claim ∙ sym q.claim in
-    let solutions = p.solutions ∙ sym q.solutions in
-    let derived = p.derived ∙ sym q.derived in
-    let peaks = p.peak ∙ sym q.peak in
-    let goals = same_goal P c x.goal y.goal p.goal q.goal in
-    λ i. record { claim = claims i; solutions = solutions i; derived = derived i; peak = peaks i; goal = goals i }
+one_report P c x y p q = grind (arith, same_goal)
 
 -- ---- one answer
 
@@ -61,11 +55,7 @@ one_answer P r a b p q = one_answer_found P (found_in r) a b p q
 
 pub explains_once : (c : Certificate) (t : Test) (x y : Detail) → Explains c t x → Explains c t y
     → x ≡ y
-explains_once c (spelled f) x y h k = h ∙ sym k
-explains_once c (of_solution i s t) x y h k = h ∙ sym k
-explains_once c meets_primal x y h k = let e : h.0 ≡ k.0 = ap (λ o. unwrap_or o h.0) (sym h.1 ∙ k.1) in h.2 ∙ ap no_primal e ∙ sym k.2
-explains_once c (of_step k t) x y h l = h.2 ∙ ap (step (known_at c k).name) (shows_once (before c k) (constraint_at c k) t h.0 l.0 h.1 l.1) ∙ sym l.2
-explains_once c meets_dual x y h k = h ∙ sym k
+explains_once c t x y h k = grind (arith, shows_once)
 
 -- the answer is the first part of an explained one
 pub answer_explained : (P : Profile) (f : Found) (a : Answer) (x : Detail) → Explained P f a x
@@ -90,15 +80,10 @@ one_detail P r a b x y p q = (
 -- ---- a test that fails tells no verified text
 
 fault_known : (f : Fault) (report : Report) → ¬ (answer_of_test (spelled f) ≡ verified report)
-fault_known (refused c o) report e = cc
-fault_known unread report e = cc
+fault_known f report e = grind arith
 
 pub known_not_verified : (t : Test) (report : Report) → ¬ (answer_of_test t ≡ verified report)
-known_not_verified (spelled f) report e = fault_known f report e
-known_not_verified (of_solution i s t) report e = cc
-known_not_verified meets_primal report e = cc
-known_not_verified (of_step k t) report e = cc
-known_not_verified meets_dual report e = cc
+known_not_verified t report e = grind (arith, fault_known)
 
 -- ---- the next derivation
 

@@ -1,9 +1,9 @@
 -- Rows as pairs, and rows as maps
 use Rattle.std.proofs.Common.{◌≡◌, ℕ, zero, suc, ◌<◌, Bool, true, false, not, ◌==◌, nat_eq}
 use Rattle.std.proofs.Common.{if◌then◌else◌, List, [], ◌∷◌, map, filter, unwrap_or}
-use Rattle.std.proofs.Common.{All, pos, arith, refl, sym, ◌∙◌, ap, ap₂, subst, cond, ◌⊎◌, ⊎_elim, eq-or-lt_of_le}
+use Rattle.std.proofs.Common.{All, pos, arith, refl, ◌∙◌, ap, ap₂, subst, cond, ◌⊎◌, ⊎_elim, eq-or-lt_of_le}
 use Rattle.std.specs.{Cmp.nat_cmp_total, FinMap.find, FinMap.get-from_entries, List.IsDistinct}
-use Rattle.std.specs.{List.AllByRecursion, Ordering.nat_cmp, Ordering.int_eq, Ordering.eq_by_cmp}
+use Rattle.std.specs.{List.AllByRecursion, Ordering.nat_cmp, Ordering.int_eq}
 use Rattle.std.proofs.lemmas.Bool.Decides.{nat_tests, Decides-int_eq}
 use Rattle.std.proofs.lemmas.List.Elements.{All-head, All-tail}
 use Rattle.vipr_spec.specs.Fraction.{ℚ, zero_ℚ, ◌+ℚ◌, ◌*ℚ◌}
@@ -36,10 +36,7 @@ IsAlike p ps j here kept = (p.0 == j) ≡ here → is_nonzero p ≡ kept
 alike : (p : ℕ × ℚ) (ps : List (ℕ × ℚ)) (j : ℕ) → Lacks p.0 ps
     → unwrap_or (find nat_cmp j (filter is_nonzero ps)) zero_ℚ ≡ short.point_of ps j
     → (here kept : Bool) → IsAlike p ps j here kept
-alike p ps j d h true true = λ e k. let tied : eq_by_cmp nat_cmp j p.0 ≡ true = grind (arith, nat_tests, e) in rw tied refl
-alike p ps j d h true false = λ e k. let same : p.0 ≡ j = grind (arith, nat_tests, e) in h ∙ ap (short.point_of ps) (sym same) ∙ absent p.0 ps d ∙ sym (is_zero p.1 k)
-alike p ps j d h false true = λ e k. let apart : eq_by_cmp nat_cmp j p.0 ≡ false = grind (arith, nat_tests, e) in rw apart h
-alike p ps j d h false false = λ e k. h
+alike p ps j d h here kept = grind (arith, nat_tests, absent, is_zero)
 
 looked_up : (ps : List (ℕ × ℚ)) → IsDistinct nat_eq (map (λ p. p.0) ps) → (j : ℕ)
     → unwrap_or (find nat_cmp j (filter is_nonzero ps)) zero_ℚ ≡ short.point_of ps j

@@ -1,6 +1,6 @@
 -- What a text spells, in the short shapes
 use Rattle.std.proofs.Common.{◌≡◌, ℕ, suc, ◌<◌, ◌≤◌, ◌⊎◌, Bool, if◌then◌else◌, true, false, List, [], ◌∷◌, ◌++◌, length}
-use Rattle.std.proofs.Common.{Option, Some, None, IfSome, All, codes, refl, sym, ◌∙◌}
+use Rattle.std.proofs.Common.{Option, Some, None, IfSome, All, codes, refl, sym, ◌∙◌, arith}
 use Rattle.std.proofs.Common.{ap, subst, inl, inr, append-nil, append_assoc, lit<}
 use Rattle.std.specs.{FinSet.from_list, List.AllZip, Str.Parse.IsNumeral, Str.Parse.digits_value}
 use Rattle.std.proofs.lemmas.List.{map-append}
@@ -22,9 +22,7 @@ use Rattle.vipr_spec.proofs.{GrammarSteps.bytes_of, ShortTokens.same_tokens}
 signed : (sign : List ℕ) (is_negative : Bool) (top : List ℕ) → IsSign sign is_negative
     → IsNumeral 10 top
     → short.Integer (sign ++ top) (signed_integer is_negative (digits_value 10 top))
-signed sign neg top (inl s) h = (top, digits_value 10 top, (h, refl), inl (inl (ap (λ l. l ++ top) s.0), ap (λ b. signed_integer b (digits_value 10 top)) s.1))
-signed sign neg top (inr (inl s)) h = (top, digits_value 10 top, (h, refl), inl (inr (ap (λ l. l ++ top) s.0), ap (λ b. signed_integer b (digits_value 10 top)) s.1))
-signed sign neg top (inr (inr s)) h = (top, digits_value 10 top, (h, refl), inr (ap (λ l. l ++ top) s.0, ap (λ b. signed_integer b (digits_value 10 top)) s.1))
+signed sign neg top k h = grind arith
 
 number_by : (bs : List ℕ) (x : ℚ) (s : SpellsNumber bs x) (bottom : Option (List ℕ))
     → bs ≡ s.sign ++ s.top ++ under bottom → IfSome bottom (IsNumeral 10)

@@ -1,8 +1,6 @@
 -- The tokens of a text without their offsets
 use Rattle.std.proofs.Common.{◌≡◌, ℕ, ◌+◌, Bool, true, false, not, ◌==◌, if◌then◌else◌, List, []}
-use Rattle.std.proofs.Common.{◌∷◌, ◌++◌, suc, take, arith, refl, sym, ◌∙◌, ap, ap₂, append-nil}
-use Rattle.std.proofs.Common.{append_assoc}
-use Rattle.std.specs.List.{prefix_len}
+use Rattle.std.proofs.Common.{◌∷◌, ◌++◌, arith, refl, sym, ◌∙◌, ap, ap₂, append-nil, append_assoc}
 use Rattle.vipr_spec.specs.Tokens.{Token, is_white, run, is_cut, token_here, tokens_from}
 use Rattle.vipr_spec.specs.Tokens.{tokens_after_front, text_tokens}
 use Rattle.vipr_spec.specs.Short as short
@@ -12,17 +10,12 @@ run_white : (b : ℕ) (bs : List ℕ) → is_white b ≡ true → run (b ∷ bs)
 run_white b bs e = rw e refl
 
 run_solid : (b : ℕ) (bs : List ℕ) → is_white b ≡ false → run (b ∷ bs) ≡ b ∷ run bs
-run_solid b bs e =
-    let n = prefix_len (λ b. not (is_white b)) bs in
-    let more : 1 + n ≡ suc n = omega arith in
-    let whole : run (b ∷ bs) ≡ take (1 + n) (b ∷ bs) = rw e refl in
-    whole ∙ ap (λ k. take k (b ∷ bs)) more
+run_solid b bs e = grind arith
 
 chosen : (x : Bool) (f : List Token → List (List ℕ)) (ts us : List Token) (xs ys : List (List ℕ))
     → (x ≡ true → f ts ≡ xs) → (x ≡ false → f us ≡ ys)
     → f (if x then ts else us) ≡ (if x then xs else ys)
-chosen true f ts us xs ys h k = h refl
-chosen false f ts us xs ys h k = k refl
+chosen x f ts us xs ys h k = grind arith
 
 -- the tokens from a place outside of a run, and from one within the run that began with a and w
 abbrev Outside : List ℕ → Type 0
@@ -54,8 +47,7 @@ both (b ∷ bs) = let h = both bs in (outside_next b bs h.0 h.1, within_next b b
 front_alike : (x : Bool) (ts us : List Token) (cs ds : List ℕ)
     → bytes_of ts ≡ short.tokens [] cs → bytes_of us ≡ short.tokens [] ds
     → bytes_of (if x then ts else us) ≡ short.tokens [] (if x then cs else ds)
-front_alike true ts us cs ds e h = e
-front_alike false ts us cs ds e h = h
+front_alike x ts us cs ds e h = grind arith
 
 same_front : (commented : Bool) (o : ℕ) (bs : List ℕ)
     → bytes_of (tokens_after_front false commented o bs)

@@ -46,10 +46,7 @@ module _ (P : Profile) (c : Certificate) (d : Condition) where
   IsNamed e = (e.0 < count c) × (e.1 ≢ zero_ℚ → IsTrue (is_live c (count c) e.0))
 
   reference_by : (e : ℕ × ℚ) (b : Bool) → ((b ≡ true) × (e.1 ≢ zero_ℚ)) ⊎ ((b ≡ false) × (e.1 ≡ zero_ℚ)) → ByRecursion T (if b then earlier e.0 ∷ live e.0 ∷ [] else earlier e.0 ∷ []) ↔ IsNamed e
-  reference_by e true (inl h) = (λ a. (a.0, λ n. a.1.0), λ n. (n.0, (n.1 h.1, tt)))
-  reference_by e true (inr h) = absurd (cc)
-  reference_by e false (inl h) = absurd (cc)
-  reference_by e false (inr h) = (λ a. (a.0, λ n. absurd (n h.1)), λ n. (n.0, tt))
+  reference_by e b h = grind arith
 
   reference : (e : ℕ × ℚ) → All T (reference_tests e) ↔ IsNamed e
   reference e = let r = reference_by e (is_nonzero e) (nonzero_or_zero e) in (λ a. r.0 (recursion_from_All T (reference_tests e) a), λ n. All-from_recursion T (reference_tests e) (r.1 n))

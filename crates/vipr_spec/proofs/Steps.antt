@@ -3,12 +3,12 @@ use Rattle.std.proofs.Common.{◌≡◌, ℕ, ◌<◌, ◌≤◌, List, [], ◌�
 use Rattle.std.proofs.Common.{Some, None, All, arith, refl, sym, ◌∙◌, ap, subst, ⊎_elim, inl, inr}
 use Rattle.std.proofs.{lemmas.Bool.cases_lt, lemmas.List.Elements.All-contains}
 use Rattle.std.specs.Prelude.{◌↔◌}
-use Rattle.vipr_spec.specs.{ℚ, Profile, Condition, condition, IsTrueAt, variables, Reason, asm, lin}
+use Rattle.vipr_spec.specs.{ℚ, Profile, Condition, condition, Reason, asm, lin}
 use Rattle.vipr_spec.specs.{rnd, uns, sol, Derivation, Known, constraint_at, reason_at, RestsOn}
 use Rattle.vipr_spec.specs.{itself, brought, count, NamesEarlier, RefersTo, IsGoodStep}
 use Rattle.vipr_spec.specs.{HasGoodSteps, FollowsBy, with_more, with_next, before, StepTest}
 use Rattle.vipr_spec.specs.{PassesStep, step_tests, FirstFailing, IsGoodNext, PassesSteps}
-use Rattle.vipr_spec.specs.{RefersBack, SomeRestsOn, RestsBy, IsTrueOf, IsSound}
+use Rattle.vipr_spec.specs.{RefersBack, SomeRestsOn, RestsBy, IsSound}
 use Rattle.vipr_spec.specs.Certificate.{Certificate}
 use Rattle.vipr_spec.proofs.Prefix.{known_before, known_next, reason_next, reason_given, is_derived}
 use Rattle.vipr_spec.proofs.Prefix.{count_next, before_count, before_stays, before_more, known_in}
@@ -26,15 +26,13 @@ same_type e = (λ a. subst (λ X. X) e a, λ b. subst (λ X. X) (sym e) b)
 
 pub tests_stay : (P : Profile) (c : Certificate) (ds : List Derivation) (k : ℕ) (r : Reason)
     (f : Option StepTest) → k < count c → Fails P (with_more c ds) k r f ↔ Fails P c k r f
-tests_stay P c ds k r f h = same_type (ap (λ s. FirstFailing (PassesStep P s (constraint_at (with_more c ds) k)) (step_tests r) f) (before_stays c ds k (omega arith))
-    ∙ ap (λ (x : Known). FirstFailing (PassesStep P (before c k) x.stated) (step_tests r) f) (known_before c ds k h))
+tests_stay P c ds k r f h = grind (arith, same_type, before_stays, known_before)
 
 pub tests_next : (P : Profile) (c : Certificate) (d : Derivation) (ds : List Derivation)
     (f : Option StepTest)
     → Fails P (with_more c (d ∷ ds)) (count c) d.reason f
     ↔ FirstFailing (PassesStep P c (condition d.stated)) (step_tests d.reason) f
-tests_next P c d ds f = same_type (ap (λ s. FirstFailing (PassesStep P s (constraint_at (with_more c (d ∷ ds)) (count c))) (step_tests d.reason) f) (before_more c (d ∷ ds))
-    ∙ ap (λ (x : Known). FirstFailing (PassesStep P c x.stated) (step_tests d.reason) f) (known_next c d ds))
+tests_next P c d ds f = grind (arith, same_type, before_more, known_next)
 
 -- ---- a step of a longer certificate, and of the whole one
 -- the same of two certificates in which the same is known of the constraints before it, and it
@@ -164,11 +162,7 @@ sound_given c i h = sound_none c i (reason_given c i h)
 
 pub sound_before : (c : Certificate) (ds : List Derivation) (i : ℕ) → RefersBack c → i < count c
     → IsSound c i → IsSound (with_more c ds) i
-sound_before c ds i back h s x admitted given =
-    let true_at : (k : ℕ) → k < count c → IsTrueOf (with_more c ds) k x ≡ IsTrueOf c k x = λ k l. ap (λ (y : Known). IsTrueAt (variables c.problem) y.stated x) (known_before c ds k l) in
-    subst (λ X. X) (sym (true_at i h)) (s x (record { feasible = admitted.feasible; unbeaten = admitted.unbeaten }) (λ a r.
-    let l : a ≤ i = rests_below c back i a r in
-    subst (λ X. X) (true_at a (omega arith)) (given a ((rests_more c ds back i a h).1 r))))
+sound_before c ds i back h s x admitted given = grind (arith, known_before, rests_below, rests_more)
 
 -- the next derivation is sound where those are that it refers to
 pub sound_next : (P : Profile) (c : Certificate) (d : Derivation) → RefersBack c

@@ -10,9 +10,9 @@ use Rattle.vipr_spec.specs.{ℚ, Profile, Condition, Problem, Claim, infeasible,
 use Rattle.vipr_spec.specs.{MeetsDual, constraint_at, Reason, asm, lin, rnd, uns, sol, Derivation}
 use Rattle.vipr_spec.specs.{reason_at, NamesEarlier, RefersTo, is_live, NeedsGoal, count}
 use Rattle.vipr_spec.specs.{ProvesDual, IsProof, GoalIs, IsNeeded, the_goal, referred_to}
-use Rattle.vipr_spec.specs.{RefersBack, is_kept, kept_of, new_index, renumbered_entries}
+use Rattle.vipr_spec.specs.{RefersBack, is_kept, new_index, renumbered_entries}
 use Rattle.vipr_spec.specs.{renumbered_reason, renumbered_at, with_new_indices}
-use Rattle.vipr_spec.specs.{with_last_references, tightened_certificate, new_goal, IsNeededFor}
+use Rattle.vipr_spec.specs.{tightened_certificate, new_goal, IsNeededFor}
 use Rattle.vipr_spec.specs.{is_nonzero, Certificate.Certificate}
 use Rattle.vipr_spec.proofs.Kept.{index_mono, index_same, kept_all}
 use Rattle.vipr_spec.proofs.SmallerSums.{filter_yes, filter_no}
@@ -77,11 +77,7 @@ needed_new c g back i (referred_to {k = k} n r h) =
 pub tight_needed : (c : Certificate) (goal : Option ℕ) → RefersBack c → (p : ℕ)
     → length c.problem.constraints ≤ p → p < count (tightened_certificate c goal)
     → IsNeededFor (tightened_certificate c goal) (new_goal c goal) p
-tight_needed c None back p h l =
-    let o = old_of c (is_kept c None) (kept_given c None) p l in
-    let e = o.3 in
-    let low = old_derived c (is_kept c None) (kept_given c None) o.0 (omega arith) in
-    absurd (both_ways _ (none_marked (length c.problem.constraints) c.derivations o.0) (kept_derived c None o.0 low o.2))
+tight_needed c None back p h l = grind (arith, old_of, kept_given, old_derived, both_ways, none_marked, kept_derived)
 tight_needed c (Some g) back p h l =
     let o = old_of c (is_kept c (Some g)) (kept_given c (Some g)) p l in
     let e = o.3 in
@@ -194,14 +190,7 @@ module _ (c : Certificate) (goal : Option ℕ) (back : RefersBack c) (again : Re
       same_reason (new_index (is_kept (tightened_certificate c goal) (new_goal c goal))) (length c.problem.constraints + j) (λ i l. stays i (omega arith)) r (reason_early j r e) (reason_full j r h e)
 
   pub tight_again : tightened_certificate (tightened_certificate c goal) (new_goal c goal) ≡ tightened_certificate c goal
-  tight_again =
-      let m = length c.problem.constraints in
-      let t = tightened_certificate c goal in
-      let keep = is_kept t (new_goal c goal) in
-      ap (λ ds. record c { derivations = ds })
-      (ap (λ (l : List Derivation). with_last_references m (map (with_new_indices (new_index keep)) l)) (kept_all keep m t.derivations (λ i a b. all_stay i b))
-      ∙ ap (with_last_references m) (same_derivations (new_index keep) t.derivations reason_stays)
-      ∙ with_again m (map (with_new_indices (new_index (is_kept c goal))) (kept_of (is_kept c goal) m c.derivations)))
+  tight_again = grind (arith, kept_all, all_stay, same_derivations, reason_stays, with_again)
 
 pub tight_back : (c : Certificate) (goal : Option ℕ) → RefersBack c
     → RefersBack (tightened_certificate c goal)

@@ -7,7 +7,6 @@ use Rattle.std.proofs.lemmas.List.Elements.{All-head, All-tail, All-cons, All-ni
 use Rattle.std.proofs.lemmas.List.Elements.{All-weaker, All-filter}
 use Rattle.std.proofs.lemmas.List.Sums.{length-filter, count_by-le-length}
 use Rattle.std.proofs.{lemmas.Bool.cond_both, lemmas.List.length-map}
-use Rattle.std.specs.List.{count_by}
 use Rattle.vipr_spec.specs.{ℚ, is_nonzero, most_count, ReasonShape, DerivationShape, EntryFits}
 use Rattle.vipr_spec.specs.{ReasonFits, DerivationFits, CanWrite, variables, Reason, asm, lin, rnd}
 use Rattle.vipr_spec.specs.{uns, sol, Derivation, count, is_kept, kept_of, new_index}
@@ -55,13 +54,7 @@ All-with P n k (d ∷ ds) h a =
 
 count_kept : (c : Certificate) (goal : Option ℕ)
     → count (tightened_certificate c goal) ≡ new_index (is_kept c goal) (count c)
-count_kept c goal =
-    let m = length c.problem.constraints in
-    let keep = is_kept c goal in
-    let few : length (tightened_certificate c goal).derivations + new_index keep m ≡ new_index keep (count c) =
-    length_kept_derivations keep m c.derivations in
-    let first : new_index keep m ≡ m = index_same keep m (kept_given c goal) m (omega arith) in
-    omega arith
+count_kept c goal = grind (arith, length_kept_derivations, index_same, kept_given)
 
 limits_stay : (c : Certificate) (goal : Option ℕ) (P : Derivation → Type 0)
     → ((d : Derivation) (new : ℕ → ℕ) (l : Option ℕ) → ((i : ℕ) → new i ≤ i)
@@ -87,12 +80,7 @@ limits_stay c goal P stays a =
 -- ---- the limits of the format
 
 fewer : (new : ℕ → ℕ) (es : List (ℕ × ℚ)) → length (renumbered_entries new es) ≤ length es
-fewer new es =
-    let a : length (renumbered_entries new es) ≡ length (filter is_nonzero es) =
-    length-map (filter is_nonzero es) (λ (e : ℕ × ℚ). (new e.0, e.1)) in
-    let b : length (filter is_nonzero es) ≡ count_by is_nonzero es = length-filter is_nonzero es in
-    let c = count_by-le-length is_nonzero es in
-    omega arith
+fewer new es = grind (arith, length-map, length-filter, count_by-le-length)
 
 shape_stays : (new : ℕ → ℕ) (r : Reason) → ReasonShape r → ReasonShape (renumbered_reason new r)
 shape_stays new asm h = tt
@@ -113,8 +101,7 @@ reason_fits : (new : ℕ → ℕ) → ((i : ℕ) → new i ≤ i) → (r : Reaso
 reason_fits new low asm h = tt
 reason_fits new low (lin es) h = entries_fit new low es h
 reason_fits new low (rnd es) h = entries_fit new low es h
-reason_fits new low (uns i1 l1 i2 l2) h =
-    (le_trans (low i1) h.0, le_trans (low l1) h.1, le_trans (low i2) h.2, le_trans (low l2) h.3)
+reason_fits new low (uns i1 l1 i2 l2) h = grind (arith, le_trans)
 reason_fits new low sol h = tt
 
 below_most : (n : ℕ) → n ≤ most_count → (o : Option ℕ) → IfSome o (λ i. i < n)

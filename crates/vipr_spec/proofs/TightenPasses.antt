@@ -7,7 +7,8 @@ use Rattle.std.proofs.Common.{append-nil}
 use Rattle.std.proofs.lemmas.List.{take_more, drop_more, map_push, length-take-le, length-map}
 use Rattle.std.specs.{FinMap.empty, List.list_any}
 use Rattle.std.proofs.lemmas.List.Folds.{list_any_none}
-use Rattle.std.proofs.lemmas.List.Elements.{All-head, All-tail, All-weaker, All-filter}
+use Rattle.std.proofs.lemmas.List.Elements.{All-head, All-tail, All-filter}
+use Rattle.std.proofs.lemmas.Grind.{common_steps}
 use Rattle.vipr_spec.specs.{ℚ, zero_ℚ, is_nonzero, NamesEarlier, equal, Reason, asm, lin, rnd, uns}
 use Rattle.vipr_spec.specs.{sol, Derivation, refers_to, is_the_goal, is_marked, renumbered_reason}
 use Rattle.vipr_spec.specs.{kept_of, new_index, with_new_indices, or_else, last_reference}
@@ -71,12 +72,7 @@ with_more_references k (e ∷ ds) d =
 kept_and : (keep : ℕ → Bool) (m j : ℕ) (ds : List Derivation) (d : Derivation) → j < length ds
     → kept_of keep m (take (j + 1) ds) ≡ kept_of keep m (take j ds)
     ++ cond (keep (m + j)) (slice_index_or ds j d ∷ []) []
-kept_and keep m j ds d h =
-    let size : length (take j ds) ≡ j = length-take-le j ds (omega arith) in
-    ap (kept_of keep m) (take_more ds j d h) ∙ kept_more keep m (take j ds) (slice_index_or ds j d)
-    ∙ ap
-    (λ n. kept_of keep m (take j ds) ++ cond (keep (m + n)) (slice_index_or ds j d ∷ []) [])
-    size
+kept_and keep m j ds d h = grind (arith, common_steps, length-take-le, take_more, kept_more)
 
 pub next_left_out : (keep : ℕ → Bool) (m j : ℕ) (ds : List Derivation) → j < length ds
     → keep (m + j) ≡ false
@@ -146,21 +142,14 @@ apart i n h = by (nat_eq i n) refl
 
 unnamed : (k i : ℕ) (es : List (ℕ × ℚ)) → k ≤ i → All (λ e. e.0 < k) es
     → list_any (λ e. nat_eq i e.0 && is_nonzero e) es ≡ false
-unnamed k i es h a =
-    list_any_none (λ (e : ℕ × ℚ). nat_eq i e.0 && is_nonzero e) es
-    (All-weaker (λ (e : ℕ × ℚ). e.0 < k) (λ e. (nat_eq i e.0 && is_nonzero e) ≡ false)
-    (λ e l. ap (λ b. b && is_nonzero e) (apart i e.0 (omega arith))) es a)
+unnamed k i es h a = grind (arith, list_any_none, apart)
 
 not_referred : (k : ℕ) (r : Reason) (i : ℕ) → NamesEarlier k (Some r) → k ≤ i
     → refers_to r i ≡ false
 not_referred k asm i n h = refl
 not_referred k (lin es) i n h = unnamed k i es h n
 not_referred k (rnd es) i n h = unnamed k i es h n
-not_referred k (uns i1 l1 i2 l2) i n h =
-    ap₂ (λ a b. a || (b || (nat_eq i i2 || nat_eq i l2))) (apart i i1 (let l = n.0 in omega arith))
-    (apart i l1 (let l = n.1 in omega arith))
-    ∙ ap₂ (λ a b. a || b) (apart i i2 (let l = n.2 in omega arith))
-    (apart i l2 (let l = n.3 in omega arith))
+not_referred k (uns i1 l1 i2 l2) i n h = grind (arith, apart)
 not_referred k sol i n h = refl
 
 -- nothing past the derivations but the goal
@@ -207,7 +196,5 @@ renumbered_alike f g k same (lin es) n =
 renumbered_alike f g k same (rnd es) n =
     ap rnd (pairs_alike f g k same (filter is_nonzero es)
     (All-filter is_nonzero (λ (e : ℕ × ℚ). e.0 < k) es n))
-renumbered_alike f g k same (uns i1 l1 i2 l2) n =
-    ap₂ (λ a b. uns a b (f i2) (f l2)) (same i1 n.0) (same l1 n.1)
-    ∙ ap₂ (λ a b. uns (g i1) (g l1) a b) (same i2 n.2) (same l2 n.3)
+renumbered_alike f g k same (uns i1 l1 i2 l2) n = grind arith
 renumbered_alike f g k same sol n = refl

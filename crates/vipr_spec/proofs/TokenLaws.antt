@@ -7,6 +7,7 @@ use Rattle.std.proofs.lemmas.List.Sums.{prefix_len_is, prefix_len_stops, prefix_
 use Rattle.std.proofs.lemmas.Bool.{cases_lt, cases_eq, false≢true, ne_eqb, eq-eqb, le-leb, leb-true}
 use Rattle.std.proofs.lemmas.Bool.{false_from_ne_true}
 use Rattle.std.proofs.lemmas.List.{length-take-le, take-take, drop_all, take_all}
+use Rattle.std.proofs.lemmas.Grind.{common_steps}
 use Rattle.vipr_spec.specs.{Token, is_white, run, is_cut, token_here, tokens_from}
 
 -- from inside a run, the tokens are those behind it
@@ -17,8 +18,7 @@ pub inside_run : (fails : Bool) (offset : ℕ) (xs : List ℕ) (n : ℕ) → n �
 unfolding tokens_from
 inside_run fails offset [] zero within solid white = refl
 inside_run fails offset [] (suc n) within solid white = refl
-inside_run fails offset (x ∷ xs) zero within solid white =
-    let w : is_white x ≡ true = white (omega arith) in rw (w, add-zero) refl
+inside_run fails offset (x ∷ xs) zero within solid white = grind (arith, add-zero)
 inside_run fails offset (x ∷ xs) (suc n) within solid white =
     let s : is_white x ≡ false = solid 0 (omega arith) in
     let e : offset + suc n ≡ offset + 1 + n = omega arith in
@@ -29,8 +29,7 @@ pub run_is : (xs : List ℕ) (n : ℕ) → n ≤ length xs →
     ((k : ℕ) → k < n → is_white (get_or xs k 0) ≡ false)
     → (n < length xs → is_white (get_or xs n 0) ≡ true) →
     run xs ≡ take n xs
-run_is xs n within solid white =
-    ap (λ (k : ℕ). take k xs) (prefix_len_is (λ b. not (is_white b)) xs n 0 within (λ k h. ap not (solid k h)) (λ h. ap not (white h)))
+run_is xs n within solid white = grind (arith, common_steps, prefix_len_is)
 
 -- a run is at least so long
 pub run_from : (xs : List ℕ) (n : ℕ) → n ≤ length xs →
@@ -55,13 +54,7 @@ pub token_first : (fails : Bool) (offset : ℕ) (xs : List ℕ) (n : ℕ) → 0 
     tokens_from fails false offset xs ≡ token_here fails offset xs
     ++ tokens_from fails false (offset + n) (drop n xs)
 unfolding tokens_from
-token_first fails offset xs zero some within solid white = absurd (omega arith)
-token_first fails offset [] (suc n) some within solid white = absurd (omega arith)
-token_first fails offset (x ∷ xs) (suc n) some within solid white =
-    let s : is_white x ≡ false = solid 0 (omega arith) in
-    let e : offset + suc n ≡ offset + 1 + n = omega arith in
-    rw (s, e) (ap (λ (ws : List Token). token_here fails offset (x ∷ xs) ++ ws)
-    (inside_run fails (offset + 1) xs n (omega arith) (λ k h. solid (suc k) (omega arith)) (λ h. white (omega arith))))
+token_first fails offset xs n h within solid white = grind (arith, inside_run)
 
 -- what begins with a token that ends before the text does, or at its end
 pub token_whole : (fails : Bool) (offset : ℕ) (xs : List ℕ) (n : ℕ) → 0 < n → n ≤ length xs →

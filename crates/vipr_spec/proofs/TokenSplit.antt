@@ -1,5 +1,5 @@
 -- The tokens of a text are the one list that it is made up of.
-use Rattle.std.proofs.Common.{◌≡◌, ◌≢◌, ℕ, ◌+◌, ◌-◌, ◌<◌, ◌≤◌, ◌⊎◌, Bool, true, false, not, nat_eq}
+use Rattle.std.proofs.Common.{◌≡◌, ◌≢◌, ℕ, ◌+◌, ◌<◌, ◌≤◌, ◌⊎◌, Bool, true, false, nat_eq}
 use Rattle.std.proofs.Common.{List, [], ◌∷◌, ◌++◌, length, take, drop, get_or, suc, refl, sym, ap}
 use Rattle.std.proofs.Common.{subst, ◌∙◌, inl, inr, arith, append_assoc, add-zero, zero-add}
 use Rattle.std.proofs.lemmas.List.Elements.{All-nil, All-cons}
@@ -28,11 +28,7 @@ skip_white offset (b ∷ bs) xs white =
 
 pub first_white : (bytes after : List ℕ) → Begins IsWhite after → length bytes < length (bytes ++ after)
     → is_white (get_or (bytes ++ after) (length bytes) 0) ≡ true
-first_white bytes [] begins lt = absurd (omega (arith, length-append bytes []))
-first_white bytes (b ∷ bs) begins lt =
-    let le : length bytes ≤ length bytes = omega arith in
-    let z : length bytes - length bytes ≡ 0 = omega arith in
-    rw (get_or-append_right bytes (b ∷ bs) (length bytes) 0 le, z) begins
+first_white bytes after begins lt = grind (arith, length-append, get_or-append_right)
 
 spread_one : (offset : ℕ) (text : List ℕ) (ts : List Token) → AreSpread offset text ts
     → ts ≡ tokens_from false false offset text
@@ -57,9 +53,7 @@ white_not_percent b w = elim (cases_eq b 37) [ inl h ↦ absurd (false≢true (r
 stays : (offset b : ℕ) (bs : List ℕ) → b ≢ 10
     → tokens_after_front false true offset (b ∷ bs) ≡ tokens_after_front false true (offset + 1) bs
 unfolding tokens_after_front
-stays offset b bs other =
-    let e : tokens_after_front false true offset (b ∷ bs) ≡ tokens_after_front false (not (nat_eq b 10)) (offset + 1) bs = refl in
-    e ∙ ap (λ (l : Bool). tokens_after_front false (not l) (offset + 1) bs) (ne_eqb b 10 other)
+stays offset b bs other = grind (arith, ne_eqb)
 
 in_comment : (offset : ℕ) (bytes xs : List ℕ) → IsComment bytes
     → tokens_after_front false true offset (bytes ++ 10 ∷ xs)
@@ -80,10 +74,7 @@ skip_blank : (offset : ℕ) (piece xs : List ℕ) → IsBlank piece
     → tokens_after_front false false offset (piece ++ xs)
     ≡ tokens_after_front false false (offset + length piece) xs
 unfolding tokens_after_front
-skip_blank offset piece xs (inl (b, white, is)) = rw (is, white_not_percent b white, white) refl
-skip_blank offset piece xs (inr (bytes, free, is)) =
-    let e : offset + length (37 ∷ (bytes ++ 10 ∷ [])) ≡ offset + 1 + length bytes + 1 = omega (arith, length-append bytes (10 ∷ [])) in
-    rw (is, e, append_assoc) (in_comment (offset + 1) bytes xs free)
+skip_blank offset piece xs h = grind (arith, white_not_percent, length-append, append_assoc, in_comment)
 
 skip_blanks : (offset : ℕ) (blanks : List (List ℕ)) (xs : List ℕ) → All IsBlank blanks →
     tokens_after_front false false offset (concat blanks ++ xs)
@@ -98,28 +89,17 @@ skip_blanks offset (p ∷ ps) xs blank =
 after_front : (offset : ℕ) (rest : List ℕ) → Begins (λ b. (is_white b ≡ false) × (b ≢ 37)) rest
     → tokens_after_front false false offset rest ≡ tokens_from false false offset rest
 unfolding tokens_after_front tokens_from
-after_front offset [] begins = refl
-after_front offset (b ∷ bs) begins = rw (ne_eqb b 37 begins.1, begins.0) refl
+after_front offset rest begins = grind (arith, ne_eqb)
 
 ended : (offset : ℕ) (ending rest : List ℕ) (ts : List Token) → IsFrontEnd ending rest
     → Begins (λ b. (is_white b ≡ false) × (b ≢ 37)) rest →
     AreSpread (offset + length ending) rest ts
     → ts ≡ tokens_after_front false false offset (ending ++ rest)
 unfolding tokens_after_front tokens_from
-ended offset ending rest ts (inl is) begins spread =
-    let e : offset + 0 ≡ offset = add-zero offset in
-    rw is (rw (after_front offset rest begins) (spread_one offset rest ts (rw (is, e) at spread)))
-ended offset ending rest ts (inr (bytes, free, is, over)) begins spread =
-    let n : tokens_after_front false true (offset + 1) (bytes ++ []) ≡ [] = ap (λ (xs : List ℕ). tokens_after_front false true (offset + 1) xs) (append-nil bytes) ∙ open_comment (offset + 1) bytes free in
-    let none : ts ≡ [] = rw over at (spread_one (offset + length ending) rest ts spread) in
-    rw (is, over) (none ∙ sym n)
+ended offset ending rest ts h begins spread = grind (arith, add-zero, after_front, spread_one, append-nil, open_comment)
 
 pub split_one : (text : List ℕ) (ts : List Token) → AreTokens text ts → ts ≡ text_tokens text
-split_one text ts (front, rest, is, f, spread) =
-    let e : length front ≡ 0 + length (concat f.blanks) + length f.ending = omega (arith, ap length f.joined, length-append (concat f.blanks) f.ending) in
-    let a : front ++ rest ≡ concat f.blanks ++ (f.ending ++ rest) = ap (λ (xs : List ℕ). xs ++ rest) f.joined ∙ append_assoc (concat f.blanks) f.ending rest in
-    rw (is, a, skip_blanks 0 f.blanks (f.ending ++ rest) f.are_blank)
-    (ended (0 + length (concat f.blanks)) f.ending rest ts f.ends f.longest (rw e at spread))
+split_one text ts (front, rest, is, f, spread) = grind (arith, length-append, append_assoc, skip_blanks, ended)
 
 -- ---- this list
 
@@ -166,10 +146,7 @@ step : (offset b : ℕ) (bs : List ℕ) (w : Bool) → is_white b ≡ w →
     AreSpread offset (b ∷ bs) (tokens_from false false offset (b ∷ bs))
     × Inside offset (b ∷ bs) (tokens_from false true offset (b ∷ bs))
 unfolding AreSpread
-step offset b bs true w r =
-    let a : AreSpread offset (b ∷ bs) (tokens_from false false (offset + 1) bs) = extend_white offset b bs _ w r.0 in
-    let z : AreSpread (offset + 0) (b ∷ bs) (tokens_from false false (offset + 1) bs) = rw (add-zero offset) a in
-    rw (first_is_white false offset b bs w, first_is_white true offset b bs w) (a, ([], b ∷ bs, refl, All-nil (λ b. is_white b ≡ false), w, z))
+step offset b bs true w r = grind (arith, extend_white, add-zero, first_is_white)
 step offset b bs false w (spread, (word, after, is, solid, begins, more)) =
     let e : offset + 1 + length word ≡ offset + length (b ∷ word) = omega arith in
     let more' : AreSpread (offset + length (b ∷ word)) after (tokens_from false true (offset + 1) bs) =
@@ -235,25 +212,14 @@ front_step offset b bs true w is_p is_w front comment =
     let e : b ≡ 37 = eqb-true b 37 is_p in
     rw e (commented offset bs _ comment)
 front_step offset b bs false true is_p is_w front comment = rw (is_p, is_w) (more_front offset (b ∷ []) bs _ (inl (b, is_w, refl)) front)
-front_step offset b bs false false is_p is_w front comment =
-    let z : offset ≡ offset + 0 = sym (add-zero offset) in
-    rw (is_p, is_w) (
-      [],
-      b ∷ bs,
-      refl,
-      record { blanks = []; ending = []; joined = refl; are_blank = All-nil IsBlank; ends = inl refl; longest = (is_w, eqb-false b 37 is_p) },
-      subst (λ (o : ℕ). AreSpread o (b ∷ bs) (tokens_from false false offset (b ∷ bs))) z (spread_is (b ∷ bs) offset).0,
-    )
+front_step offset b bs false false is_p is_w front comment = grind (arith, add-zero, eqb-false, spread_is)
 
 comment_step : (offset b : ℕ) (bs : List ℕ) (l : Bool) → nat_eq b 10 ≡ l →
     FrontAt (offset + 1) bs (tokens_after_front false false (offset + 1) bs)
     → CommentAt (offset + 1) bs (tokens_after_front false true (offset + 1) bs) →
     CommentAt offset (b ∷ bs) (tokens_after_front false true offset (b ∷ bs))
 unfolding tokens_after_front
-comment_step offset b bs true is_l front comment =
-    let e : b ≡ 10 = eqb-true b 10 is_l in
-    let z : offset + 1 ≡ offset + 0 + 1 = omega arith in
-    rw e ([], All-nil (λ b. b ≢ 10), inr (bs, refl, subst (λ (o : ℕ). FrontAt o bs (tokens_after_front false false (offset + 1) bs)) z front))
+comment_step offset b bs true is_l front comment = grind (arith, eqb-true)
 comment_step offset b bs false is_l front (bytes, free, inl (is, none)) =
     rw is_l (b ∷ bytes, All-cons (λ b. b ≢ 10) b bytes (eqb-false b 10 is_l) free, inl (ap (λ (xs : List ℕ). b ∷ xs) is, none))
 comment_step offset b bs false is_l front (bytes, free, inr (rest, is, more)) =

@@ -9,7 +9,7 @@ use Rattle.vipr_spec.specs.{Rest, Fault, ◌>>=◌, problem_read, solution_read,
 use Rattle.vipr_spec.specs.{derivation_read, end_read, with_more, with_next, StepTest, PassesStep}
 use Rattle.vipr_spec.specs.{step_tests, FirstFailing, SolutionTest, PassesSolution, solution_tests}
 use Rattle.vipr_spec.specs.{of_solution, Test, spelled, meets_primal, of_step, meets_dual, Passes}
-use Rattle.vipr_spec.specs.{numbered_tests, tests_of_solution, tests_of_derivation, before_items}
+use Rattle.vipr_spec.specs.{numbered_tests, tests_of_solution, tests_of_derivation}
 use Rattle.vipr_spec.specs.{items_read, Found, last_tests, derivations_found, ending_found}
 use Rattle.vipr_spec.specs.{problem_found, found_in, Answer, IsAnswerOfTest, derivations_from}
 use Rattle.vipr_spec.specs.{solutions_from, Certificate.Certificate}
@@ -37,9 +37,7 @@ pub derivation_next : (c : Certificate) (n : ℕ) (r : Rest) (d : Derivation) (s
           ++ last_tests (items.1 >>= end_read));
     })
 unfolding items_read numbered_tests
-derivation_next c n r d s e =
-    ap (λ x. let items = before_items (items_read (derivation_read c.problem) n) x in record { certificate = with_more c items.0; tests = numbered_tests tests_of_derivation (count c) items.0 ++ last_tests (items.1 >>= end_read) }) e
-    ∙ (let items = items_read (derivation_read c.problem) n s in ap (λ ts. record { certificate = with_more c (d ∷ items.0); tests = ts }) (append_assoc (tests_of_derivation (count c) d) _ _))
+derivation_next c n r d s e = grind (arith, append_assoc)
 
 pub derivation_then : (c : Certificate) (n : ℕ) (d : Derivation) (s : Rest)
     → (let items = items_read (derivation_read c.problem) n s in record {
@@ -47,9 +45,7 @@ pub derivation_then : (c : Certificate) (n : ℕ) (d : Derivation) (s : Rest)
       tests = numbered_tests tests_of_derivation (suc (count c)) items.0
           ++ last_tests (items.1 >>= end_read);
     }) ≡ derivations_from (with_next c d) n s
-derivation_then c n d s =
-    let items = items_read (derivation_read c.problem) n s in
-    ap₂ (λ x k. record { certificate = x; tests = numbered_tests tests_of_derivation k items.0 ++ last_tests (items.1 >>= end_read) }) (sym (more_next c d items.0)) (let e = count_next c d in omega arith)
+derivation_then c n d s = grind (arith, more_next, count_next)
 
 pub at_the_end : (c : Certificate) (r : Rest)
     → derivations_from c 0 r ≡ record { certificate = c; tests = last_tests (end_read r) }
@@ -65,13 +61,7 @@ pub solution_next : (p : Problem) (ss : List (Named Row)) (n : ℕ) (r : Rest) (
           ++ (numbered_tests (tests_of_solution p) (suc (length ss)) items.0 ++ ending.1);
     })
 unfolding items_read numbered_tests
-solution_next p ss n r s t e =
-    ap (λ x. let items = before_items (items_read (solution_read p) n) x in let ending = ending_found p items.1 in record {
-      certificate = record { problem = p; solutions = ss ++ items.0; derivations = ending.0 };
-      tests = numbered_tests (tests_of_solution p) (length ss) items.0 ++ ending.1;
-    }) e
-    ∙ (let items = items_read (solution_read p) n t in let ending = ending_found p items.1 in
-    ap (λ ts. record { certificate = record { problem = p; solutions = ss ++ s ∷ items.0; derivations = ending.0 }; tests = ts }) (append_assoc (tests_of_solution p (length ss) s) _ _))
+solution_next p ss n r s t e = grind (arith, append_assoc)
 
 pub solution_then : (p : Problem) (ss : List (Named Row)) (n : ℕ) (s : Named Row) (t : Rest)
     → (let items = items_read (solution_read p) n t in let ending = ending_found p items.1 in
@@ -79,10 +69,7 @@ pub solution_then : (p : Problem) (ss : List (Named Row)) (n : ℕ) (s : Named R
       certificate = record { problem = p; solutions = ss ++ s ∷ items.0; derivations = ending.0 };
       tests = numbered_tests (tests_of_solution p) (suc (length ss)) items.0 ++ ending.1;
     }) ≡ solutions_from p (ss ++ s ∷ []) n t
-solution_then p ss n s t =
-    let items = items_read (solution_read p) n t in let ending = ending_found p items.1 in
-    ap₂ (λ l k. record { certificate = record { problem = p; solutions = l; derivations = ending.0 }; tests = numbered_tests (tests_of_solution p) k items.0 ++ ending.1 })
-    (sym (append_assoc ss (s ∷ []) items.0)) (let e = length-append ss (s ∷ []) in omega arith)
+solution_then p ss n s t = grind (arith, append_assoc, length-append)
 
 pub no_more_solutions : (p : Problem) (ss : List (Named Row)) (r : Rest)
     (x : Result (ℕ × Rest) Fault) → derivations_read p r ≡ x
@@ -152,9 +139,7 @@ module _ (P : Profile) (Q : Certificate → Option Test → Type 0) where
 
   pub derivation_fault : (c : Certificate) (n : ℕ) (r : Rest) (f : Fault) → derivation_read c.problem r ≡ Err f → Says (derivations_from c (suc n) r) ↔ Q (derivations_from c (suc n) r).certificate (Some (spelled f))
   unfolding items_read numbered_tests
-  derivation_fault c n r f e =
-      moved_first _ _ _ (ap (λ x. let items = before_items (items_read (derivation_read c.problem) n) x in record { certificate = with_more c items.0; tests = numbered_tests tests_of_derivation (count c) items.0 ++ last_tests (items.1 >>= end_read) }) e)
-      (failed_now (with_more c []) [] (spelled f) (λ h. h))
+  derivation_fault c n r f e = grind (arith, moved_first, failed_now)
 
   -- ---- the end
 
@@ -173,11 +158,7 @@ module _ (P : Profile) (Q : Certificate → Option Test → Type 0) where
 
   pub solution_fault : (p : Problem) (ss : List (Named Row)) (n : ℕ) (r : Rest) (f : Fault) → solution_read p r ≡ Err f → Says (solutions_from p ss (suc n) r) ↔ Q (solutions_from p ss (suc n) r).certificate (Some (spelled f))
   unfolding items_read numbered_tests
-  solution_fault p ss n r f e =
-      moved_first _ _ _ (ap (λ x. let items = before_items (items_read (solution_read p) n) x in let ending = ending_found p items.1 in record {
-        certificate = record { problem = p; solutions = ss ++ items.0; derivations = ending.0 };
-        tests = numbered_tests (tests_of_solution p) (length ss) items.0 ++ ending.1;
-      }) e) (failed_now _ [] (spelled f) (λ h. h))
+  solution_fault p ss n r f e = grind (arith, moved_first, failed_now)
 
   pub solution_passes : (p : Problem) (ss : List (Named Row)) (n : ℕ) (r : Rest) (s : Named Row) (t : Rest) → solution_read p r ≡ Ok (s, t) → FirstFailing (PassesSolution p s.item) (solution_tests p) None
       → Says (solutions_from p ss (suc n) r) ↔ Says (solutions_from p (ss ++ s ∷ []) n t)
@@ -202,9 +183,7 @@ module _ (P : Profile) (Q : Certificate → Option Test → Type 0) where
   solutions_unmet p ss r n = moved_first _ _ _ (no_more_solutions p ss r (derivations_read p r) refl) (failed_now _ _ meets_primal n)
 
   pub derivations_fault : (p : Problem) (ss : List (Named Row)) (r : Rest) (f : Fault) → MeetsPrimal p ss p.claim → derivations_read p r ≡ Err f → Says (solutions_from p ss 0 r) ↔ Q (solutions_from p ss 0 r).certificate (Some (spelled f))
-  derivations_fault p ss r f m e =
-      moved_first _ _ _ (no_more_solutions p ss r (Err f) e)
-      (failed _ (meets_primal ∷ spelled f ∷ []) [] (spelled f) (inl (m, inr (λ h. h, refl))))
+  derivations_fault p ss r f m e = grind (arith, moved_first, no_more_solutions, failed)
 
   pub derivations_begin : (p : Problem) (ss : List (Named Row)) (r : Rest) (n : ℕ) (s : Rest) → MeetsPrimal p ss p.claim → derivations_read p r ≡ Ok (n, s)
       → Says (solutions_from p ss 0 r) ↔ Says (derivations_from (record { problem = p; solutions = ss; derivations = [] }) n s)

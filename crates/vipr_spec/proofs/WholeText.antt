@@ -1,7 +1,7 @@
 -- A text is verified exactly where it is read as a proof
 use Rattle.std.proofs.Common.{◌≡◌, ℕ, ◌<◌, zero, suc, List, [], ◌∷◌, ◌++◌, length, Option, Some}
 use Rattle.std.proofs.Common.{None, Result, Ok, Err, All, Contains, refl, sym, ◌∙◌, ap, subst}
-use Rattle.std.proofs.Common.{zero-lt-suc}
+use Rattle.std.proofs.Common.{zero-lt-suc, arith}
 use Rattle.std.specs.Prelude.{◌↔◌}
 use Rattle.std.proofs.lemmas.List.Elements.{All-contains, Contains-append_right}
 use Rattle.vipr_spec.specs.{Profile, IsInteger, Row, Named, Problem, variables, Derivation, IsProof}
@@ -26,8 +26,7 @@ ended xs (Err f) = Err f
 
 more_ended : {A : Type 0} (x : A) (xs : List A) (e : Result Rest Fault)
     → (ended xs e >>= λ ys. Ok (x ∷ ys.0, ys.1)) ≡ ended (x ∷ xs) e
-more_ended x xs (Ok s) = refl
-more_ended x xs (Err f) = refl
+more_ended x xs e = grind arith
 
 pub repeated_is : {A : Type 0} (item : Rest → Read A) (n : ℕ) (r : Rest)
     → read_each item n r ≡ ended (items_read item n r).0 (items_read item n r).1
@@ -81,12 +80,7 @@ module _ (p : Problem) (ss : List (Named Row)) where
         tests = opening_tests p ss ++ (meets_primal ∷ (derivations_found p x).1);
       }) (x >>= λ d. read_each (derivation_read p) d.0 d.1 >>= λ ds. end_read ds.1 >>= λ end. Ok (record { problem = p; solutions = ss; derivations = ds.0 }))
   count_whole (Err f) = Contains-append_right (opening_tests p ss) (meets_primal ∷ spelled f ∷ []) (spelled f) (after_one (spelled f) meets_primal (spelled f ∷ []) (last_one (spelled f)))
-  count_whole (Ok d) =
-      let items = items_read (derivation_read p) d.0 d.1 in
-      subst (λ z. Whole (record {
-        certificate = record { problem = p; solutions = ss; derivations = items.0 };
-        tests = opening_tests p ss ++ (meets_primal ∷ (numbered_tests tests_of_derivation (length p.constraints) items.0 ++ last_tests (items.1 >>= end_read)));
-      }) (z >>= λ ds. end_read ds.1 >>= λ end. Ok (record { problem = p; solutions = ss; derivations = ds.0 }))) (sym (repeated_is (derivation_read p) d.0 d.1)) (derivations_whole items.0 items.1)
+  count_whole (Ok d) = grind (arith, repeated_is, derivations_whole)
 
 solutions_whole : (p : Problem) (ss : List (Named Row)) (x : Result Rest Fault)
     → Whole (record {
@@ -112,8 +106,7 @@ whole_read r = by (problem_read r)
 
 found_as : (found : Found) (x : Result Certificate Fault) (c : Certificate) → Whole found x
     → x ≡ Ok c → found.certificate ≡ c
-found_as found (Err f) c w e = absurd (cc e)
-found_as found (Ok d) c w e = let same : d ≡ c = cc e in ap (λ (f : Found). f.certificate) w ∙ same
+found_as found x c w e = grind arith
 
 -- where a text is read as a certificate, it is the one that was found
 pub found_read : (r : Rest) (c : Certificate) → certificate_read r ≡ Ok c
