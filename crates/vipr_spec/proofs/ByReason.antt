@@ -1,5 +1,5 @@
 -- The rule of a derivation, reason by reason
-use Rattle.std.proofs.Common.{◌≡◌, ◌≢◌, ℕ, ◌<◌, List, [], ◌∷◌, ◌⊎◌, Some, All, Contains, refl}
+use Rattle.std.proofs.Common.{◌≡◌, ◌≢◌, ℕ, ◌<◌, List, [], ◌∷◌, Some, All, Contains, refl}
 use Rattle.std.specs.Prelude.{◌↔◌, IsTrue}
 use Rattle.std.proofs.lemmas.List.Elements.{All-nil, All-cons, All-head, All-tail, All-weaker}
 use Rattle.std.proofs.lemmas.List.Elements.{All-contains, All-contains_itself}
@@ -43,9 +43,6 @@ module _ (P : Profile) (c : Certificate) (k : ℕ) where
   abbrev IsThere : ℕ → Type 0
   IsThere i = (i < k) × IsTrue (is_live c k i)
 
-  named_live : (i1 l1 i2 l2 i : ℕ) → IsThere i1 → IsThere l1 → IsThere i2 → IsThere l2 → (i ≡ i1) ⊎ (i ≡ l1) ⊎ (i ≡ i2) ⊎ (i ≡ l2) → IsTrue (is_live c k i)
-  named_live i1 l1 i2 l2 i a b e f h = grind arith
-
   pub good_branched : (i1 l1 i2 l2 : ℕ) (d : Condition) → IsGoodStep P c k (uns i1 l1 i2 l2) d
       ↔ (All IsThere (i1 ∷ l1 ∷ i2 ∷ l2 ∷ []) × (reason_at c l1 ≡ Some asm) × (reason_at c l2 ≡ Some asm)
       × IsSplit P c.problem.integers (constraint_at c l1) (constraint_at c l2) × Dominates (constraint_at c i1) d × Dominates (constraint_at c i2) d)
@@ -72,7 +69,7 @@ module _ (P : Profile) (c : Certificate) (k : ℕ) where
           earlier = (a.0, b.0, e.0, f.0);
           follows = (h.1, h.2, (h.3, h.4, h.5));
           fits = tt;
-          references = λ i r. named_live i1 l1 i2 l2 i a b e f r;
+          references = λ i r. grind arith;
         },
   )
 

@@ -1,11 +1,11 @@
 -- A step that is refused has one cause and one detail
-use Rattle.std.proofs.Common.{◌≡◌, ℕ, ℤ, List, sym, ◌∙◌, ap, ap₂, subst, arith}
+use Rattle.std.proofs.Common.{◌≡◌, ℤ, sym, ◌∙◌, ap₂, subst, arith}
 use Rattle.vipr_spec.specs.{ℚ, whole, Sense, at_most, equal, at_least, Row, Condition, RoundsTo}
-use Rattle.vipr_spec.specs.{sum_of, Named, entries}
+use Rattle.vipr_spec.specs.{Named}
 use Rattle.vipr_spec.specs.{IsBest, cutoff, StepTest}
-use Rattle.vipr_spec.specs.{StepDetail, IsSum, Shows, Certificate.Certificate}
+use Rattle.vipr_spec.specs.{StepDetail, Shows, Certificate.Certificate}
 use Rattle.vipr_spec.proofs.Fractions.{le_of_eq_ℚ, le_of_whole}
-use Rattle.vipr_spec.proofs.{Best.as_good_antisymm, Integers.≤ℤ_antisymm, MoreEntries.one_sense}
+use Rattle.vipr_spec.proofs.{Best.as_good_antisymm, Integers.≤ℤ_antisymm}
 
 rounds_once : (s : Sense) (b : ℚ) (j k : ℤ) → RoundsTo s b j → RoundsTo s b k → j ≡ k
 rounds_once at_least b j k h l = ≤ℤ_antisymm j k (h.1 k l.0) (l.1 j h.0)
@@ -13,9 +13,6 @@ rounds_once at_most b j k h l = ≤ℤ_antisymm j k (l.1 j h.0) (h.1 k l.0)
 rounds_once equal b j k h l = ≤ℤ_antisymm j k (le_of_whole j k (le_of_eq_ℚ _ _ (sym h ∙ l))) (le_of_whole k j (le_of_eq_ℚ _ _ (sym l ∙ h)))
 
 module _ (c : Certificate) (d : Condition) where
-  sum_once : (es : List (ℕ × ℚ)) (x y : Condition) → IsSum c es x → IsSum c es y → x ≡ y
-  sum_once es x y h k = h.2 ∙ ap (sum_of (entries c es)) (one_sense (entries c es) h.0 k.0 h.1 k.1) ∙ sym k.2
-
   rounded_once : (x y : Condition) (j k : ℤ) → x ≡ y → RoundsTo x.sense x.bound j → RoundsTo y.sense y.bound k → record x { bound = whole j } ≡ record y { bound = whole k }
   rounded_once x y j k e h l = ap₂ (λ (z : Condition) (n : ℤ). record z { bound = whole n }) e (rounds_once y.sense y.bound j k (subst (λ (z : Condition). RoundsTo z.sense z.bound j) e h) l)
 
@@ -23,4 +20,4 @@ module _ (c : Certificate) (d : Condition) where
   cutoff_once s t h k = grind (arith, as_good_antisymm)
 
   pub shows_once : (t : StepTest) (x y : StepDetail) → Shows c d t x → Shows c d t y → x ≡ y
-  shows_once t x y h k = grind (arith, sum_once, rounded_once, cutoff_once)
+  shows_once t x y h k = grind (arith, rounded_once, cutoff_once)

@@ -1,6 +1,6 @@
 -- x ≥ 1 and x ≤ 0 have no point: a proof by the difference of the two
-use Rattle.std.proofs.Common.{◌≡◌, ℕ, zero, suc, ◌<◌, ◌⊎◌, [], ◌∷◌, Some, None, ℤ, pos, negsuc, All}
-use Rattle.std.proofs.Common.{Contains, Bool, cond, arith, refl, sym, ◌∙◌, ap, subst}
+use Rattle.std.proofs.Common.{◌≡◌, ℕ, zero, suc, ◌<◌, ◌⊎◌, [], ◌∷◌, ℤ, pos, negsuc, All}
+use Rattle.std.proofs.Common.{Contains, arith, refl, sym, ◌∙◌, ap, subst}
 use Rattle.std.proofs.Common.{inl, inr, ⊎_elim, slice_index_or, IsTrue, lit<, lit≤, unwrap_or}
 use Rattle.std.proofs.{lemmas.Int.ints, lemmas.List.Elements.All-nil, lemmas.List.Elements.All-cons}
 use Rattle.std.specs.FinMap.{empty, get-empty, get-insert}
@@ -14,13 +14,9 @@ use Rattle.vipr_spec.proofs.Fractions.{whole-add, whole-mul, whole-le, is_one, i
 use Rattle.vipr_spec.proofs.Fractions.{is_whole, mul-zero_ℚ, add-mul_ℚ, zero-mul_ℚ, add-zero_ℚ}
 use Rattle.vipr_spec.proofs.Rests.{rests_out, rests_given}
 
-one_or_zero : (q : ℚ) (b : Bool) → (unwrap_or (cond b (Some q) None) zero_ℚ ≡ q)
-    ⊎ (unwrap_or (cond b (Some q) None) zero_ℚ ≡ zero_ℚ)
-one_or_zero q b = grind arith
-
 at_row : (j : ℕ) → (at row j ≡ whole (pos 1)) ⊎ (at row j ≡ zero_ℚ)
 unfolding row
-at_row j = rw (get-insert nat_cmp_total, get-empty nat_cmp) (one_or_zero (whole (pos 1)) _)
+at_row j = rw (get-insert nat_cmp_total, get-empty nat_cmp) (grind arith)
 
 difference : (a : ℚ) → whole (pos 1) *ℚ a +ℚ (whole (negsuc 0) *ℚ a +ℚ zero_ℚ) ≡ zero_ℚ
 difference a = ap (λ z. whole (pos 1) *ℚ a +ℚ z) (add-zero_ℚ _) ∙ sym (add-mul_ℚ _ _ a) ∙ ap (λ z. z *ℚ a) (whole-add (pos 1) (negsuc 0)) ∙ zero-mul_ℚ a

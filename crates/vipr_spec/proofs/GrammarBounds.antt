@@ -1,19 +1,16 @@
 -- Numbers, and the bounds of a claim
 use Rattle.std.proofs.Common.{◌≡◌, ℕ, Bool, true, false, if◌then◌else◌, List, Option, Some, None}
-use Rattle.std.proofs.Common.{Result, Ok, Err, codes, refl, sym, ap, subst, arith}
+use Rattle.std.proofs.Common.{Ok, Err, codes, refl, sym, ap, subst, arith}
 use Rattle.std.specs.Str.{bytes_eq}
-use Rattle.vipr_spec.specs.{ℚ, natural_after, natural_of, SpellsNumber, NumberFault, not_a_number}
+use Rattle.vipr_spec.specs.{ℚ, natural_after, natural_of, SpellsNumber, not_a_number}
 use Rattle.vipr_spec.specs.{number_read, some_of, or_cause, number_of, bound_of, ReadsKind}
 use Rattle.vipr_spec.specs.{KindsOfNumber, Grammar.SpellsBound}
 use Rattle.vipr_spec.proofs.NumberReads.{number_sound, number_complete}
 use Rattle.vipr_spec.proofs.GrammarSteps.{same_ok}
 use Rattle.vipr_spec.proofs.GrammarTokens.{same_bytes, bytes_same, picks, some_sound}
 
-caused_ok : (r : Result ℚ NumberFault) (x : ℚ) → or_cause r ≡ Ok x → r ≡ Ok x
-caused_ok r x e = grind (arith, same_ok)
-
 pub number_is : ReadsKind number_of SpellsNumber
-number_is t x = (λ e. number_sound t x (caused_ok (number_read t) x e), λ h. ap or_cause (number_complete t x h))
+number_is t x = (λ e. number_sound t x (grind (arith, same_ok)), λ h. ap or_cause (number_complete t x h))
 
 -- what is no number
 abbrev pub IsNoNumber : List ℕ → Type 0

@@ -2,6 +2,7 @@
 use Rattle.std.proofs.Common.{◌≡◌, ℕ, zero, suc, ◌⊎◌, inl, inr, ⊎_elim, Bool, true, false, nat_lt}
 use Rattle.std.proofs.Common.{if◌then◌else◌, List, [], ◌∷◌, ◌++◌, length, Result, Ok, Err, refl}
 use Rattle.std.proofs.Common.{sym, ◌∙◌, ap, subst, append_assoc, arith}
+use Rattle.std.proofs.lemmas.Grind.{common_steps}
 use Rattle.vipr_spec.specs.Causes as cause
 use Rattle.vipr_spec.specs.{Token, Rest, Fault, refused, unread, ◌>>=◌, Read, most_bytes}
 use Rattle.vipr_spec.specs.{first_token, checked_token, token_of, read_each, ReadsFront, Reads}
@@ -46,15 +47,12 @@ module _ {A B : Type 0} {read : Rest → Read A} {S : A → List (List ℕ) → 
     first = λ q e h. ok_then f (read_again r s q x t k.before e) (k.first (record q { tokens = k.before }) refl h);
   }
 
-  later_end : (r s : Rest) (x : A) (c o : ℕ) → ReadsFront (S x) r s → EndsEarly s c o → EndsEarly r c o
-  later_end r s x c o t k = (ap (λ (q : Rest). q.fails) t.joined ∙ k.0, k.1, k.2 ∙ ap (λ (q : Rest). q.length) (sym t.joined))
-
   refusal_then : (r : Rest) (c o : ℕ) → (read r >>= f) ≡ Err (refused c o) → IsRefusedAt (λ q. read q >>= f) r c o ⊎ EndsEarly r c o
   refusal_then r c o e = ⊎_elim
       (λ (h : read r ≡ Err (refused c o)). ⊎_elim (λ k. inl (now r c o k)) inr (first.refusal r c o h))
       (λ (h : (x : A × Rest) × (read r ≡ Ok x) × (f x ≡ Err (refused c o))).
       let t = (law r h.0.1 h.0.0).0 h.1 in
-      ⊎_elim (λ k. inl (later r h.0.1 h.0.0 c o t k)) (λ k. inr (later_end r h.0.1 h.0.0 c o t k)) ((then_each h.0.0).refusal h.0.1 c o h.2))
+      ⊎_elim (λ k. inl (later r h.0.1 h.0.0 c o t k)) (λ k. inr (grind (arith, common_steps))) ((then_each h.0.0).refusal h.0.1 c o h.2))
       (err_from e)
 
   failure_then : (r : Rest) → (read r >>= f) ≡ Err unread → r.fails ≡ true
@@ -96,11 +94,8 @@ module _ {A : Type 0} (kind : List ℕ → Result A ℕ) where
   outcome_fault : (long : Bool) (t : Token) (ts : List Token) (r : Rest) (c o : ℕ) → outcome long t ts r ≡ Err (refused c o) → (t.offset ≡ o) × ((us : List Token) (s : Rest) → outcome long t us s ≡ Err (refused c o))
   outcome_fault long t ts r c o e = grind (arith, same_refusal, checked_fault)
 
-  checked_read : (k : Result A ℕ) (t : Token × Rest) → checked_token k t ≡ Err unread → ⊥
-  checked_read k t e = grind arith
-
   outcome_read : (long : Bool) (t : Token) (ts : List Token) (r : Rest) → outcome long t ts r ≡ Err unread → ⊥
-  outcome_read long t ts r e = grind (arith, checked_read)
+  outcome_read long t ts r e = grind arith
 
   -- no token is left
   abbrev no_more : Bool → ℕ → Read A
@@ -108,9 +103,6 @@ module _ {A : Type 0} (kind : List ℕ → Result A ℕ) where
 
   no_more_fault : (fails : Bool) (size c o : ℕ) → no_more fails size ≡ Err (refused c o) → (fails ≡ false) × (c ≡ cause.truncated) × (o ≡ size)
   no_more_fault fails size c o e = grind arith
-
-  no_more_read : (fails : Bool) (size : ℕ) → no_more fails size ≡ Err unread → fails ≡ true
-  no_more_read fails size e = grind arith
 
   abbrev from : List Token → Rest → Read A
   from ts r = first_token ts r >>= λ u. checked_token (kind u.0.bytes) u
@@ -124,7 +116,7 @@ module _ {A : Type 0} (kind : List ℕ → Result A ℕ) where
 
   from_failure : (ts : List Token) (r : Rest) → from ts r ≡ Err unread → r.fails ≡ true
   unfolding first_token
-  from_failure ts r e = grind (arith, no_more_read, outcome_read)
+  from_failure ts r e = grind (arith, outcome_read)
 
   pub remains_token : FaultsRemain (token_of kind)
   remains_token = record { refusal = λ r c o e. from_refusal r.tokens r c o refl e; failure = λ r e. from_failure r.tokens r e }

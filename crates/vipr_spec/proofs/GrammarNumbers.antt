@@ -12,9 +12,6 @@ digit_value-is b e = grind (arith, nat_tests)
 digit-lt : (b : ℕ) → is_digit b ≡ true → digit_value b < 10
 digit-lt b e = grind (arith, nat_tests)
 
-is_digit-from_value : (b : ℕ) → digit_value b < 10 → is_digit b ≡ true
-is_digit-from_value b h = grind (arith, nat_tests)
-
 module _ (b : ℕ) (bs : List ℕ) (n m : ℕ) where
   more_sound : (natural_after (n * 10 + (b - 48)) bs ≡ Some m → AllDigits 10 bs × (digits_value_after 10 (n * 10 + (b - 48)) bs ≡ m)) → (d : Bool) → is_digit b ≡ d → (if d then natural_after (n * 10 + (b - 48)) bs else None) ≡ Some m
       → AllDigits 10 (b ∷ bs) × (digits_value_after 10 n (b ∷ bs) ≡ m)
@@ -30,7 +27,7 @@ after_complete : (bs : List ℕ) (n : ℕ) → AllDigits 10 bs
     → natural_after n bs ≡ Some (digits_value_after 10 n bs)
 unfolding natural_after
 after_complete [] n h = refl
-after_complete (b ∷ bs) n h = grind (arith, is_digit-from_value, digit_value-is, (after_complete bs (n * 10 + (b - 48)) h.1))
+after_complete (b ∷ bs) n h = grind (arith, digit_value-is, (after_complete bs (n * 10 + (b - 48)) h.1))
 
 pub natural_sound : (t : List ℕ) (n : ℕ) → natural_of t ≡ Some n → SpellsNatural t n
 unfolding natural_of

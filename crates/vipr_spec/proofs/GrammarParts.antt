@@ -1,7 +1,6 @@
 -- One token of a kind, and shapes in a row
-use Rattle.std.proofs.Common.{◌≡◌, false, nat_lt, ℕ, zero, suc, ◌≤◌, List, [], ◌∷◌}
+use Rattle.std.proofs.Common.{◌≡◌, ℕ, zero, suc, List, [], ◌∷◌}
 use Rattle.std.proofs.Common.{◌++◌, length, Result, Ok, All, arith, refl, sym, ◌∙◌, ap, subst}
-use Rattle.std.proofs.lemmas.Bool.Decides.{nat_tests}
 use Rattle.std.proofs.lemmas.List.Elements.{All-nil, All-cons, All-head}
 use Rattle.vipr_spec.specs.{Token, Rest, Read, first_token, token_read}
 use Rattle.vipr_spec.specs.{checked_token, token_of, read_each, name_of, word_of, ReadsKind}
@@ -30,12 +29,9 @@ first_of_front P r s [] b j a e h = absurd (cc)
 first_of_front P r s (t ∷ []) b j a e h = record { token = t; next = record { joined = j; short = All-head IsShort t.bytes [] a }; shape = h }
 first_of_front P r s (t ∷ u ∷ us) b j a e h = absurd (cc)
 
-within_size : (n m : ℕ) → n ≤ m → nat_lt m n ≡ false
-within_size n m h = grind (arith, nat_tests)
-
 pub next_complete : {r : Rest} {t : Token} {s : Rest} → Next r t s → token_read r ≡ Ok (t, s)
 unfolding first_token
-next_complete {r} {t} {s} n = grind (arith, within_size)
+next_complete {r} {t} {s} n = grind arith
 
 checked_ok : {A : Type 0} (k : Result A ℕ) (t : Token × Rest) (x : A) (s : Rest)
     → checked_token k t ≡ Ok (x, s) → (k ≡ Ok x) × (t.1 ≡ s)

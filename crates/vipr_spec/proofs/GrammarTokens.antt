@@ -4,6 +4,7 @@ use Rattle.std.proofs.Common.{nat_lt, nat_le, nat_eq, if◌then◌else◌, List,
 use Rattle.std.proofs.Common.{Result, Ok, Err, codes, arith, refl, sym, ◌∙◌, ap, subst}
 use Rattle.std.proofs.{lemmas.Bool.Decides.nat_tests, lemmas.Slice.Eq.bytes_eq-Decides}
 use Rattle.std.specs.{List.list_any, Str.bytes_eq}
+use Rattle.std.proofs.lemmas.Grind.{common_steps}
 use Rattle.vipr_spec.specs.{natural_of, Sense, at_most, equal, at_least, minimum, maximum}
 use Rattle.vipr_spec.specs.{most_count, at_most_or, word_of, count_of, derivation_count_of, below}
 use Rattle.vipr_spec.specs.{variable_of, unless_among, new_variable_of, reference_of, some_of}
@@ -14,7 +15,7 @@ use Rattle.vipr_spec.specs.Causes as cause
 use Rattle.vipr_spec.specs.Grammar.{SpellsNatural, SpellsCount, SpellsVariable, SpellsSense}
 use Rattle.vipr_spec.specs.Grammar.{SpellsDirection, SpellsLast}
 use Rattle.vipr_spec.proofs.GrammarNumbers.{natural_sound, natural_complete}
-use Rattle.vipr_spec.proofs.GrammarSteps.{guard_true, guard_false, chosen, success, same_ok}
+use Rattle.vipr_spec.proofs.GrammarSteps.{guard_true, guard_false, chosen, same_ok}
 
 -- ---- fixed words
 
@@ -34,14 +35,11 @@ pub picks : {A : Type 0} (P : A → Type 0) (t w : List ℕ) (x y : A) (others :
     → (t ≡ w → P x) → (others ≡ Ok y → P y) → (if bytes_eq t w then Ok x else others) ≡ Ok y → P y
 picks P t w x y others here there e = ⊎_elim (λ h. subst P h.1 (here h.0)) there (picked t w x y others e)
 
-none_picked : {A : Type 0} (P : Type 0) (c : ℕ) (y : A) → Err c ≡ success ℕ y → P
-none_picked P c y e = absurd (cc)
-
 -- of two words
 one_of_two : {A : Type 0} (P : A → Type 0) (t v w : List ℕ) (x y z : A) (c : ℕ) → (t ≡ v → P x)
     → (t ≡ w → P y)
     → (if bytes_eq t v then Ok x else (if bytes_eq t w then Ok y else Err c)) ≡ Ok z → P z
-one_of_two P t v w x y z c first second e = picks P t v x z _ first (λ f. picks P t w y z _ second (none_picked _ _ z) f) e
+one_of_two P t v w x y z c first second e = picks P t v x z _ first (λ f. picks P t w y z _ second (grind (arith, common_steps)) f) e
 
 fixed_sound : (w : List ℕ) (c : ℕ) (t : List ℕ) (x : Unit {0}) → word_of w c t ≡ Ok x → t ≡ w
 fixed_sound w c t x e = same_bytes t w (guard_true (bytes_eq t w) tt x c e).0

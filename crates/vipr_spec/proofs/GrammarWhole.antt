@@ -1,5 +1,5 @@
 -- The whole certificate, and that no tokens spell two
-use Rattle.std.proofs.Common.{◌≡◌, ◌↔◌, ℕ, ◌<◌, ◌≤◌, Bool, false, if◌then◌else◌, List, [], arith}
+use Rattle.std.proofs.Common.{◌≡◌, ◌↔◌, ℕ, ◌<◌, ◌≤◌, false, if◌then◌else◌, List, [], arith}
 use Rattle.std.proofs.Common.{◌∷◌, ◌++◌, length, Result, Ok, Err, All, codes, refl, sym, ◌∙◌, ap}
 use Rattle.std.proofs.Common.{subst, append-nil}
 use Rattle.std.proofs.lemmas.List.Elements.{All-nil, All-cons}
@@ -21,12 +21,9 @@ use Rattle.vipr_spec.proofs.Items.{problem_is, solution_is, derivation_is, reads
 abbrev done : Result (Unit {0}) Fault
 done = Ok tt
 
-no_failure : (fails : Bool) → (if fails then Err unread else done) ≡ done → fails ≡ false
-no_failure fails e = grind arith
-
 end_from : (ts : List Token) (r : Rest) → r.tokens ≡ ts → end_of ts r ≡ Ok tt → EndsHere r
 unfolding end_of
-end_from ts r h e = grind (arith, no_failure)
+end_from ts r h e = grind arith
 
 end_sound : (r : Rest) → end_read r ≡ Ok tt → EndsHere r
 end_sound r e = end_from r.tokens r refl e

@@ -1,5 +1,5 @@
 -- The items, by the steps of their readings
-use Rattle.std.proofs.Common.{◌≡◌, nat_lt, ℕ, zero, suc, ◌+◌, ◌-◌, ◌≤◌, ◌⊎◌, inl, inr, ⊎_elim}
+use Rattle.std.proofs.Common.{◌≡◌, ℕ, zero, suc, ◌+◌, ◌-◌, ◌≤◌, ◌⊎◌, inl, inr, ⊎_elim}
 use Rattle.std.proofs.Common.{Bool, true, false, ◌||◌, nat_eq, if◌then◌else◌, List, [], ◌∷◌, ◌++◌}
 use Rattle.std.proofs.Common.{length, map, Result, Ok, Err, codes, arith, refl, sym, ◌∙◌, ap, subst}
 use Rattle.std.proofs.Common.{append-nil}
@@ -10,7 +10,7 @@ use Rattle.std.proofs.lemmas.Grind.{common_steps}
 use Rattle.vipr_spec.specs.Causes as cause
 use Rattle.vipr_spec.specs.{ℚ, Token, Row, Problem, variables, Reason, asm, lin, rnd, uns, sol}
 use Rattle.vipr_spec.specs.{Claim, infeasible, range, natural_after, natural_of, SpellsNumber}
-use Rattle.vipr_spec.specs.{most_bytes, most_count, Rest, Fault, refused, unread, ◌>>=◌, Read}
+use Rattle.vipr_spec.specs.{most_count, Rest, Fault, refused, unread, ◌>>=◌, Read}
 use Rattle.vipr_spec.specs.{first_token, token_read, checked_token, token_of, name_of, word_of}
 use Rattle.vipr_spec.specs.{count_of, derivation_count_of, variable_of, new_variable_of}
 use Rattle.vipr_spec.specs.{reference_of, last_of, number_of, bound_of, spelled_sense}
@@ -33,7 +33,7 @@ use Rattle.vipr_spec.proofs.GrammarTokens.{SpellsRule, kinds_of_token, same_byte
 use Rattle.vipr_spec.proofs.GrammarBounds.{number_is, bound_is, no_lower, no_upper}
 use Rattle.vipr_spec.proofs.GrammarParts.{reads_name, reads_fixed, reads_like, one_token}
 use Rattle.vipr_spec.proofs.GrammarParts.{first_of_front, next_complete}
-use Rattle.vipr_spec.proofs.GrammarFaults.{fault, never, remains_then, remains_token, remains_named}
+use Rattle.vipr_spec.proofs.GrammarFaults.{fault, remains_then, remains_token, remains_named}
 use Rattle.vipr_spec.proofs.Readings.{IsReading, Shape, token, many, Chain, chain, Last, last, Done, done}
 use Rattle.vipr_spec.proofs.Readings.{shaped, retail, regroup, degroup}
 
@@ -114,11 +114,6 @@ no_pairs n before ps ts h = grind (arith, common_steps)
 abbrev PairThen : ℕ → List ℕ → ℕ → List (ℕ × ℚ) → List (List ℕ) → Type 0
 PairThen n before k = Chain (λ p ts. IsNew before p.0 × pair n p ts) (λ p. Last (DistinctPairs n (p.0 ∷ before) k) (λ ps. p ∷ ps))
 
-one_pair : (n : ℕ) (before : List ℕ) (k : ℕ) (ps : List (ℕ × ℚ)) (ts : List (List ℕ))
-    → PairThen n before k ps ts → DistinctPairs n before (suc k) ps ts
-unfolding IsDistinct
-one_pair n before k ps ts h = grind (arith, apart)
-
 pair_first : (n : ℕ) (before : List ℕ) (k : ℕ) (ps : List (ℕ × ℚ)) (ts : List (List ℕ))
     → DistinctPairs n before (suc k) ps ts → PairThen n before k ps ts
 unfolding IsDistinct
@@ -133,7 +128,7 @@ unfolding pairs_read IsDistinct
 pairs_is n before zero = shaped (DistinctPairs n before 0) (done [])
     (λ ps ts h. subst (λ qs. DistinctPairs n before 0 qs ts) (sym h.0) (refl, tt, tt, h.1)) (no_pairs n before)
 pairs_is n before (suc k) = shaped (DistinctPairs n before (suc k))
-    (chain (pair_is n before) _ (λ p. last (pairs_is n (p.0 ∷ before) k) (λ ps. p ∷ ps))) (one_pair n before k) (pair_first n before k)
+    (chain (pair_is n before) _ (λ p. last (pairs_is n (p.0 ∷ before) k) (λ ps. p ∷ ps))) (grind (arith, apart)) (pair_first n before k)
 
 -- ---- vectors and constraints
 
@@ -166,16 +161,13 @@ module _ (n : ℕ) (objective : Row) (r s : Rest) (row : Row) where
   unfolding count_of natural_of natural_after
   no_count t k e f = let g : checked_token (count_of (codes "OBJ")) t ≡ Ok k = subst (λ b. checked_token (count_of b) t ≡ Ok k) e f in cc
 
-  counted_complete : (t : Token × Rest) (k : ℕ × Rest) → checked_token (count_of t.0.bytes) t ≡ Ok k → counted_read n k ≡ Ok (row, s) → (b : Bool) → bytes_eq t.0.bytes (codes "OBJ") ≡ b → (if b then Ok (objective, t.1) else counted t) ≡ Ok (row, s)
-  counted_complete t k e f b g = grind (arith, no_count, same_bytes, ok_then)
-
   row_complete : ReadsFront (coefficients n objective row) r s → row_read n objective r ≡ Ok (row, s)
   unfolding row_read vector_read
   row_complete t = ⊎_elim
       (λ (h : vector n row _).
       let k = bind_ok {r = token_of count_of r} {f = counted_read n} (((vector_is n).reads r s row).1 (read_as (vector n row) t h)) in
       let u = bind_ok {r = token_read r} {f = λ t. checked_token (count_of t.0.bytes) t} k.1 in
-      ok_then _ u.1 (counted_complete u.0 k.0 u.2 k.2 (bytes_eq u.0.0.bytes (codes "OBJ")) refl))
+      ok_then _ u.1 (grind (arith, no_count, same_bytes, ok_then)))
       (λ (h : word (codes "OBJ") _ × (row ≡ objective)).
       let f = first_of_front (word (codes "OBJ")) r s t.front (codes "OBJ") t.joined t.short h.0 h.0 in
       let same : f.token.bytes ≡ codes "OBJ" = cc in
@@ -218,26 +210,20 @@ module _ (n : ℕ) (objective : Row) where
   abbrev some : Bool → Token → Rest → Result (Token × Rest) Fault
   some long t r = if long then Err (refused cause.token_too_long t.offset) else Ok (t, r)
 
-  none_same : (fails : Bool) (size : ℕ) → row_with (none fails size) ≡ vector_with (none fails size)
-  none_same fails size = grind arith
-
   some_same : (long : Bool) (t : Token) (r : Rest) → is_objective t ≡ false → row_with (some long t r) ≡ vector_with (some long t r)
   some_same long t r h = grind arith
 
   row_same : (ts : List Token) (r : Rest) → IsOther ts → row_with (first_token ts r) ≡ vector_with (first_token ts r)
   unfolding first_token IsOther
-  row_same ts r h = grind (arith, none_same, some_same)
+  row_same ts r h = grind (arith, some_same)
 
   row_is_vector : (r : Rest) → IsOther r.tokens → row_read n objective r ≡ vector_read n r
   unfolding row_read vector_read
   row_is_vector r h = row_same r.tokens r h
 
-  other_by : (t : Token) (r : Rest) (d : Fault) (b : Bool) → is_objective t ≡ b → row_with (some (nat_lt most_bytes (length t.bytes)) t r) ≡ Err d → is_objective t ≡ false
-  other_by t r d b h e = grind (arith, common_steps, same_bytes, never)
-
   other_from : (ts : List Token) (r : Rest) (d : Fault) → row_with (first_token ts r) ≡ Err d → IsOther ts
   unfolding first_token IsOther
-  other_from ts r d e = grind (arith, common_steps, other_by)
+  other_from ts r d e = grind (arith, common_steps)
 
   other : (r : Rest) (d : Fault) → row_read n objective r ≡ Err d → IsOther r.tokens
   unfolding row_read
@@ -460,14 +446,11 @@ small m d h = omega arith
 together : (m d : ℕ) → m ≤ most_count → d ≤ most_count - m → m + d ≤ most_count
 together m d f h = omega arith
 
-behind_it : (m d : ℕ) → m + d ≤ most_count → d ≤ most_count - m
-behind_it m d h = omega arith
-
 pub reads_derivations : (p : Problem) → length p.constraints ≤ most_count
     → Reads (derivations_read p) (derivation_count p)
 reads_derivations p few = reads_like (any_count_is p).reads
     (λ d ts h. let m = length p.constraints in let k = h.4.2 in (together m d few k.1, retail h (h.4.0, h.4.1, (k.0, small m d k.1))))
-    (λ d ts h. let w = h.1 in let k = w.4.2 in retail w (w.4.0, w.4.1, (k.0, behind_it (length p.constraints) d h.0)))
+    (λ d ts h. let w = h.1 in let k = w.4.2 in retail w (w.4.0, w.4.1, (k.0, omega arith)))
 
 -- ---- the faults of the end, and of the whole
 

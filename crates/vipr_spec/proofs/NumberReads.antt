@@ -10,6 +10,7 @@ use Rattle.std.specs.Str.Parse.{AllDigits, IsNumeral, digits_value, without_lead
 use Rattle.std.specs.Str.Parse.{starts_with_minus}
 use Rattle.std.specs.Prelude.{IfSome, unsigned_abs}
 use Rattle.std.specs.{Char.digit_value, Fmt.decimal, Fmt.signed_decimal}
+use Rattle.std.proofs.lemmas.Grind.{common_steps}
 use Rattle.vipr_spec.specs.{ℚ, over, most, IsBounded, natural_after, natural_of, SpellsNumber}
 use Rattle.vipr_spec.specs.{IsSign, signed_integer, under, denominator, too_large, zero_denominator}
 use Rattle.vipr_spec.specs.{is_slash, slash_place, top_of, bottom_of, written_fraction, of_parts}
@@ -50,14 +51,8 @@ module _ (b : ℕ) (bs : List ℕ) (e : is_slash b ≡ false) where
   top_next : top_of (b ∷ bs) ≡ b ∷ top_of bs
   top_next = ap (λ n. take n (b ∷ bs)) place_next
 
-  test_next : (p n : ℕ) → nat_lt (suc p) (suc n) ≡ nat_lt p n
-  test_next p n = grind (arith, nat_tests)
-
-  drop_next : (p : ℕ) → drop (suc p + 1) (b ∷ bs) ≡ drop (p + 1) bs
-  drop_next p = let k : suc p + 1 ≡ suc (p + 1) = omega arith in ap (λ n. drop n (b ∷ bs)) k
-
   bottom_next : bottom_of (b ∷ bs) ≡ bottom_of bs
-  bottom_next = grind (arith, place_next, test_next, drop_next)
+  bottom_next = grind (arith, place_next)
 
 module _ (b : ℕ) (bs : List ℕ) (e : is_slash b ≡ true) where
   place_here : slash_place (b ∷ bs) ≡ 0
@@ -69,11 +64,8 @@ module _ (b : ℕ) (bs : List ℕ) (e : is_slash b ≡ true) where
   bottom_here : bottom_of (b ∷ bs) ≡ bs
   bottom_here = ap (λ n. if nat_lt n (suc (length bs)) then drop (n + 1) (b ∷ bs) else 49 ∷ []) place_here ∙ ap (λ t. if t then bs else 49 ∷ []) (some_length (length bs))
 
-  joined_here : b ∷ bs ≡ top_of (b ∷ bs) ++ 47 ∷ bs
-  joined_here = ap (λ c. c ∷ bs) (eqb-true b 47 e) ∙ ap (λ n. take n (b ∷ bs) ++ 47 ∷ bs) (sym place_here)
-
 slashed_by : (b : ℕ) (bs : List ℕ) (s : Bool) → is_slash b ≡ s → Slashed bs → Slashed (b ∷ bs)
-slashed_by b bs true e h = record { bottom = Some bs; joined = joined_here b bs e; is_bottom = bottom_here b bs e }
+slashed_by b bs true e h = record { bottom = Some bs; joined = grind (arith, common_steps); is_bottom = bottom_here b bs e }
 slashed_by b bs false e h = record {
   bottom = h.bottom;
   joined = ap (λ cs. b ∷ cs) h.joined ∙ ap (λ cs. cs ++ under h.bottom) (sym (top_next b bs e));
@@ -101,14 +93,11 @@ bottom_is [] (Some digits) h = bottom_here 47 digits refl
 bottom_is (b ∷ bs) bottom h = bottom_next b (bs ++ under bottom) (no_slash b h.0) ∙ bottom_is bs bottom h.1
 
 -- ---- the sign in front of digits
-no_sign : (b : ℕ) → digit_value b < 10 → ((b == 45) ≡ false) × ((b == 43) ≡ false)
-no_sign b h = (grind (arith, nat_tests), grind (arith, nat_tests))
-
 pub sign_of : (sign : List ℕ) (is_negative : Bool) (top rest : List ℕ) → IsSign sign is_negative
     → IsNumeral 10 top → (starts_with_minus (sign ++ top ++ rest) ≡ is_negative)
     × (without_leading_sign (sign ++ top ++ rest) ≡ top ++ rest)
 sign_of sign is_negative [] rest s h = absurd (omega arith)
-sign_of sign is_negative (b ∷ bs) rest s h = grind (arith, no_sign)
+sign_of sign is_negative (b ∷ bs) rest s h = grind arith
 
 -- ---- the bound and the denominator
 record Fits (is_negative : Bool) (p q : ℕ) (x : ℚ) : Type 0 where

@@ -1,5 +1,5 @@
 -- A reference that comes too late, and a sum that is too large
-use Rattle.std.proofs.Common.{◌≤◌, ◌^◌, ◌-◌, [], pos, IsTrue, refl, lit<, lit≤, le→leb}
+use Rattle.std.proofs.Common.{◌^◌, ◌-◌, [], pos, IsTrue, refl, lit<, lit≤, arith}
 use Rattle.std.proofs.lemmas.List.Elements.{All-head}
 use Rattle.vipr_spec.specs.{gcd, ℚ, over, whole, ◌*ℚ◌, IsBounded, ProductFits, Profile, is_live}
 use Rattle.vipr_spec.specs.{IsProof, Examples.dropped_example, Examples.too_large}
@@ -11,12 +11,9 @@ not_live P p = late ((p.steps 3 _ refl).references 2 (whole (pos 1), (0, lit< tt
     late : IsTrue (is_live dropped_example 3 2) → ⊥
     late e = cc
 
-over_most : ¬ (2 ^ 127 ≤ 2 ^ 127 - 1)
-over_most h = le→leb (2 ^ 127) (2 ^ 127 - 1) h
-
 product : ¬ ProductFits (whole (pos 2)) (whole (pos (2 ^ 126)))
 unfolding over gcd ◌*ℚ◌
-product h = over_most h.0
+product h = omega arith
 
 pub not_bounded : (P : Profile) → ¬ IsProof P too_large
 not_bounded P p = product (All-head (λ (t : ℚ × ℚ). ProductFits t.0 t.1) (whole (pos 2), whole (pos (2 ^ 126))) [] (p.steps 1 _ refl).fits.1.0)

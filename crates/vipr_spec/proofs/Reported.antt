@@ -1,10 +1,10 @@
 -- What is reported, and that a text has one answer, with one detail
 use Rattle.std.proofs.Common.{◌≡◌, ℕ, Option, Some, None, MatchOption, arith, refl, sym, ◌∙◌, ap}
-use Rattle.std.proofs.Common.{subst, unwrap_or}
+use Rattle.std.proofs.Common.{subst}
 use Rattle.std.specs.Prelude.{IsSome}
 use Rattle.vipr_spec.specs.{Profile, condition, Derivation, NeedsGoal}
-use Rattle.vipr_spec.specs.{IsGoal, GoalIs, Rest, Fault, PassesStep}
-use Rattle.vipr_spec.specs.{step_tests, FirstFailing, IsGoodNext, Test, spelled}
+use Rattle.vipr_spec.specs.{IsGoal, GoalIs, Rest, PassesStep}
+use Rattle.vipr_spec.specs.{step_tests, FirstFailing, IsGoodNext, Test}
 use Rattle.vipr_spec.specs.{meets_dual, Passes, Detail}
 use Rattle.vipr_spec.specs.{Explains, Found, found_in, Report, Reports, Answer, verified}
 use Rattle.vipr_spec.specs.{answer_of_test, IsAnswerOfTest, Answers, IsAnswer, IsExplainedBy}
@@ -79,11 +79,8 @@ one_detail P r a b x y p q = (
 
 -- ---- a test that fails tells no verified text
 
-fault_known : (f : Fault) (report : Report) → ¬ (answer_of_test (spelled f) ≡ verified report)
-fault_known f report e = grind arith
-
 pub known_not_verified : (t : Test) (report : Report) → ¬ (answer_of_test t ≡ verified report)
-known_not_verified t report e = grind (arith, fault_known)
+known_not_verified t report e = grind arith
 
 -- ---- the next derivation
 
