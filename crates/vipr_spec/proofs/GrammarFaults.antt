@@ -94,9 +94,6 @@ module _ {A : Type 0} (kind : List ℕ → Result A ℕ) where
   outcome_fault : (long : Bool) (t : Token) (ts : List Token) (r : Rest) (c o : ℕ) → outcome long t ts r ≡ Err (refused c o) → (t.offset ≡ o) × ((us : List Token) (s : Rest) → outcome long t us s ≡ Err (refused c o))
   outcome_fault long t ts r c o e = grind (arith, same_refusal, checked_fault)
 
-  outcome_read : (long : Bool) (t : Token) (ts : List Token) (r : Rest) → outcome long t ts r ≡ Err unread → ⊥
-  outcome_read long t ts r e = grind arith
-
   -- no token is left
   abbrev no_more : Bool → ℕ → Read A
   no_more fails size = (if fails then Err unread else Err (refused cause.truncated size)) >>= λ (u : Token × Rest). checked_token (kind u.0.bytes) u
@@ -116,7 +113,7 @@ module _ {A : Type 0} (kind : List ℕ → Result A ℕ) where
 
   from_failure : (ts : List Token) (r : Rest) → from ts r ≡ Err unread → r.fails ≡ true
   unfolding first_token
-  from_failure ts r e = grind (arith, outcome_read)
+  from_failure ts r e = grind arith
 
   pub remains_token : FaultsRemain (token_of kind)
   remains_token = record { refusal = λ r c o e. from_refusal r.tokens r c o refl e; failure = λ r e. from_failure r.tokens r e }

@@ -27,7 +27,7 @@ after_complete : (bs : List ℕ) (n : ℕ) → AllDigits 10 bs
     → natural_after n bs ≡ Some (digits_value_after 10 n bs)
 unfolding natural_after
 after_complete [] n h = refl
-after_complete (b ∷ bs) n h = grind (arith, digit_value-is, (after_complete bs (n * 10 + (b - 48)) h.1))
+after_complete (b ∷ bs) n h = grind (arith, digit_value-is, after_complete bs (n * 10 + (b - 48)) h.1)
 
 pub natural_sound : (t : List ℕ) (n : ℕ) → natural_of t ≡ Some n → SpellsNatural t n
 unfolding natural_of

@@ -80,7 +80,7 @@ flipped i j e = grind (arith, nat_tests)
 
 apart : (i : ℕ) (before is : List ℕ) → AreNew (i ∷ before) is → AreNew before is × AllDiffer i is
 apart i before [] h = (tt, tt)
-apart i before (j ∷ js) h = grind (arith, neither, flipped, (apart i before js h.1))
+apart i before (j ∷ js) h = grind (arith, neither, flipped, apart i before js h.1)
 
 joined : (i : ℕ) (before is : List ℕ) → AreNew before is → AllDiffer i is → AreNew (i ∷ before) is
 joined i before [] h d = tt
@@ -107,10 +107,6 @@ pair_is n before = shaped (λ p ts. IsNew before p.0 × pair n p ts)
 abbrev pub DistinctPairs : ℕ → List ℕ → ℕ → List (ℕ × ℚ) → List (List ℕ) → Type 0
 DistinctPairs n before k ps ts = (length ps ≡ k) × AreNew before (variables_of ps) × IsDistinct nat_eq (variables_of ps) × each (pair n) ps ts
 
-no_pairs : (n : ℕ) (before : List ℕ) (ps : List (ℕ × ℚ)) (ts : List (List ℕ))
-    → DistinctPairs n before 0 ps ts → (ps ≡ []) × (ts ≡ [])
-no_pairs n before ps ts h = grind (arith, common_steps)
-
 abbrev PairThen : ℕ → List ℕ → ℕ → List (ℕ × ℚ) → List (List ℕ) → Type 0
 PairThen n before k = Chain (λ p ts. IsNew before p.0 × pair n p ts) (λ p. Last (DistinctPairs n (p.0 ∷ before) k) (λ ps. p ∷ ps))
 
@@ -126,7 +122,7 @@ pub pairs_is : (n : ℕ) (before : List ℕ) (k : ℕ)
     → IsReading (pairs_read n before k) (DistinctPairs n before k)
 unfolding pairs_read IsDistinct
 pairs_is n before zero = shaped (DistinctPairs n before 0) (done [])
-    (λ ps ts h. subst (λ qs. DistinctPairs n before 0 qs ts) (sym h.0) (refl, tt, tt, h.1)) (no_pairs n before)
+    (λ ps ts h. subst (λ qs. DistinctPairs n before 0 qs ts) (sym h.0) (refl, tt, tt, h.1)) (grind (arith, common_steps))
 pairs_is n before (suc k) = shaped (DistinctPairs n before (suc k))
     (chain (pair_is n before) _ (λ p. last (pairs_is n (p.0 ∷ before) k) (λ ps. p ∷ ps))) (grind (arith, apart)) (pair_first n before k)
 

@@ -35,8 +35,7 @@ index_mono keep (suc i) (suc j) h = ⊎_elim
 -- strictly so past what is kept
 pub index_lt : (keep : ℕ → Bool) (i j : ℕ) → keep i ≡ true → i < j
     → new_index keep i < new_index keep j
-index_lt keep i j k h = let e = index_yes keep i k in let below = index_mono keep (suc i) j h in
-    omega arith
+index_lt keep i j k h = grind (arith, index_yes keep i k, index_mono keep (suc i) j h)
 
 pub index_le_back : (keep : ℕ → Bool) (i j : ℕ) → keep j ≡ true
     → new_index keep i ≤ new_index keep j → i ≤ j
@@ -61,7 +60,7 @@ index_injective keep i j k l e = grind (arith, index_le_back)
 pub index_same : (keep : ℕ → Bool) (n : ℕ) → ((i : ℕ) → i < n → keep i ≡ true) → (i : ℕ) → i ≤ n
     → new_index keep i ≡ i
 index_same keep n all zero h = refl
-index_same keep n all (suc i) h = grind (arith, index_yes, (index_same keep n all i (omega arith)))
+index_same keep n all (suc i) h = grind (arith, index_yes, index_same keep n all i (omega arith))
 
 -- each new index has an old one
 pub old_index : (keep : ℕ → Bool) (n p : ℕ) → p < new_index keep n
@@ -125,7 +124,7 @@ length_kept keep k (x ∷ xs) = by (length_kept keep (suc k) xs) (cases_Bool (ke
 pub kept_all : {A : Type 0} (keep : ℕ → Bool) (k : ℕ) (xs : List A)
     → ((i : ℕ) → k ≤ i → i < k + length xs → keep i ≡ true) → kept_of keep k xs ≡ xs
 kept_all keep k [] all = refl
-kept_all keep k (x ∷ xs) all = grind (arith, kept_yes, (kept_all keep (suc k) xs (λ i a b. all i (omega arith) (omega arith))))
+kept_all keep k (x ∷ xs) all = grind (arith, kept_yes, kept_all keep (suc k) xs (λ i a b. all i (omega arith) (omega arith)))
 
 -- what was at an index that is kept
 pub kept_at : {A : Type 0} (keep : ℕ → Bool) (d : A) (k j p : ℕ) (xs : List A) → keep (k + j) ≡ true
@@ -183,7 +182,7 @@ pub map_with : {X : Type 0} (f : Derivation → X)
     → ((d : Derivation) (l : Option ℕ) → f (record d { last = l }) ≡ f d)
     → (k : ℕ) (ds : List Derivation) → map f (with_last_references k ds) ≡ map f ds
 map_with f same k [] = refl
-map_with f same k (d ∷ ds) = grind (arith, same, (map_with f same (suc k) ds))
+map_with f same k (d ∷ ds) = grind (arith, same, map_with f same (suc k) ds)
 
 pub length_kept_derivations : (keep : ℕ → Bool) (m : ℕ) (ds : List Derivation)
     → length (kept_derivations keep m ds) + new_index keep m ≡ new_index keep (m + length ds)

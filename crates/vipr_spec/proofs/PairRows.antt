@@ -1,11 +1,11 @@
 -- Rows of pairs of a variable and a coefficient, and sets of variables
-use Rattle.std.proofs.Common.{◌≡◌, ◌≢◌, ℕ, ◌<◌, ◌≤◌, true, false, nat_eq, not, cond, List, [], ◌∷◌}
-use Rattle.std.proofs.Common.{filter, None, unwrap_or, All, pos, arith, refl, sym, ap, ◌∙◌, subst}
+use Rattle.std.proofs.Common.{◌≡◌, ◌≢◌, ℕ, ◌<◌, ◌≤◌, true, nat_eq, not, List, [], ◌∷◌}
+use Rattle.std.proofs.Common.{filter, None, unwrap_or, All, pos, arith, refl, sym, ap, ◌∙◌}
 use Rattle.std.proofs.lemmas.Bool.Decides.{nat_tests, Decides-int_eq}
 use Rattle.std.proofs.lemmas.List.Elements.{All-head, All-tail}
 use Rattle.std.proofs.lemmas.List.Folds.{Any-from_list_any}
 use Rattle.std.specs.FinSet.{from_list, contains-from_list_nat}
-use Rattle.std.specs.Ordering.{nat_cmp, int_eq, eq_by_cmp}
+use Rattle.std.specs.Ordering.{nat_cmp, int_eq}
 use Rattle.std.specs.{Cmp.nat_cmp_total, FinMap.find, FinMap.get-from_entries}
 use Rattle.vipr_spec.specs.{ℚ, zero_ℚ, IsInteger, at, NamesBelow, is_nonzero, row_of}
 use Rattle.vipr_spec.proofs.Fractions.{zero_numer}
@@ -17,13 +17,7 @@ not_found : (n j : ℕ) → n ≤ j → (ps : List (ℕ × ℚ)) → All (λ p. 
     → find nat_cmp j (filter is_nonzero ps) ≡ None
 not_found n j h [] a = refl
 not_found n j h (p ∷ ps) a =
-    let small : p.0 < n = All-head (λ (p : ℕ × ℚ). p.0 < n) p ps a in
-    let rest = not_found n j h ps (All-tail (λ (p : ℕ × ℚ). p.0 < n) p ps a) in
-    let apart : eq_by_cmp nat_cmp j p.0 ≡ false = grind (arith, nat_tests) in
-    elim (is_nonzero p) as (λ b. find nat_cmp j (cond b (p ∷ filter is_nonzero ps) (filter is_nonzero ps)) ≡ None) [
-      | true ↦ rw apart rest
-      | false ↦ rest
-    ]
+    grind (arith, All-head (λ (p : ℕ × ℚ). p.0 < n) p ps a, not_found n j h ps (All-tail (λ (p : ℕ × ℚ). p.0 < n) p ps a))
 
 -- the row of pairs of variables below n names no other
 pub row_below : (n : ℕ) (ps : List (ℕ × ℚ)) → All (λ p. p.0 < n) ps → NamesBelow n (at (row_of ps))
@@ -35,6 +29,4 @@ same_number x j n e h = grind (arith, nat_tests)
 -- the set of variables below n has no other
 pub set_below : (n : ℕ) (is : List ℕ) → All (λ i. i < n) is → (j : ℕ) → IsInteger (from_list is) j
     → j < n
-set_below n is a j h =
-    let m = Any-from_list_any (λ y. nat_eq y j) is (sym (contains-from_list_nat is j) ∙ h) in
-    same_number m.1 j n m.4 (subst (λ i. i < n) m.3 (a m.0 m.1 m.2))
+set_below n is a j h = grind (arith, Any-from_list_any (λ y. nat_eq y j) is (sym (contains-from_list_nat is j) ∙ h))

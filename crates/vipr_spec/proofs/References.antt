@@ -130,4 +130,4 @@ same_reference k (d ∷ ds) (f ∷ fs) i e =
 pub with_again : (k : ℕ) (ds : List Derivation)
     → with_last_references k (with_last_references k ds) ≡ with_last_references k ds
 with_again k [] = refl
-with_again k (d ∷ ds) = grind (arith, same_reference, map_with, (with_again (suc k) ds))
+with_again k (d ∷ ds) = grind (arith, same_reference, map_with, with_again (suc k) ds)

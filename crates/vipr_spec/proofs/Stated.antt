@@ -1,5 +1,5 @@
 -- A text states one problem, with one list of solutions
-use Rattle.std.proofs.Common.{◌≡◌, ℕ, List, [], length, Ok, refl, sym, ◌∙◌, ap, append-nil}
+use Rattle.std.proofs.Common.{◌≡◌, ℕ, List, [], length, Ok, refl, sym, ◌∙◌, ap, append-nil, arith}
 use Rattle.vipr_spec.specs.Grammar.{◌then◌, problem, solution, solutions, Spells}
 use Rattle.vipr_spec.specs.{Row, text_tokens, Named, Problem, variables, Rest, Read, ◌>>=◌}
 use Rattle.vipr_spec.specs.{read_each, problem_read, solution_read, ReadsFront, whole_text, States}
@@ -27,8 +27,7 @@ stated_read bytes p ss st = record { front = st.0; joined = ap (λ ts. record (w
 pub one_problem : (bytes : List ℕ) (p q : Problem) (ss tt : List (Named Row)) → States bytes p ss
     → States bytes q tt → (q ≡ p) × (tt ≡ ss)
 one_problem bytes p q ss tt h k =
-    let e = same_ok (sym (front_read _ _ p ss (stated_read bytes p ss h)) ∙ front_read _ _ q tt (stated_read bytes q tt k)) in
-    (ap (λ x. x.0.0) (sym e), ap (λ x. x.0.1) (sym e))
+    grind (arith, same_ok (sym (front_read _ _ p ss (stated_read bytes p ss h)) ∙ front_read _ _ q tt (stated_read bytes q tt k)))
 
 pub spelled_states : (bytes : List ℕ) (c : Certificate) → Spells bytes c
     → States bytes c.problem c.solutions

@@ -39,10 +39,7 @@ count_kept : (keep : ℕ → Bool) (a n : ℕ)
     → new_index keep (a + n) ≡ new_index keep a + count_by keep (range_with_len a n)
 count_kept keep a zero = let same : new_index keep (a + 0) ≡ new_index keep a = ap (new_index keep) {x = a + 0} {y = a} (omega arith) in omega arith
 count_kept keep a (suc n) =
-    let rest = count_kept keep a n in
-    let more = count_from keep a n (a + n) refl in
-    let same : new_index keep (a + suc n) ≡ new_index keep (suc (a + n)) = ap (new_index keep) {x = a + suc n} {y = suc (a + n)} (omega arith) in
-    omega arith
+    grind (arith, count_kept keep a n, count_from keep a n (a + n) refl, ap (new_index keep) {x = a + suc n} {y = suc (a + n)} (omega arith))
 
 count_both : (p : ℕ → Bool) (a n : ℕ)
     → count_by p (range_with_len a n) + count_by (λ i. not (p i)) (range_with_len a n) ≡ n
@@ -201,9 +198,7 @@ module _ (P : Profile) (c : Certificate) (g : ℕ) (proof : IsProof P c) where
 pub tight_peak : (P : Profile) (c : Certificate) (goal : Option ℕ) → IsProof P c
     → peak (tightened_certificate c goal) ≤ peak c
 tight_peak P c None p =
-    let none = tight_none c (back_of_proof P c p) in
-    let same : peak (tightened_certificate c None) ≡ peak (record c { derivations = [] }) = ap (λ ds. peak (record c { derivations = ds })) none in
-    omega arith
+    grind (arith, tight_none c (back_of_proof P c p), ap (λ ds. peak (record c { derivations = ds })) (tight_none c (back_of_proof P c p)))
 tight_peak P c (Some g) p = some_peak P c g p
 
 -- ---- how many are kept
