@@ -1,6 +1,6 @@
 -- What is answered of a derivation, by what the rule of its reason says
-use Rattle.std.proofs.Common.{◌≡◌, ℕ, Some, Ok, Err, Result, Option, refl, sym, ◌∙◌, ap, subst, inl}
-use Rattle.std.proofs.Common.{inr}
+use Rattle.std.proofs.Common.{◌≡◌, ℕ, Some, Ok, Err, Result, Option, refl, sym, ◌∙◌, ap, subst}
+use Rattle.std.proofs.Common.{rules}
 use Rattle.std.specs.FinSet.{FinSet, contains}
 use Rattle.std.specs.{Ordering.nat_cmp, Prelude.IsTrue, Prelude.IfOk}
 use Rattle.vipr_spec.specs.Constraint.{Profile, Condition, Point, IsTrueAt}
@@ -24,29 +24,11 @@ module _ (P : Profile) (p : Problem) (best : Option ℚ) (table : Table) (step :
 
   -- a test fails, or a growth is refused
   pub applies_not : (e : RuleError) → Rules (Err e) → Applies P p best table step (Err e)
-  applies_not e ruled = record {
-    decided = λ c is of back value. elim (ruled c is of value) [
-      | inl memory ↦ inl memory.0
-      | inr stops ↦ inr (refusal P c (derivation_of step) e stops)
-    ];
-    memory = λ c is of value memory. elim (ruled c is of value) [
-      | inl first ↦ first.1
-      | inr stops ↦ absurd (known_is_not_memory P c (derivation_of step) _ e stops memory)
-    ];
-    sound = λ c is of back value. tt;
-    sound_rows = tt;
-    stated = tt;
-  }
+  applies_not e ruled = search (rules, refusal, known_is_not_memory)
 
   -- all tests pass, and then a growth is refused
   pub applies_full : (s : FinSet nat_cmp) → Rules (Ok s) → Applies P p best table step (Err Memory)
-  applies_full s ruled = record {
-    decided = λ c is of back value. inl refl;
-    memory = λ c is of value memory. free_of_all P c (derivation_of step) (reason_of step.reason) (ruled c is of value).0;
-    sound = λ c is of back value. tt;
-    sound_rows = tt;
-    stated = tt;
-  }
+  applies_full s ruled = search (rules, free_of_all)
 
   -- all tests pass, and what rests on these assumptions is kept
   pub applies : (s : FinSet nat_cmp) → Rules (Ok s)

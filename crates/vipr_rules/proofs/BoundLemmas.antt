@@ -1,6 +1,6 @@
 -- The tightest bounds of a value, constraint by constraint
 use Rattle.std.proofs.Common.{◌≡◌, ℕ, ◌+◌, Bool, true, false, cond, MatchBool, List, pos, sym}
-use Rattle.std.proofs.Common.{subst, inl, inr, arith}
+use Rattle.std.proofs.Common.{subst, inl, inr, arith, rules}
 use Rattle.std.proofs.{lemmas.Bool.cases_lt, lemmas.Int.ints}
 use Rattle.std.specs.Prelude.{◌↔◌, ◌*ℤ◌, ◌<ℤ◌}
 use Rattle.std.specs.declared.cmp.Ordering.TheVariants.{Less, Equal, Greater}
@@ -40,10 +40,7 @@ up_to_min a b v = by (is_lt (cmp_ℚ b a)) (is_below a b)
     by false h = (λ k. (k, as_good_trans minimum v a b k h), λ k. k.0)
 
 pub equal_between : (x y : ℚ) → (x ≡ y) ↔ ((y ≤ℚ x) × (x ≤ℚ y))
-equal_between x y = (
-  λ e. (le_of_eq_ℚ y x (sym e), le_of_eq_ℚ x y e),
-  λ h. same_ℚ x y (let a = h.1.cross in let b = h.0.cross in omega (arith, ints, a, b)),
-)
+equal_between x y = search (rules, le_of_eq_ℚ, same_ℚ, ints)
 
 -- ---- constraint by constraint
 pub bounds_next : (row : Row) (cs : List Constraint) (n : ℕ) (old new : Bounds)

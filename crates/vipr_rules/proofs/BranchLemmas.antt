@@ -2,7 +2,7 @@
 -- constraint rests on.
 use Rattle.std.proofs.Common.{◌≡◌, ◌≢◌, ℕ, Bool, true, false, not, ◌&&◌, nat_eq, List, [], ◌∷◌}
 use Rattle.std.proofs.Common.{◌++◌, Option, Some, None, refl, sym, ap, ap₂, ◌∙◌, subst, inl, inr}
-use Rattle.std.proofs.Common.{arith}
+use Rattle.std.proofs.Common.{arith, rules}
 use Rattle.std.specs.Prelude.{◌↔◌, ◌⊎◌, IsTrue, Result, Ok, Err, IfOk, OnOk, MatchResult}
 use Rattle.std.specs.FinSet.{FinSet, contains, union, remove, contains-remove}
 use Rattle.std.specs.{Cmp.nat_cmp_total, Ordering.nat_cmp, Result.result_and}
@@ -42,19 +42,13 @@ in_remove s l a = (λ h. out a l (contains s a) (sym same ∙ h), λ h. same ∙
 
 set_without : (c : Certificate) (i l : ℕ) (k : Known) (s : FinSet nat_cmp) → IsKnownAs c i k
     → s ≡ remove (set_of k) l → IsSetWithout c i l s
-set_without c i l k s is same = subst (IsSetWithout c i l) (sym same) (λ a. (
-  λ h. let r = (in_remove (set_of k) l a).0 h in ((is.rests a).0 r.0, r.1),
-  λ r. (in_remove (set_of k) l a).1 ((is.rests a).1 r.0, r.1),
-))
+set_without c i l k s is same = search (rules, in_remove)
 
 pub joined_set : (c : Certificate) (i1 l1 i2 l2 : ℕ) (k1 k2 : Known) (s t u : FinSet nat_cmp)
     → IsKnownAs c i1 k1 → IsKnownAs c i2 k2
     → s ≡ remove (set_of k1) l1 → t ≡ remove (set_of k2) l2 → u ≡ union s t
     → IsSetByReason c (uns i1 l1 i2 l2) u
-joined_set c i1 l1 i2 l2 k1 k2 s t u is1 is2 e1 e2 e = subst (IsSetByReason c (uns i1 l1 i2 l2)) (sym e) (λ a. (
-  λ h. elim ((in_union s t a).0 h) [ inl k ↦ inl ((set_without c i1 l1 k1 s is1 e1 a).0 k) | inr k ↦ inr ((set_without c i2 l2 k2 t is2 e2 a).0 k) ],
-  λ h. (in_union s t a).1 (elim h [ inl k ↦ inl ((set_without c i1 l1 k1 s is1 e1 a).1 k) | inr k ↦ inr ((set_without c i2 l2 k2 t is2 e2 a).1 k) ]),
-))
+joined_set c i1 l1 i2 l2 k1 k2 s t u is1 is2 e1 e2 e = search (rules, in_union, set_without)
 
 -- ---- one test
 assumed_by : (o : Option Reason) → is_assumption o ≡ true → o ≡ Some asm

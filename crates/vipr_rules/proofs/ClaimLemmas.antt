@@ -1,13 +1,14 @@
 -- What finite bounds ask of a constraint and of the best value.
-use Rattle.std.proofs.Common.{◌≡◌, ◌≢◌, List, [], ◌∷◌, ◌++◌, Option, Some, None, IfSome, IsSome}
-use Rattle.std.proofs.Common.{IsSomeAnd, Contains, option_map, refl, sym, ap, subst, inl, inr}
+use Rattle.std.proofs.Common.{◌≡◌, ◌≢◌, List, [], ◌∷◌, ◌++◌, Option, Some, None, IfSome}
+use Rattle.std.proofs.Common.{Contains, option_map, refl, sym, ap, subst, inl, inr}
+use Rattle.std.proofs.Common.{rules}
 use Rattle.std.specs.Prelude.{◌↔◌}
 use Rattle.std.proofs.lemmas.List.Elements.{All-contains}
 use Rattle.vipr_spec.specs.Constraint.{Profile, one, two, Condition, Row, at, Dominates, IsWholeRow}
 use Rattle.vipr_spec.specs.Certificate.{Named, Problem, Claim, infeasible, range, objective_at}
 use Rattle.vipr_spec.specs.Certificate.{objective_constraint, stays, IsAsGood, dual_bound}
-use Rattle.vipr_spec.specs.Certificate.{MeetsBound, MeetsDual, NeedsGoal, MeetsPrimal}
-use Rattle.vipr_spec.specs.Tests.{goal_needed_by, finite_primal}
+use Rattle.vipr_spec.specs.Certificate.{MeetsBound, MeetsPrimal}
+use Rattle.vipr_spec.specs.Tests.{finite_primal}
 use Rattle.vipr_spec.specs.{Fraction.ℚ, Soundness.IsBestValue}
 use Rattle.vipr_spec.proofs.Laws.{as_good_trans, best_first}
 use Rattle.vipr_linear.specs.{Constraint.condition_of, declared.constraint.Constraint.Constraint}
@@ -28,11 +29,7 @@ module _ (p : Problem) (lower upper : Option ℚ) (bound : ℚ) (is : range lowe
   plain two apart d = (λ h. inl h, λ h. elim h [ inl k ↦ k | inr k ↦ absurd (apart (refl, k.0)) ])
 
   target_in : (P : Profile) (t : Target) → Some bound ≡ dual_bound p.direction lower upper → t ≢ Nothing → target_bound t ≡ Some goal → ((d : Condition) → IsMetBy t d ↔ MeetsBound P p d bound) → IsTargetIn P p t
-  target_in P t dual some says met = record {
-    met = λ d. subst (λ k. IsMetBy t d ↔ MeetsDual P p k d) is (subst (λ b. IsMetBy t d ↔ IsSomeAnd b (MeetsBound P p d)) dual (met d));
-    bound = subst (λ k. target_bound t ≡ goal_needed_by p k) is (subst (λ b. target_bound t ≡ option_map (objective_constraint p (stays p.direction)) b) dual says);
-    needed = subst (λ k. NeedsGoal p k ↔ (t ≢ Nothing)) is (subst (λ b. IsSome b ↔ (t ≢ Nothing)) dual (λ h. some, λ h. refl));
-  }
+  target_in P t dual some says met = search (rules, option_map)
 
   pub bound_is_target : (P : Profile) (x : Constraint) → Some bound ≡ dual_bound p.direction lower upper → condition_of x ≡ objective_constraint p (stays p.direction) bound
       → ¬ ((P ≡ two) × IsWholeRow p.integers (at p.objective)) → IsTargetIn P p (Bound x)

@@ -1,7 +1,7 @@
 -- The columns of a problem, entry by entry, and sums over the listed variables of a solution
 use Rattle.std.proofs.Common.{◌≡◌, ◌≢◌, ℕ, zero, suc, ◌+◌, ◌<◌, ◌≤◌, ◌⊎◌, inl, inr, List, [], ◌∷◌}
 use Rattle.std.proofs.Common.{◌++◌, length, get_or, map, replicate, All, Vec, arith, refl, sym, ◌∙◌}
-use Rattle.std.proofs.Common.{ap, ap₂, subst, subst₂, add-one, nat_cmp, Bool, true}
+use Rattle.std.proofs.Common.{ap, subst, add-one, nat_cmp, Bool, true, rules}
 use Rattle.std.proofs.lemmas.List.{get_or-set_same, get_or-set_other, get_or_default, get_or-map}
 use Rattle.std.proofs.lemmas.List.{get_or_append_left, get_or_push, length_push, length-set}
 use Rattle.std.proofs.lemmas.List.{length-map, map-set, get_or_past, get_or-replicate}
@@ -40,10 +40,7 @@ module _ {A : Type 0} (number : A → ℕ) (d : A) where
   none_occur xs c i past s = let a : c ≤ s.0 = s.1 in let b : s.0 < length xs = s.2 in absurd (omega (arith, past, a, b))
 
   pub occurs_later : (xs : List A) (c i : ℕ) → number (get_or xs c d) ≢ i → OccursFrom number d c xs i → OccursFrom number d (c + 1) xs i
-  occurs_later xs c i n s = elim (cases_eq s.0 c) [
-    | inl e ↦ absurd (n (ap (λ k. number (get_or xs k d)) (sym e) ∙ s.3))
-    | inr apart ↦ let a : c ≤ s.0 = s.1 in (s.0, omega (arith, a, apart), s.2, s.3)
-  ]
+  occurs_later xs c i n s = search (rules, cases_eq)
 
 -- ---- a row's entries
 at_least_low : (low : ℕ) (es : List (ℕ × ℚ)) (k : ℕ) (d : ℕ × ℚ) → RisesFrom low es → k < length es
@@ -105,16 +102,7 @@ later cs i j e h = let l : e.0 < i = h.0 in (omega (arith, l), h.1, h.2)
 
 module _ (o : Row) (cs : List Constraint) (i j : ℕ) (places : List (ℕ × ℕ)) (is : ArePlaces o cs i j places) where
   pub places_same : HasRow o (nth cs i) ⊎ (at (nth cs i).row j ≡ zero_ℚ) → ArePlaces o cs (i + 1) j places
-  places_same none = record {
-    found = λ k l. later cs i j (get_or places k (0, 0)) (is.found k l);
-    rising = is.rising;
-    rest = λ h l. elim (cases_lt h i) [
-      | inl below ↦ is.rest h below
-      | inr past ↦
-          let e : i ≡ h = omega (arith, l, past) in
-          elim none [ inl same ↦ inl (subst (λ n. HasRow o (nth cs n)) e same) | inr z ↦ inr (inl (ap (λ n. at (nth cs n).row j) (sym e) ∙ z)) ]
-    ];
-  }
+  places_same none = search (rules, later, cases_lt)
 
   module _ (k : ℕ) where
     left : (m : ℕ) → m < length places → get_or (places ++ (i, k) ∷ []) m (0, 0) ≡ get_or places m (0, 0)
@@ -124,32 +112,7 @@ module _ (o : Row) (cs : List Constraint) (i j : ℕ) (places : List (ℕ × ℕ
     last m l past = get_or_push places (i, k) (0, 0) m (let n = length_push places (i, k) in omega (arith, n, l, past))
 
     pub places_more : k < length (entries (nth cs i).row) → get_or (entries (nth cs i).row) k (0, zero_ℚ) ≡ (j, at (nth cs i).row j) → ArePlaces o cs (i + 1) j (places ++ (i, k) ∷ [])
-    places_more l e = record {
-      found = λ m b. elim (cases_lt m (length places)) [
-        | inl below ↦ subst (IsPlace cs (i + 1) j) (sym (left m below)) (later cs i j (get_or places m (0, 0)) (is.found m below))
-        | inr past ↦ subst (IsPlace cs (i + 1) j) (sym (last m b past)) (omega arith, l, e)
-      ];
-      rising = λ a b less bound. elim (cases_lt b (length places)) [
-        | inl below ↦ subst₂ (λ (x y : ℕ × ℕ). x.0 < y.0) (sym (left a (omega (arith, less, below)))) (sym (left b below)) (is.rising a b less below)
-        | inr past ↦
-            let before : a < length places = (let n = length_push places (i, k) in omega (arith, n, less, bound, past)) in
-            subst₂ (λ (x y : ℕ × ℕ). x.0 < y.0) (sym (left a before)) (sym (last b bound past)) (is.found a before).0
-      ];
-      rest = λ h b. elim (cases_lt h i) [
-        | inl below ↦ elim (is.rest h below) [
-          | inl same ↦ inl same
-          | inr some ↦ elim some [
-            | inl z ↦ inr (inl z)
-            | inr s ↦ let m : s.0 < length places = s.2 in inr (inr (s.0, omega arith, (let n = length_push places (i, k) in omega (arith, n, m)), ap (λ (x : ℕ × ℕ). x.0) (left s.0 m) ∙ s.3))
-          ]
-        ]
-        | inr past ↦
-            let n = length_push places (i, k) in
-            let m : length places < length (places ++ (i, k) ∷ []) = omega (arith, n) in
-            let same : i ≡ h = omega (arith, b, past) in
-            inr (inr (length places, omega arith, m, ap (λ (x : ℕ × ℕ). x.0) (last (length places) m (omega arith)) ∙ same))
-      ];
-    }
+    places_more l e = search (rules, cases_lt, left, later, last, length_push)
 
 -- ---- columns
 abbrev pub Columns : Type 0
@@ -164,9 +127,7 @@ module _ (columns : Columns) (v : ℕ) (l : v < length columns) where
     set_is = map-set (λ (w : Vec (ℕ × ℕ) Global). w.items) columns v y
 
     column_here : column_at (slice_set columns v y) v ≡ y.items
-    column_here =
-        ap (λ xs. get_or xs v []) set_is
-        ∙ get_or-set_same (map (λ (w : Vec (ℕ × ℕ) Global). w.items) columns) v y.items [] (let n = length-map columns (λ (w : Vec (ℕ × ℕ) Global). w.items) in omega (arith, n, l))
+    column_here = search (rules, set_is, get_or-set_same, length-map)
 
     column_other : (j : ℕ) → j ≢ v → column_at (slice_set columns v y) j ≡ column_at columns j
     column_other j n = ap (λ xs. get_or xs j []) set_is ∙ get_or-set_other (map (λ (w : Vec (ℕ × ℕ) Global). w.items) columns) v j y.items [] n
@@ -183,22 +144,14 @@ columns_same o cs i columns same all j = places_same o cs i j (column_at columns
 
 module _ (o : Row) (cs : List Constraint) (i : ℕ) (row : Row) (same : (nth cs i).row ≡ row) (es : List (ℕ × ℚ)) (list : es ≡ entries row) (r : RisesFrom 0 es) where
   pub half_start : (columns : Columns) → AreColumns o cs i columns → AreHalf o cs i es 0 columns
-  half_start columns all = record {
-    before = λ k a l. all (get_or es k (0, zero_ℚ)).0;
-    after = λ j. elim (zero_or_occurs row es list r j) [
-      | inl z ↦ inl (places_same o cs i j (column_at columns j) (all j) (inr (ap (λ x. at x j) same ∙ z)))
-      | inr s ↦ inr s
-    ];
-  }
+  half_start columns all = search (rules, zero_or_occurs, places_same)
 
   module _ (columns : Columns) (c : ℕ) (p : ℕ × ℚ) (l : c < length es) (e : p ≡ get_or es c p) (within : p.0 < length columns) (y : Vec (ℕ × ℕ) Global) (pushed : y.items ≡ column_at columns p.0 ++ (i, c) ∷ []) where
     here : get_or es c (0, zero_ℚ) ≡ p
     here = there es c (0, zero_ℚ) p l e
 
     in_row : get_or (entries (nth cs i).row) c (0, zero_ℚ) ≡ (p.0, at (nth cs i).row p.0)
-    in_row =
-        ap (λ x. get_or (entries x) c (0, zero_ℚ)) same ∙ ap (λ xs. get_or xs c (0, zero_ℚ)) (sym list) ∙ here
-        ∙ ap (λ a. (p.0, a)) (sym (ap (λ x. at x p.0) same ∙ subst (λ (q : ℕ × ℚ). at row q.0 ≡ q.1) here (at_entry row es list r c (0, zero_ℚ) l)))
+    in_row = search (rules, here, at_entry)
 
     in_length : c < length (entries (nth cs i).row)
     in_length = subst (λ xs. c < length xs) (list ∙ ap entries (sym same)) l
@@ -231,30 +184,20 @@ module _ (row : Row) (x : Point) where
   value_bounded (suc n) h = sum_bounded (value n (at row) x) (at row n *ℚ x n) (h n (omega arith)).1
 
   fits_next : (n : ℕ) → ValueFits n (at row) x → TermFits (value n (at row) x) (at row n) (x n) → ValueFits (suc n) (at row) x
-  fits_next n h t j l = elim (cases_eq j n) [
-    | inl e ↦ subst (λ k. TermFits (value k (at row) x) (at row k) (x k)) (sym e) t
-    | inr apart ↦ h j (omega (arith, l, apart))
-  ]
+  fits_next n h t j l = search (rules, cases_eq)
 
   no_product : (n : ℕ) → (at row n ≡ zero_ℚ) ⊎ (x n ≡ zero_ℚ) → at row n *ℚ x n ≡ zero_ℚ
   no_product n (inl e) = ap (λ a. a *ℚ x n) e ∙ zero-mul_ℚ (x n)
   no_product n (inr e) = ap (λ a. at row n *ℚ a) e ∙ mul-zero_ℚ (at row n)
 
   sum_same_suc : (n : ℕ) (sum : ℚ) → (at row n ≡ zero_ℚ) ⊎ (x n ≡ zero_ℚ) → IsSummed row x n sum → IsSummed row x (suc n) sum
-  sum_same_suc n sum none h = (
-    fits_next n h.0 (nothing_more (value n (at row) x) (at row n) (x n) (value_bounded n h.0) none),
-    h.1 ∙ sym (ap (λ a. value n (at row) x +ℚ a) (no_product n none) ∙ add-zero_ℚ (value n (at row) x)),
-  )
+  sum_same_suc n sum none h = search (rules, fits_next, nothing_more, value_bounded, no_product, add-zero_ℚ)
 
   pub sum_same : (n : ℕ) (sum : ℚ) → (at row n ≡ zero_ℚ) ⊎ (x n ≡ zero_ℚ) → IsSummed row x n sum → IsSummed row x (n + 1) sum
   sum_same n sum none h = subst (λ k. IsSummed row x k sum) (sym (add-one n)) (sum_same_suc n sum none h)
 
   pub sum_more : (n : ℕ) (old new : ℚ) (a c : ℚ) → a ≡ at row n → x n ≡ c → TermFits old a c → new ≡ old +ℚ a *ℚ c → IsSummed row x n old → IsSummed row x (n + 1) new
-  sum_more n old new a c same coordinate fits sum h =
-      let at_old : TermFits (value n (at row) x) a c = subst (λ s. TermFits s a c) h.1 fits in
-      let t : TermFits (value n (at row) x) (at row n) (x n) = subst₂ (λ b d. TermFits (value n (at row) x) b d) same (sym coordinate) at_old in
-      subst (λ k. IsSummed row x k new) (sym (add-one n))
-      (fits_next n h.0 t, sum ∙ ap₂ (λ s p. s +ℚ p) h.1 (ap₂ (λ b d. b *ℚ d) same (sym coordinate)))
+  sum_more n old new a c same coordinate fits sum h = search (rules, fits_next)
 
   pub sum_gap : (sum : ℚ) (a b : ℕ) → a ≤ b → ((j : ℕ) → a ≤ j → j < b → x j ≡ zero_ℚ) → IsSummed row x a sum → IsSummed row x b sum
   sum_gap sum a zero le none h = let e : a ≡ 0 = omega (arith, le) in subst (λ k. IsSummed row x k sum) e h
@@ -268,10 +211,7 @@ module _ (row : Row) (x : Point) where
 -- over no variables each sum is 0
 pub sums_start : (o : Row) (cs : List Constraint) (x : Point) (sums : List ℚ) (n : ℕ)
     → sums ≡ replicate n zero_ℚ → AreSums o cs x 0 sums
-sums_start o cs x sums n zeros i l = inr (
-  (λ j m. absurd (omega arith)),
-  ap (λ xs. get_or xs i zero_ℚ) zeros ∙ get_or-replicate n i zero_ℚ zero_ℚ (let e = ap length zeros ∙ length-replicate n zero_ℚ in omega (arith, e, l)),
-)
+sums_start o cs x sums n zeros i l = search (rules, get_or-replicate, length-replicate)
 
 -- a sum that is counted moves on by what is so of each sum
 pub counted_by : (o : Row) (cs : List Constraint) (x : Point) (a b i : ℕ) (old new : List ℚ)
@@ -304,10 +244,7 @@ module _ (o : Row) (cs : List Constraint) (x : Point) (j n : ℕ) (places : List
   }
 
   pub half_sums_end : (sums : List ℚ) (c : ℕ) → length places ≤ c → AreHalfSums o cs x j places c sums → AreSums o cs x (j + 1) sums
-  half_sums_end sums c past half i l = elim (half.after i l) [
-    | inl h ↦ h
-    | inr s ↦ absurd (none_occur (λ (e : ℕ × ℕ). e.0) (0, 0) places c i past s)
-  ]
+  half_sums_end sums c past half i l = search (rules, none_occur)
 
   module _ (sums : List ℚ) (c : ℕ) (p : ℕ × ℕ) (l : c < length places) (e : p ≡ get_or places c p) (within : p.0 < length sums) (a b : ℚ) (coefficient_read : a ≡ at (nth cs p.0).row j) (coordinate : x j ≡ b) (fits : TermFits (get_or sums p.0 zero_ℚ) a b) where
     here_place : get_or places c (0, 0) ≡ p
@@ -424,11 +361,7 @@ module _ (row s : Row) (es : List (ℕ × ℚ)) (list : es ≡ entries s) (r : R
     row_next new fits sum = (p.0 + 1, reached_next s es list r c p l e h.0 h.1, sum_more row (at s) p.0 v new a p.1 read (coordinate_is s es list r c p l e) fits sum row_here)
 
     pub row_refused : (n : ℕ) → NamesBelow n (at row) → ValueFits n (at row) (at s) → TermFits v a p.1
-    row_refused n names fits =
-        subst (λ w. TermFits w a p.1) (sym row_here.1) (subst₂ (λ b d. TermFits (value p.0 (at row) (at s)) b d) (sym read) (coordinate_is s es list r c p l e) (elim (cases_lt p.0 n) [
-          | inl below ↦ fits p.0 below
-          | inr past ↦ nothing_more (value p.0 (at row) (at s)) (at row p.0) (at s p.0) (value_bounded row (at s) p.0 row_here.0) (inl (names p.0 past))
-        ]))
+    row_refused n names fits = search (rules, row_here, coordinate_is, cases_lt, nothing_more, value_bounded)
 
   pub row_end : (c : ℕ) (v : ℚ) (n : ℕ) → length es ≤ c → NamesBelow n (at row) → SummedRow row s es c v → IsSummed row (at s) n v
   row_end c v n past names h = elim (cases_lt n h.0) [
@@ -445,15 +378,7 @@ given_nth cons i n l e = get_or-map (λ (m : Named Item). constraint_of m.item) 
 -- ---- constraints that are false at 0
 module _ (o : Row) (cs : List Constraint) (n : ℕ) (indices : List ℕ) (is : AreFalseAtZero o cs n indices) where
   pub false_next : HasRow o (nth cs n) ⊎ Compares (nth cs n).sense zero_ℚ (nth cs n).bound → AreFalseAtZero o cs (n + 1) indices
-  false_next there_or_same = record {
-    within = λ k l. let h = is.within k l in omega (arith, h);
-    listed = λ i l. elim (cases_lt i n) [
-      | inl below ↦ is.listed i below
-      | inr past ↦
-          let e : n ≡ i = omega (arith, l, past) in
-          elim there_or_same [ inl same ↦ inl (subst (λ k. HasRow o (nth cs k)) e same) | inr t ↦ inr (inl (subst (λ k. Compares (nth cs k).sense zero_ℚ (nth cs k).bound) e t)) ]
-    ];
-  }
+  false_next there_or_same = search (rules, cases_lt)
 
   pub false_more : AreFalseAtZero o cs (n + 1) (indices ++ n ∷ [])
   false_more = record {
@@ -481,9 +406,7 @@ given_entries cons i n l e es list = ap (λ (c : Constraint). entries c.row) (gi
 pub place_read : (cs : List Constraint) (n j : ℕ) (e : ℕ × ℕ) → IsPlace cs n j e
     → (es : List (ℕ × ℚ)) → entries (nth cs e.0).row ≡ es → (p : ℕ × ℚ) → p ≡ get_or es e.1 p
     → p.1 ≡ at (nth cs e.0).row j
-place_read cs n j e h es same p is =
-    let l : e.1 < length es = subst (λ xs. e.1 < length xs) same h.1 in
-    ap (λ (q : ℕ × ℚ). q.1) (sym (there es e.1 (0, zero_ℚ) p l is) ∙ ap (λ xs. get_or xs e.1 (0, zero_ℚ)) (sym same) ∙ h.2)
+place_read cs n j e h es same p is = search (rules, there)
 
 pub as_many : (cons : List (Named Item)) → length (given_of cons) ≡ length cons
 as_many cons = length-map cons (λ (m : Named Item). constraint_of m.item)

@@ -1,13 +1,13 @@
 -- What is known of a constraint by its index.
-use Rattle.std.proofs.Common.{◌≡◌, ℕ, zero, suc, ◌<◌, ◌≤◌, true, ◌&&◌, ◌||◌, nat_lt, nat_le, List}
+use Rattle.std.proofs.Common.{◌≡◌, ℕ, zero, suc, ◌<◌, ◌≤◌, true, ◌&&◌, nat_lt, nat_le, List}
 use Rattle.std.proofs.Common.{[], ◌∷◌, ◌++◌, length, map, get_or, slice_index_or, Option, Some}
-use Rattle.std.proofs.Common.{None, is_some, Bor, refl, sym, ap, ap₂, ◌∙◌, arith}
+use Rattle.std.proofs.Common.{None, is_some, Bor, refl, sym, ap, ◌∙◌, arith, rules}
 use Rattle.std.proofs.{lemmas.Bool.Decides.nat_tests, lemmas.List.length-map, lemmas.Simd.map-map}
 use Rattle.std.specs.{Ordering.nat_cmp, Prelude.IsTrue}
 use Rattle.std.specs.FinSet as set
 use Rattle.vipr_spec.specs.Constraint.{Profile, condition}
 use Rattle.vipr_spec.specs.Steps.{earlier, live, index}
-use Rattle.vipr_spec.specs.Certificate.{Certificate, Derivation, last_at, is_assumption, lasts_to}
+use Rattle.vipr_spec.specs.Certificate.{Certificate, Derivation, last_at}
 use Rattle.vipr_spec.specs.Certificate.{is_live, count}
 use Rattle.vipr_spec.proofs.Laws.{reason_given, constraints_listed, lasts_listed, rests_given}
 use Rattle.vipr_linear.specs.Constraint.{constraint_of, condition_of}
@@ -37,9 +37,7 @@ before i n h = grind (arith, nat_tests)
 
 pub live_given : (c : Certificate) (i : ℕ) → i < length c.problem.constraints
     → is_live c (count c) i ≡ true
-live_given c i h =
-    ap₂ (λ r l. nat_lt i (count c) && (is_assumption r || lasts_to (count c) l)) (reason_given c i h) (last_given c i h)
-    ∙ before i (count c) (omega arith)
+live_given c i h = search (rules, nat_lt, reason_given, last_given, before)
 
 in_front : {B C : Type 0} (g : B → C) (rest : List C) (d : C) (b : B) (bs : List B) (i : ℕ)
     → i < length bs → b ≡ get_or bs i b → slice_index_or (map g bs ++ rest) i d ≡ g b
@@ -92,11 +90,7 @@ module _ (c : Certificate) (cons : List (Named Constraint)) (t : Table) (same : 
   given_is_live i h = live_given c i (let e = as_many in omega (arith, e))
 
   pub given_is_known : (i : ℕ) (n : Named Constraint) (x : Bor Constraint) → i < length cons → n ≡ get_or cons i n → x.now ≡ n.item → IsKnownAs c i (Given x)
-  given_is_known i n x h at is = let lt : i < length c.problem.constraints = let e = as_many in omega (arith, e) in record {
-    says = ap condition_of is ∙ sym (constraints_listed c i ∙ front (λ n. condition n.item) (λ n. condition_of n.item) c.problem.constraints cons _ i _ n conditions h at);
-    rests = λ a. (λ t. absurd (none_in_empty a t), λ r. absurd (rests_given c i a (reason_given c i lt) r));
-    is_assumption = sym (ap is_assumption (reason_given c i lt));
-  }
+  given_is_known i n x h at is = search (rules, as_many, constraints_listed, front, conditions, none_in_empty, rests_given, reason_given)
 
   pub derived_is_live : (i : ℕ) (e : Entry) → length cons ≤ i → Some e ≡ entry_at t i → IsTrue (is_live c (count c) i)
   derived_is_live i e h at = sym (derived_live i h) ∙ sym (ap is_some at)

@@ -1,7 +1,7 @@
 -- The tests of a sum's entries, one entry after another.
 use Rattle.std.proofs.Common.{◌≡◌, ℕ, zero, suc, ◌+◌, ◌-◌, ◌<◌, ◌≤◌, true, false, List, [], ◌∷◌}
 use Rattle.std.proofs.Common.{◌++◌, length, length-drop, take, drop, get_or, Option, Some, None}
-use Rattle.std.proofs.Common.{refl, sym, ap, ◌∙◌, subst, append_assoc, inl, inr, arith}
+use Rattle.std.proofs.Common.{refl, sym, ap, ◌∙◌, subst, append_assoc, inl, inr, arith, rules}
 use Rattle.std.proofs.lemmas.List.{append-nil, take-append-drop, length-take-le}
 use Rattle.std.proofs.{Math.Seq.take-suc, Math.Seq.take-length, lemmas.Grind.flat_map-append}
 use Rattle.std.specs.{List.flat_map, Prelude.if◌then◌else◌}
@@ -18,9 +18,7 @@ pub entry_tests-append : (before xs ys : List (ℕ × ℚ))
     → entry_tests before (xs ++ ys) ≡ entry_tests before xs ++ entry_tests (before ++ xs) ys
 unfolding entry_tests
 entry_tests-append before [] ys = ap (λ l. entry_tests l ys) (sym (append-nil before))
-entry_tests-append before (x ∷ xs) ys =
-    ap (λ l. suitable (before ++ x ∷ []) ∷ fitting (before ++ x ∷ []) ∷ l)
-    (entry_tests-append (before ++ x ∷ []) xs ys ∙ ap (λ l. entry_tests (before ++ x ∷ []) xs ++ entry_tests l ys) (append_assoc before (x ∷ []) xs))
+entry_tests-append before (x ∷ xs) ys = search (rules, append_assoc, entry_tests-append (before ++ x ∷ []) xs ys)
 
 pub one_more : (es : List (ℕ × ℚ)) (n : ℕ) (e : ℕ × ℚ) → n < length es → e ≡ get_or es n e
     → take (n + 1) es ≡ take n es ++ e ∷ []
@@ -53,17 +51,11 @@ module _ (P : StepTest → Type 0) (es : List (ℕ × ℚ)) (n : ℕ) (e : ℕ �
 
   -- the entry passes
   pub entry_passes : FirstFailing P (entry_tests [] so_far) None → P (suitable (so_far ++ e ∷ [])) → P (fitting (so_far ++ e ∷ [])) → FirstFailing P (entry_tests [] (take (n + 1) es)) None
-  entry_passes before s f =
-      subst (λ l. FirstFailing P (entry_tests [] l) None) (sym one_more')
-      (subst (λ ts. FirstFailing P ts None) (sym step_tests_of) (failing_second P (entry_tests [] so_far) _ None before (inl (s, inl (f, refl)))))
+  entry_passes before s f = search (rules, one_more', step_tests_of, failing_second)
 
   -- its sign or its size is the first thing that fails
   fails : (t : StepTest) → FirstFailing P (entry_tests [] so_far) None → FirstFailing P (suitable (so_far ++ e ∷ []) ∷ fitting (so_far ++ e ∷ []) ∷ []) (Some t) → FirstFailing P (entry_tests [] es) (Some t)
-  fails t before h =
-      subst (λ l. FirstFailing P (entry_tests [] l) (Some t)) (sym parts)
-      (subst (λ ts. FirstFailing P ts (Some t)) (sym (entry_tests-append [] (so_far ++ e ∷ []) (drop (n + 1) es)))
-      (failing_first P (entry_tests [] (so_far ++ e ∷ [])) (entry_tests (so_far ++ e ∷ []) (drop (n + 1) es)) t
-      (subst (λ ts. FirstFailing P ts (Some t)) (sym step_tests_of) (failing_second P (entry_tests [] so_far) _ (Some t) before h))))
+  fails t before h = search (rules, parts, entry_tests-append, failing_first, step_tests_of, failing_second)
 
   pub sign_fails : FirstFailing P (entry_tests [] so_far) None → ¬ P (suitable (so_far ++ e ∷ [])) → FirstFailing P (entry_tests [] es) (Some (suitable (take (n + 1) es)))
   sign_fails before bad = subst (λ l. FirstFailing P (entry_tests [] es) (Some (suitable l))) (sym one_more') (fails _ before (inr (bad, refl)))
@@ -73,10 +65,7 @@ module _ (P : StepTest → Type 0) (es : List (ℕ × ℚ)) (n : ℕ) (e : ℕ �
 
   -- ---- the references
   pub references_more : (f : Option StepTest) → FirstFailing P (flat_map reference_tests so_far) None → FirstFailing P (reference_tests e) f → FirstFailing P (flat_map reference_tests (take (n + 1) es)) f
-  references_more f before h =
-      subst (λ l. FirstFailing P (flat_map reference_tests l) f) (sym one_more')
-      (subst (λ ts. FirstFailing P ts f) (sym (flat_map-append reference_tests so_far (e ∷ []) ∙ ap (λ l. flat_map reference_tests so_far ++ l) (append-nil (reference_tests e))))
-      (failing_second P (flat_map reference_tests so_far) (reference_tests e) f before h))
+  references_more f before h = search (rules, one_more', flat_map-append, append-nil, failing_second)
 
   pub reference_fails : (t : StepTest) → FirstFailing P (flat_map reference_tests so_far) None → FirstFailing P (reference_tests e) (Some t) → FirstFailing P (flat_map reference_tests es) (Some t)
   reference_fails t before h =

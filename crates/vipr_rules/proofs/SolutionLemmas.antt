@@ -1,7 +1,8 @@
 -- The tests of a listed solution, one item after another.
 use Rattle.std.proofs.Common.{◌≡◌, ℕ, zero, suc, ◌+◌, ◌<◌, ◌≤◌, Bool, true, false, cond, filter}
 use Rattle.std.proofs.Common.{List, [], ◌∷◌, ◌++◌, length, take, drop, map, get_or, Option, Some}
-use Rattle.std.proofs.Common.{None, refl, sym, ap, ◌∙◌, subst, inl, inr, arith}
+use Rattle.std.proofs.Common.{None, refl, sym, ap, ◌∙◌, subst, inl, inr, arith, rules}
+use Rattle.std.proofs.lemmas.Grind.{common_steps}
 use Rattle.std.proofs.lemmas.List.{append-nil, take-append-drop, take_all, take_more, get_or-map}
 use Rattle.std.proofs.lemmas.List.Concat.{flat_map-append}
 use Rattle.std.proofs.lemmas.List.FromFn.{length-range_with_len, get_or-range_with_len}
@@ -25,9 +26,7 @@ use Rattle.vipr_rules.specs.Solution.{test_of, PassesAll, FailsBy, tests_at, tes
 -- ---- items, each with its tests
 module _ {X T : Type 0} (P : T → Type 0) (f : X → List T) (xs : List X) (n : ℕ) (x d : X) (within : n < length xs) (this : x ≡ get_or xs n d) where
   one_more : flat_map f (take (n + 1) xs) ≡ flat_map f (take n xs) ++ f x
-  one_more =
-      ap (flat_map f) (take_more xs n d within ∙ ap (λ y. take n xs ++ y ∷ []) (sym this))
-      ∙ flat_map-append f (take n xs) (x ∷ []) ∙ ap (λ l. flat_map f (take n xs) ++ l) (append-nil (f x))
+  one_more = grind (arith, common_steps, take_more, flat_map-append, append-nil)
 
   pub item_next : (found : Option T) → FirstFailing P (flat_map f (take n xs)) None → FirstFailing P (f x) found → FirstFailing P (flat_map f (take (n + 1) xs)) found
   item_next found before h = subst (λ ts. FirstFailing P ts found) (sym one_more) (failing_second P (flat_map f (take n xs)) (f x) found before h)
@@ -53,8 +52,7 @@ module _ (p : Problem) (s : Row) where
 
   whole_from : AreWhole p.integers s → (a n : ℕ) → PassesAll p s (from a n)
   whole_from w a zero = refl
-  whole_from w a (suc n) =
-      let rest = whole_from w (a + 1) n in one_from a n None (λ integer. inl (w a integer, rest)) (λ _. rest)
+  whole_from w a (suc n) = search (rules, one_from, whole_from w (a + 1) n)
 
   pub all_whole : AreWhole p.integers s → PassesAll p s (map whole_at (integer_variables p))
   all_whole w = whole_from w 0 (variables p)
