@@ -169,7 +169,13 @@ module _ (P : Profile) (c : Certificate) (g : ℕ) (proof : IsProof P c) where
   live_old : (i k : ℕ) → length c.problem.constraints ≤ i → i < k → is_kept c (Some g) i ≡ true → is_kept c (Some g) k ≡ true
       → is_live (tightened_certificate c (Some g)) (new_index (is_kept c (Some g)) k + 1) (new_index (is_kept c (Some g)) i) ≡ true → is_live c (k + 1) i ≡ true
   live_old i k low h ki kk l =
-      grind (arith, and_from, lt-ltb, or_left, reason_new, kept_given, assumption_new, lasts_old, or_cases, and_parts)
+      let keep = is_kept c (Some g) in
+      let t = tightened_certificate c (Some g) in
+      and_from (nat_lt i (k + 1)) _ (lt-ltb i (k + 1) (omega arith)) (⊎_elim
+      (λ (a : is_assumption (reason_at t (new_index keep i)) ≡ true).
+      or_left (is_assumption (reason_at c i)) _ (sym (ap is_assumption (reason_new c keep (kept_given c (Some g)) i ki) ∙ assumption_new (new_index keep) (reason_at c i)) ∙ a))
+      (λ (a : lasts_to (new_index keep k + 1) (last_at t (new_index keep i)) ≡ true). lasts_old i k low h ki kk (last_at t (new_index keep i)) refl a)
+      (or_cases (is_assumption (reason_at t (new_index keep i))) (lasts_to (new_index keep k + 1) (last_at t (new_index keep i))) (and_parts (nat_lt (new_index keep i) (new_index keep k + 1)) _ l).1))
 
   pub held_old : (k : ℕ) → length c.problem.constraints ≤ k → is_kept c (Some g) k ≡ true → count_held (tightened_certificate c (Some g)) (new_index (is_kept c (Some g)) k) ≤ count_held c k
   held_old k low kk =
