@@ -1,14 +1,10 @@
-use Rattle.std.proofs.Common.{◌∷◌, [], length-append, arith, ◌∙◌, map, sym, subst}
+use Rattle.std.proofs.Common.{◌∷◌, [], length-append, arith, ◌∙◌, map, subst}
 use Rattle.std.proofs.lemmas.Result.{err_from_is_err_and}
 use Rattle.std.proofs.{lemmas.List.map_push, lemmas.List.Elements.All-push}
 use Rattle.vipr_spec.specs.Reading.{read_each}
 use Rattle.vipr_scan.specs.Giving.{rest_of}
-use Rattle.vipr_read.specs.Limits.{CanWriteRow}
 use Rattle.vipr_read.proofs.{Keeping.kept_on, Repeating.goes_on, Repeating.ends, Repeating.is_done}
 use Rattle.vipr_read.proofs.item.all.Goals as goal
-
-pub parse-requires : goal.parse-requires
-parse-requires g c = record { objective = subst (λ n. CanWriteRow n c.args.objective.now) (sym c.loop.invariant.kept.variables) c.requires.objective }
 
 pub returns-in_err-next-clause-read : goal.returns-in_err-next-clause-read
 returns-in_err-next-clause-read g c p variables objective =

@@ -1,24 +1,10 @@
-use Rattle.std.proofs.Common.{◌≡◌, ◌-◌, ◌∷◌, [], length-append, arith, map, refl}
-use Rattle.std.proofs.lemmas.List.Elements.{All-nil, All-push}
+use Rattle.std.proofs.Common.{◌∷◌, [], length-append, arith, map}
+use Rattle.std.proofs.lemmas.List.Elements.{All-push}
 use Rattle.std.proofs.{lemmas.List.map_push, lemmas.Result.err_from_is_err_and}
 use Rattle.vipr_spec.specs.Reading.{read_each}
 use Rattle.vipr_scan.specs.Giving.{rest_of}
-use Rattle.vipr_read.proofs.Repeating.{goes_on, ends, is_done, begins}
-use Rattle.vipr_read.proofs.Keeping.{kept_on}
+use Rattle.vipr_read.proofs.{Keeping.kept_on, Repeating.goes_on, Repeating.ends, Repeating.is_done}
 use Rattle.vipr_read.proofs.repeat.many_into.Goals as goal
-
-pub loop-init : goal.loop-init
-loop-init g c =
-    let item = g.P.Part.reading c.args.part.now c.args.parser.now.variables in
-    let e = c.requires in
-    let z : c.args.count - 0 ≡ c.args.count = omega arith in
-    record {
-      kept = record { variables = refl; home = refl };
-      so_many = rw e refl;
-      shape = rw e (All-nil (g.P.Part.shape c.args.part.now c.args.parser.now.variables));
-      known = λ known. known;
-      read = λ known. rw (e, z) (begins item (read_each item c.args.count (rest_of c.args.parser.now.rest)));
-    }
 
 pub returns-in_err-next-clause-read : goal.returns-in_err-next-clause-read
 returns-in_err-next-clause-read g c =

@@ -26,27 +26,6 @@ returns-in-Err-claim_and_count-clause-read g c known =
     let claim = rw c.in-Err-claim_and_count.is at c.claim_and_count.ensures.read in
     rw (problem_parts (rest_of c.args.self.now.rest), names.0, sections.0) (fails_first c.in-Err-claim_and_count.stop _ _ (claim.1 sections.1))
 
-pub of_parts-problem-requires : goal.of_parts-problem-requires
-of_parts-problem-requires g c =
-    let size : c.len.result ≡ length c.in_ok-names.names.items = search rules in
-    let sections = rw (size, c.in-Ok.is) at c.sections.ensures.sections in
-    record {
-      shape = record {
-        names = c.in_ok-names.ensures.names.tokens;
-        few_names = c.in_ok-names.ensures.names.few;
-        integers = sections.integers;
-        objective = sections.objective.below;
-        constraints = sections.constraints.shape;
-        few_constraints = sections.constraints.few;
-      };
-      fits = record {
-        objective = sections.objective.fits;
-        constraints = sections.constraints.fit;
-        bound_count = sections.constraints.bounds;
-        claim = rw c.in-Ok-claim_and_count.is at c.claim_and_count.ensures.fits;
-      };
-    }
-
 pub returns-clause-read : goal.returns-clause-read
 returns-clause-read g c known =
     let size : c.len.result ≡ length c.in_ok-names.names.items = search rules in
