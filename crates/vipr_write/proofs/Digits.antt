@@ -1,6 +1,6 @@
 -- Whole numbers: two digits, and the sign
 use Rattle.std.proofs.Common.{◌≡◌, ℕ, ◌+◌, ◌/◌, ◌%◌, ◌<◌, ◌≤◌, [], ◌∷◌}
-use Rattle.std.proofs.Common.{◌++◌, append_assoc, sym, ap, ◌∙◌, arith}
+use Rattle.std.proofs.Common.{◌++◌, append_assoc, sym, ap, ◌∙◌, arith, rules}
 use Rattle.std.proofs.{lemmas.Fmt.decimal_digit, lemmas.Fmt.decimal_step}
 use Rattle.std.specs.Fmt.{decimal}
 
@@ -12,9 +12,4 @@ two_digits n more few =
 -- the last two of three digits and of four
 pub last_two : (n : ℕ) → 100 ≤ n → n < 10000
     → decimal (n / 100) ++ (48 + n / 10 % 10) ∷ (48 + n % 10) ∷ [] ≡ decimal n
-last_two n more few =
-    let same : n / 100 ≡ n / 10 / 10 = omega arith in
-    ap (λ m. decimal m ++ (48 + n / 10 % 10) ∷ (48 + n % 10) ∷ []) same
-    ∙ sym (append_assoc (decimal (n / 10 / 10)) ((48 + n / 10 % 10) ∷ []) ((48 + n % 10) ∷ []))
-    ∙ ap (λ l. l ++ (48 + n % 10) ∷ []) (sym (decimal_step (n / 10) (omega arith) (omega arith)))
-    ∙ sym (decimal_step n (omega arith) (omega arith))
+last_two n more few = search (rules, append_assoc, decimal_step)

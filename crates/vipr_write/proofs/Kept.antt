@@ -2,7 +2,8 @@
 use Rattle.std.proofs.Common.{◌≡◌, ℕ, zero, suc, get_or, codes, IsTrue, ◌-◌, ◌<◌, ◌≤◌, Bool, true}
 use Rattle.std.proofs.Common.{false, ◌&&◌, nat_lt, nat_le, cond, List, [], ◌∷◌, ◌++◌, length, map}
 use Rattle.std.proofs.Common.{take, drop, slice_index, slice_range, All, refl, sym, ap, ap₂, ◌∙◌}
-use Rattle.std.proofs.Common.{append_assoc, length-append, lt-ltb, arith}
+use Rattle.std.proofs.Common.{append_assoc, length-append, lt-ltb, arith, rules}
+use Rattle.std.proofs.lemmas.Grind.{common_steps}
 use Rattle.std.proofs.lemmas.List.{append-nil, take-append-le, drop-append-le, length-drop}
 use Rattle.std.proofs.lemmas.List.{get_or_push, map_push}
 use Rattle.std.proofs.lemmas.List.Elements.{All-push, All-head, All-tail, All-nil, All-cons}
@@ -37,16 +38,11 @@ tests_true m n h = grind (arith, nat_tests)
 -- a part of a text that grows
 part_same : (text more : List ℕ) (start end : ℕ) → start ≤ end → end ≤ length text
     → slice_range (text ++ more) start end ≡ slice_range text start end
-part_same text more start end a b =
-    let size = length-drop start text in
-    ap (take (end - start)) (drop-append-le start text more (omega arith)) ∙ take-append-le (end - start) (drop start text) more (omega arith)
+part_same text more start end a b = search (rules, length-drop, drop-append-le, take-append-le)
 
 part_new : (text more : List ℕ)
     → slice_range (text ++ more) (length text) (length (text ++ more)) ≡ more
-part_new text more =
-    let size = length-append text more in
-    let long : length (text ++ more) - length text ≡ length more = omega arith in
-    ap (λ n. take n (drop (length text) (text ++ more))) long ∙ ap (take (length more)) (drop-append-le (length text) text more (omega arith) ∙ ap (λ l. l ++ more) (drop-length text)) ∙ take-length more
+part_new text more = grind (arith, common_steps, length-append, drop-append-le, drop-length, take-length)
 
 -- a number of the ends, of which there is one more
 end_same : (xs : List ℕ) (y i : ℕ) → i < length xs → get_or (xs ++ y ∷ []) i 0 ≡ get_or xs i 0
@@ -81,23 +77,10 @@ module _ (t u : Statements) (more : List ℕ) (ends : u.ends ≡ t.ends ++ lengt
     same_end = ap (λ l. own_end l s) ends ∙ end_same t.ends (length u.text.bytes.items) s.index parts.0
 
     within_more : is_within u.ends u.text.bytes.items s ≡ true
-    within_more =
-        let n = ap length ends in
-        let m = length-append t.ends (length u.text.bytes.items ∷ []) in
-        let k = ap length e in
-        let l = length-append t.text.bytes.items more in
-        let p = parts in
-        let a = same_start in
-        let b = same_end in
-        within_by u.ends u.text.bytes.items s (omega arith) (omega arith) (omega arith)
+    within_more = search (rules, length-append, parts, same_start, same_end, within_by)
 
     own_same : own_bytes u s ≡ own_bytes t s
-    own_same =
-        ap (λ b. cond b (slice_range u.text.bytes.items (own_start u.ends s) (own_end u.ends s)) []) within_more
-        ∙ ap₂ (slice_range u.text.bytes.items) same_start same_end
-        ∙ ap (λ l. slice_range l (own_start t.ends s) (own_end t.ends s)) e
-        ∙ part_same t.text.bytes.items more (own_start t.ends s) (own_end t.ends s) parts.1 parts.2
-        ∙ sym (ap (λ b. cond b (slice_range t.text.bytes.items (own_start t.ends s) (own_end t.ends s)) []) here)
+    own_same = search (rules, cond, slice_range, within_more, same_start, same_end, part_same, parts)
 
   -- the last one
   module _ (s : Statement) (index : s.index ≡ length t.ends) (last : slice_index (0 ∷ t.ends) (length t.ends) ≡ length t.text.bytes.items) where
@@ -108,21 +91,10 @@ module _ (t u : Statements) (more : List ℕ) (ends : u.ends ≡ t.ends ++ lengt
     last_end = ap (λ l. own_end l s) ends ∙ get_or_push t.ends (length u.text.bytes.items) 0 s.index (sym index)
 
     last_within : is_within u.ends u.text.bytes.items s ≡ true
-    last_within =
-        let n = ap length ends in
-        let m = length-append t.ends (length u.text.bytes.items ∷ []) in
-        let k = ap length e in
-        let l = length-append t.text.bytes.items more in
-        let a = last_start in
-        let b = last_end in
-        within_by u.ends u.text.bytes.items s (omega arith) (omega arith) (omega arith)
+    last_within = search (rules, length-append, last_start, last_end, within_by)
 
     last_own : own_bytes u s ≡ more
-    last_own =
-        ap (λ b. cond b (slice_range u.text.bytes.items (own_start u.ends s) (own_end u.ends s)) []) last_within
-        ∙ ap₂ (slice_range u.text.bytes.items) last_start last_end
-        ∙ ap (λ l. slice_range l (length t.text.bytes.items) (length l)) e
-        ∙ part_new t.text.bytes.items more
+    last_own = search (rules, cond, slice_range, last_within, last_start, last_end, part_new)
 
   steps_same : (steps : List Step) → u.objective ≡ t.objective → u.spelled.items ≡ t.spelled.items
       → All (λ (s : Step). is_within t.ends t.text.bytes.items s.stated ≡ true) steps
@@ -175,10 +147,7 @@ kept_more t u more s d steps ds f o r e ends index words reason last kept =
 
 with_row : (name sense number row : List ℕ) → (name ++ (32 ∷ sense ++ (32 ∷ number ++ [])))
     ++ row ≡ name ++ (32 ∷ sense ++ (32 ∷ number ++ row))
-with_row name sense number row =
-    ap (λ t. (name ++ (32 ∷ sense ++ (32 ∷ t))) ++ row) (append-nil number)
-    ∙ append_assoc name (32 ∷ sense ++ (32 ∷ number)) row
-    ∙ ap (λ t. name ++ (32 ∷ t)) (append_assoc sense (32 ∷ number) row)
+with_row name sense number row = search (rules, append-nil, append_assoc)
 
 pub words_are : (form : Form) (objective : Row) (spelled : List ℕ) (name : List ℕ) (c : Constraint)
     (is_same : Bool) → spelled ≡ words_after_spaces (row_words form objective objective)
@@ -186,14 +155,8 @@ pub words_are : (form : Form) (objective : Row) (spelled : List ℕ) (name : Lis
     → (words_text (stated_words name c)
     ++ cond is_same [] (words_after_spaces (row_words form objective c.row)))
     ++ cond is_same spelled [] ≡ words_text (constraint_words_in form objective name c)
-words_are form objective spelled name c true row same =
-    let first = words_text (stated_words name c) in
-    ap (λ t. (first ++ []) ++ t) (row ∙ sym (ap words_after_spaces (same refl)))
-    ∙ ap (λ t. t ++ words_after_spaces (row_words form objective c.row)) (append-nil first)
-    ∙ with_row name (sense_word c.sense) (number_text c.bound) (words_after_spaces (row_words form objective c.row))
-words_are form objective spelled name c false row same =
-    append-nil (words_text (stated_words name c) ++ words_after_spaces (row_words form objective c.row))
-    ∙ with_row name (sense_word c.sense) (number_text c.bound) (words_after_spaces (row_words form objective c.row))
+words_are form objective spelled name c true row same = search (rules, append-nil, with_row)
+words_are form objective spelled name c false row same = search (rules, append-nil, with_row)
 
 -- ---- their lines
 
@@ -217,9 +180,7 @@ rest_of xs ys a b e = ap (drop 1) e
 pub line_is : (form : Form) (objective : Row) (t : Statements) (s : Step) (d : Derivation)
     → step_of (statement_in t) s ≡ as_text form objective d
     → step_line t s ≡ line_text (derivation_words_in form objective d)
-line_is form objective t s d e =
-    ap (λ (x : Derivation). x.name ++ (codes " {" ++ (words_after_spaces (reason_words x.reason) ++ (codes " }" ++ (32 ∷ last_word x.last ++ codes "\n"))))) e
-    ∙ sym (derivation_parts_in form objective [] d ∙ tail (words_text (constraint_words_in form objective d.name d.stated)) (words_after_spaces (reason_words d.reason)) (last_word d.last))
+line_is form objective t s d e = grind (arith, common_steps, codes, derivation_parts_in, tail)
 
 lines_are : (form : Form) (objective : Row) (t : Statements) (steps : List Step)
     (ds : List Derivation) → map (step_of (statement_in t)) steps ≡ map (as_text form objective) ds
@@ -236,9 +197,4 @@ lines_are form objective t (s ∷ steps) (d ∷ ds) e =
 pub steps_are : (c : Certificate) (p : Problem) (ls : List ℕ) (t : Statements)
     (steps : List Step) → AreStepsOf c p ls t steps
     → (lines_text (problem_lines_in t.form p) ++ ls) ++ steps_section t steps ≡ text_in t.form c
-steps_are c p ls t steps of =
-    let lines = lines_are t.form t.objective t steps c.derivations of.those in
-    sym (certificate_parts t.form c
-    ∙ ap₂ (λ q rs. (lines_text (problem_lines_in t.form q) ++ rs) ++ lines_text (derivations_lines_in t.form c.problem.objective c.derivations)) of.problem (sym of.solutions)
-    ∙ ap (λ o. (lines_text (problem_lines_in t.form p) ++ ls) ++ lines_text (derivations_lines_in t.form o c.derivations)) (sym of.objective)
-    ∙ ap₂ (λ n l. (lines_text (problem_lines_in t.form p) ++ ls) ++ (line_text (heading (codes "DER") n) ++ l)) (sym lines.0) (sym lines.1))
+steps_are c p ls t steps of = grind (arith, common_steps, lines_are, certificate_parts, codes)

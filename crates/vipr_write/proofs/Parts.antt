@@ -1,5 +1,5 @@
 -- Numbers, lines and sections in the parts in which they are appended
-use Rattle.std.proofs.Common.{◌≡◌, ℕ, List, [], ◌∷◌, ◌++◌, length, map, append_assoc, sym, ap, ◌∙◌}
+use Rattle.std.proofs.Common.{◌≡◌, ℕ, List, [], ◌∷◌, ◌++◌, length, map, append_assoc, sym, ap, ◌∙◌, rules}
 use Rattle.std.proofs.lemmas.List.{append-nil, length-map}
 use Rattle.std.proofs.{lemmas.Grind.flat_map-append, lemmas.List.Folds.flat_map-map}
 use Rattle.std.specs.{List.flat_map, Prelude.codes}
@@ -26,9 +26,7 @@ line_parts : (start name front back last : List ℕ) (ws us : List (List ℕ)) �
     start ++ line_text ((name ∷ ws) ++ front ∷ (us ++ back ∷ last ∷ []))
     ≡ (((((start ++ words_text (name ∷ ws)) ++ 32 ∷ front) ++ words_after_spaces us) ++ 32
     ∷ back) ++ 32 ∷ last) ++ 10 ∷ []
-line_parts start name front back last ws us =
-    ap (λ t. start ++ (name ++ (t ++ 10 ∷ []))) (words_after_spaces-append ws (front ∷ (us ++ back ∷ last ∷ [])) ∙ ap (λ t. words_after_spaces ws ++ ((32 ∷ front) ++ t)) (words_after_spaces-append us (back ∷ last ∷ [])))
-    ∙ simp (append_assoc, append-nil)
+line_parts start name front back last ws us = search (rules, words_after_spaces-append, append_assoc, append-nil)
 
 pub derivation_parts_in : (form : Form) (objective : Row) (start : List ℕ) (d : Derivation) →
     start ++ line_text (derivation_words_in form objective d)
@@ -42,9 +40,7 @@ section_parts : (start : List ℕ) (front cons : List (List (List ℕ)))
     start ++ lines_text (front ++ direction ∷ vector ∷ con ∷ (cons ++ claim ∷ []))
     ≡ ((((start ++ lines_text front) ++ line_text direction) ++ line_text vector)
     ++ lines_text (con ∷ cons)) ++ line_text claim
-section_parts start front cons direction vector con claim =
-    ap (λ t. start ++ t) (lines_text-append front (direction ∷ vector ∷ con ∷ (cons ++ claim ∷ [])) ∙ ap (λ t. lines_text front ++ (line_text direction ++ (line_text vector ++ (line_text con ++ t)))) (lines_text-append cons (claim ∷ [])))
-    ∙ simp (append_assoc, append-nil)
+section_parts start front cons direction vector con claim = search (rules, lines_text-append, append_assoc, append-nil)
 
 pub problem_parts_in : (form : Form) (start : List ℕ) (p : Problem) →
     start ++ lines_text (problem_lines_in form p) ≡
@@ -70,7 +66,4 @@ pub headed : {X Y : Type 0} (start : List ℕ) (heading : ℕ → List (List ℕ
     start ++ lines_text (heading (length (map view xs)) ∷ map words (map view xs))
     ≡ (start ++ line_text (heading (length xs)))
     ++ flat_map (λ x. line_text (words (view x))) xs
-headed start heading words view xs =
-    ap (λ n. start ++ (line_text (heading n) ++ lines_text (map words (map view xs)))) (length-map xs view)
-    ∙ ap (λ t. start ++ (line_text (heading (length xs)) ++ t)) (flat_map-map line_text words (map view xs) ∙ flat_map-map (λ y. line_text (words y)) view xs)
-    ∙ sym (append_assoc start (line_text (heading (length xs))) (flat_map (λ x. line_text (words (view x))) xs))
+headed start heading words view xs = search (rules, length-map, flat_map-map, append_assoc)

@@ -1,5 +1,5 @@
 -- What spells a part of a certificate: its words, within its limits, and nothing beyond them
-use Rattle.std.proofs.Common.{ℕ, ◌≤◌, List, [], ◌∷◌, ◌++◌, length, All, refl, subst}
+use Rattle.std.proofs.Common.{ℕ, ◌≤◌, List, [], ◌∷◌, ◌++◌, length, All, refl, subst, rules}
 use Rattle.std.specs.{Fmt.decimal, List.flat_map}
 use Rattle.std.proofs.lemmas.List.Elements.{All-nil, All-cons, All-append, All-head, All-tail}
 use Rattle.vipr_spec.specs.Grammar.{SpellsCount, word, one, ◌then◌, each}
@@ -22,16 +22,10 @@ pub record Spelling (S : List (List ℕ) → Type 0) (A : Type 0) (ws : List (Li
 
 pub one_part : {X A : Type 0} (P : List ℕ → X → Type 0) (x : X) (t : List ℕ)
     → (A → IsToken t × P t x) → ((t : List ℕ) → P t x → A) → Spelling (one P x) A (t ∷ [])
-one_part P x t is gives = record {
-  written = λ a. let h = is a in record { tokens = All-cons IsToken t [] h.0 (All-nil IsToken); shape = (t, refl, h.1) };
-  limits = λ ts a s. gives s.0 s.2;
-}
+one_part P x t is gives = search (rules)
 
 pub word_part : (w : List ℕ) → Spelling (word w) (IsToken w) (w ∷ [])
-word_part w = record {
-  written = λ h. record { tokens = All-cons IsToken w [] h (All-nil IsToken); shape = refl };
-  limits = λ ts a s. All-head IsToken w [] (subst (All IsToken) s a);
-}
+word_part w = search (rules)
 
 pub fixed_part : (w : List ℕ) → IsPlain w → Spelling (word w) (Unit {0}) (w ∷ [])
 fixed_part w h = record { written = λ a. (word_part w).written (plain_token w h); limits = λ ts a s. tt }

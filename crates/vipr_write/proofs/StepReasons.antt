@@ -1,6 +1,6 @@
 -- Short entries
 use Rattle.std.proofs.Common.{◌≡◌, ℕ, suc, ◌+◌, ◌*◌, ◌<◌, ℤ, pos, Bool, List, [], ◌∷◌, ◌++◌, map, take}
-use Rattle.std.proofs.Common.{length, get_or, arith, sym, ap, ap₂, ◌∙◌}
+use Rattle.std.proofs.Common.{length, get_or, arith, sym, ap, ap₂, ◌∙◌, rules}
 use Rattle.std.specs.{Ordering.int_eq}
 use Rattle.std.proofs.lemmas.List.{length-map, map_push, take_more}
 use Rattle.vipr_spec.specs.{Certificate.by_entries, Fraction.ℚ, Fraction.over, Number.number_text}
@@ -34,6 +34,4 @@ short_length es = let p = pairs_length (map entry_of es) in let s = length-map e
 pub one_more : (short new : List ShortEntry) (es : List (ℕ × ℚ)) (i : ℕ) (e : ShortEntry)
     (x : ℕ × ℚ) → i < length es → x ≡ get_or es i x → new ≡ short ++ e ∷ [] → entry_of e ≡ x
     → map entry_of short ≡ take i es → map entry_of new ≡ take (i + 1) es
-one_more short new es i e x h is longer of so_far =
-    ap (map entry_of) longer ∙ map_push entry_of short e ∙ ap₂ (λ l (y : ℕ × ℚ). l ++ y ∷ []) so_far (of ∙ is)
-    ∙ sym (take_more es i x h)
+one_more short new es i e x h is longer of so_far = search (rules, map_push, take_more)

@@ -1,6 +1,7 @@
 -- A text with marks that is put with what they mean
 use Rattle.std.proofs.Common.{◌≡◌, ℕ, suc, ◌+◌, ◌*◌, ◌<◌, ◌≤◌, List, ◌∷◌, ◌++◌, length, take, drop}
 use Rattle.std.proofs.Common.{sum, get_or, slice_range, ap, ◌∙◌, append_assoc, drop-cons, arith}
+use Rattle.std.proofs.lemmas.Grind.{common_steps}
 use Rattle.std.proofs.{lemmas.List.drop-drop, lemmas.List.Sums.sum_by-cons}
 use Rattle.std.specs.Prelude.{slice_index_or}
 use Rattle.vipr_bytes.specs.Puts.{Puts}
@@ -40,17 +41,4 @@ pub next_gap : (part ns text xs t p : List ℕ) (i at : ℕ) → xs ≡ ns → t
     (expanded part (drop i ns) (drop at text) ≡ slice_range t at (at + slice_index_or xs i 0)
     ++ (p ++ expanded part (drop (i + 1) ns) (drop (at + slice_index_or xs i 0) text)))
     × (at + slice_index_or xs i 0 + sum (drop (i + 1) ns) ≤ length text)
-next_gap part ns text xs t p i at e s q l h =
-    rw (e, s, q) (
-    let gap = get_or ns i 0 in
-    let inside = rw e at l in
-    let following : suc i ≡ i + 1 = omega arith in
-    let cons : drop i ns ≡ gap ∷ drop (i + 1) ns = drop-cons ns i 0 inside ∙ ap (λ k. gap ∷ drop k ns) following in
-    let front : take gap (drop at text) ≡ slice_range text at (at + gap) = ap (λ k. take k (drop at text)) (omega arith) in
-    let rest : drop gap (drop at text) ≡ drop (at + gap) text = drop-drop gap at text in
-    let listed = sum_by-cons (λ x. x) gap (drop (i + 1) ns) in
-    let cut = ap sum cons in (
-      ap (λ ks. expanded part ks (drop at text)) cons ∙ ap (λ u. u ++ (part ++ expanded part (drop (i + 1) ns) (drop gap (drop at text)))) front ∙ ap (λ u. slice_range text at (at + gap) ++ (part ++ expanded part (drop (i + 1) ns) u)) rest,
-      omega arith,
-    )
-    )
+next_gap part ns text xs t p i at e s q l h = grind (arith, common_steps, drop-cons, slice_range, drop-drop, sum_by-cons)

@@ -1,11 +1,11 @@
 -- A text of few words is short
 use Rattle.std.proofs.Common.{◌≡◌, ℕ, suc, ◌+◌, ◌*◌, ◌^◌, ◌<◌, ◌≤◌, List, [], ◌∷◌, ◌++◌, length}
-use Rattle.std.proofs.Common.{map, take, get_or, All, refl, sym, ap, ◌∙◌, arith}
-use Rattle.std.specs.Prelude.{codes, Bool, true, false, if◌then◌else◌}
-use Rattle.std.specs.{FinMap.entries, Fmt.decimal, List.flat_map, List.sum_by}
-use Rattle.std.proofs.lemmas.List.{length-append, take_more}
+use Rattle.std.proofs.Common.{map, take, get_or, All, refl, sym, ap, ◌∙◌, arith, rules}
 use Rattle.std.proofs.lemmas.List.Sums.{sum_by-append, sum_by-cons}
 use Rattle.std.proofs.lemmas.List.Elements.{All-head, All-tail}
+use Rattle.std.proofs.{lemmas.Grind.common_steps, lemmas.List.length-append, lemmas.List.take_more}
+use Rattle.std.specs.Prelude.{codes, Bool, true, false, if◌then◌else◌}
+use Rattle.std.specs.{FinMap.entries, Fmt.decimal, List.flat_map, List.sum_by}
 use Rattle.vipr_spec.specs.Constraint.{Row, Constraint}
 use Rattle.vipr_spec.specs.Certificate.{Name, Named, Claim, Derivation, Certificate, Problem}
 use Rattle.vipr_spec.specs.Certificate.{integer_variables}
@@ -60,9 +60,7 @@ weight-append ls ms = sum_by-append (λ (ws : List (List ℕ)). suc (length ws))
 
 sum_next : {X : Type 0} (f : X → ℕ) (xs : List X) (i : ℕ) (d : X) → i < length xs
     → sum_by f (take (i + 1) xs) ≡ sum_by f (take i xs) + f (get_or xs i d)
-sum_next f xs i d l =
-    let one : sum_by f (get_or xs i d ∷ []) ≡ f (get_or xs i d) = omega (arith, sum_by-cons f (get_or xs i d) []) in
-    ap (sum_by f) (take_more xs i d l) ∙ sum_by-append f (take i xs) (get_or xs i d ∷ []) ∙ ap (λ n. sum_by f (take i xs) + n) one
+sum_next f xs i d l = grind (arith, common_steps, sum_by-cons, take_more, sum_by-append)
 
 -- as many as the first items have, and start before
 abbrev pub Weighs : {X : Type 0} → (X → ℕ) → List X → ℕ → ℕ → ℕ → Type 0
@@ -143,14 +141,7 @@ pub problem_counted : (p : Problem) (names : List (List ℕ)) (js : List ℕ) (o
     → third ≡ counted (second + (0 + 2 * length es))
     → total ≡ counted (third + weight (map given_words cons))
     → total ≡ counted (weight (problem_lines p))
-problem_counted p names js objective es cons claim k first second third total a b c d e f g h i j l =
-    let sum = problem_is p in
-    let names_are = ap length a in
-    let members_are = ap length b in
-    let terms_are = ap length (d ∙ ap entries c) in
-    let constraints_are = ap (λ cs. weight (map given_words cs)) e in
-    let claim_is = g ∙ ap (λ x. weight (claim_words x ∷ [])) f in
-    omega (arith, sum, names_are, members_are, terms_are, constraints_are, claim_is, h, i, j, l)
+problem_counted p names js objective es cons claim k first second third total a b c d e f g h i j l = search (rules, problem_is)
 
 -- ---- in the compact form there are no more of them
 row_fewer : (form : Form) (objective row : Row)
@@ -168,9 +159,7 @@ constraint_fewer form objective name c = let row = row_fewer form objective c.ro
 
 derivation_fewer : (form : Form) (objective : Row) (d : Derivation)
     → length (derivation_words_in form objective d) ≤ length (derivation_words d)
-derivation_fewer form objective d =
-    let end = codes "{" ∷ (reason_words d.reason ++ codes "}" ∷ last_word d.last ∷ []) in
-    omega (arith, constraint_fewer form objective d.name d.stated, length-append (constraint_words_in form objective d.name d.stated) end, length-append (constraint_words d.name d.stated) end)
+derivation_fewer form objective d = search (rules, constraint_fewer, length-append)
 
 lines_fewer : {X : Type 0} (f g : X → List (List ℕ)) → ((x : X) → length (f x) ≤ length (g x))
     → (xs : List X) → weight (map f xs) ≤ weight (map g xs)
@@ -179,36 +168,15 @@ lines_fewer f g h (x ∷ xs) = omega (arith, h x, lines_fewer f g h xs, weight-c
 
 pub problem_fewer : (form : Form) (p : Problem)
     → weight (problem_lines_in form p) ≤ weight (problem_lines p)
-problem_fewer form p =
-    let start = codes "OBJ" ∷ direction_word p.direction ∷ [] in
-    let counts = codes "CON" ∷ decimal (length p.constraints) ∷ decimal p.bound_count ∷ [] in
-    let given = map given_words p.constraints in
-    let given_in = map (given_words_in form p.objective) p.constraints in
-    let end = claim_words p.claim in
-    omega (
-      arith,
-      lines_fewer (given_words_in form p.objective) given_words (λ n. constraint_fewer form p.objective n.name n.item) p.constraints,
-      weight-append (variables_lines p) (start ∷ vector_words p.objective ∷ counts ∷ (given ++ end ∷ [])),
-      weight-append (variables_lines p) (start ∷ vector_words p.objective ∷ counts ∷ (given_in ++ end ∷ [])),
-      back_weight start (vector_words p.objective) counts end given,
-      back_weight start (vector_words p.objective) counts end given_in,
-    )
+problem_fewer form p = grind (arith, common_steps, lines_fewer, constraint_fewer, weight-append, back_weight)
 
 steps_fewer : (form : Form) (objective : Row) (ds : List Derivation)
     → weight (derivations_lines_in form objective ds) ≤ weight (derivations_lines ds)
-steps_fewer form objective ds =
-    let head = heading (codes "DER") (length ds) in
-    omega (arith, lines_fewer (derivation_words_in form objective) derivation_words (derivation_fewer form objective) ds, weight-cons head (map (derivation_words_in form objective) ds), weight-cons head (map derivation_words ds))
+steps_fewer form objective ds = grind (arith, common_steps, lines_fewer, derivation_fewer, weight-cons)
 
 certificate_fewer : (form : Form) (c : Certificate)
     → weight (certificate_lines_in form c) ≤ weight (certificate_lines c)
-certificate_fewer form c =
-    let p = problem_lines c.problem in
-    let q = problem_lines_in form c.problem in
-    let ss = solutions_lines c.solutions in
-    let ds = derivations_lines c.derivations in
-    let es = derivations_lines_in form c.problem.objective c.derivations in
-    omega (arith, problem_fewer form c.problem, steps_fewer form c.problem.objective c.derivations, weight-append p (ss ++ ds), weight-append ss ds, weight-append q (ss ++ es), weight-append ss es)
+certificate_fewer form c = search (rules, problem_fewer, steps_fewer, weight-append)
 
 pub text_short : (form : Form) (c : Certificate) → CanWrite c
     → weight (certificate_lines c) < 2 ^ 48 → length (text_in form c) < 2 ^ 64

@@ -1,7 +1,8 @@
 -- Words that are tokens, and are of a shape
 use Rattle.std.proofs.Common.{◌≡◌, ℕ, ◌<◌, ◌≤◌, inl, inr, Bool, true, false, ◌&&◌, nat_lt, nat_le}
 use Rattle.std.proofs.Common.{List, [], ◌∷◌, ◌++◌, length, All, Option, Some, None, IfSome, arith}
-use Rattle.std.proofs.Common.{refl, sym, subst}
+use Rattle.std.proofs.Common.{refl, sym, subst, rules}
+use Rattle.std.proofs.lemmas.Grind.{common_steps}
 use Rattle.std.proofs.lemmas.Fmt.{decimal_is_IsNumeral, length-decimal-le}
 use Rattle.std.proofs.lemmas.List.Elements.{All-nil, All-cons, All-append}
 use Rattle.std.proofs.{lemmas.Bool.Decides.nat_tests, lemmas.List.length-append}
@@ -39,12 +40,7 @@ all_above (b ∷ bs) h =
     All-cons (λ b. is_white b ≡ false) b bs (above_space b k.0) (all_above bs k.1)
 
 pub plain_token : (bs : List ℕ) → IsPlain bs → IsToken bs
-plain_token bs h =
-    let k = both_true (nat_lt 0 (length bs) && nat_le (length bs) 65535) (list_all (λ b. nat_lt 32 b) bs) h in
-    let l = both_true (nat_lt 0 (length bs)) (nat_le (length bs) 65535) k.0 in
-    let some : 0 < length bs = let t = l.0 in grind (arith, nat_tests) in
-    let short : length bs ≤ 65535 = let t = l.1 in grind (arith, nat_tests) in
-    solid_token bs some short (all_above bs k.1)
+plain_token bs h = search (rules, both_true, nat_lt, nat_le, nat_tests, solid_token, all_above)
 
 digit_solid : (b : ℕ) → digit_value b < 10 → is_white b ≡ false
 unfolding is_white
@@ -60,10 +56,7 @@ pub decimal_natural : (n : ℕ) → n ≤ most_count → SpellsNatural (decimal 
 decimal_natural n h = decimal_is_IsNumeral n (omega arith)
 
 pub decimal_token : (n : ℕ) → n ≤ most_count → IsToken (decimal n)
-decimal_token n h =
-    let k = decimal_natural n h in
-    let l = length-decimal-le 20 n (omega arith) (omega arith) (omega arith) in
-    solid_token (decimal n) k.0.0 (omega arith) (digits_solid (decimal n) k.0.1)
+decimal_token n h = grind (arith, common_steps, decimal_natural, length-decimal-le, solid_token, digits_solid)
 
 sign_solid : (sign : List ℕ) (is_negative : Bool) → IsSign sign is_negative → Solid sign
 sign_solid sign is_negative (inl h) = subst Solid (sym h.0) (all_above [] refl)
