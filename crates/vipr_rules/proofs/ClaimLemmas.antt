@@ -1,15 +1,13 @@
 -- What finite bounds ask of a constraint and of the best value.
-use Rattle.std.proofs.Common.{◌≡◌, ◌≢◌, List, [], ◌∷◌, ◌++◌, Option, Some, None, IfSome}
-use Rattle.std.proofs.Common.{Contains, option_map, refl, sym, ap, subst, inl, inr}
-use Rattle.std.proofs.Common.{rules}
-use Rattle.std.specs.Prelude.{◌↔◌}
+use Rattle.std.proofs.Common.{◌≡◌, ◌≢◌, List, [], ◌∷◌, ◌++◌, Option, Some, None, IfSome, Contains}
+use Rattle.std.proofs.Common.{option_map, refl, sym, ap, subst, inl, inr, rules}
 use Rattle.std.proofs.lemmas.List.Elements.{All-contains}
+use Rattle.std.specs.Prelude.{◌↔◌}
 use Rattle.vipr_spec.specs.Constraint.{Profile, one, two, Condition, Row, at, Dominates, IsWholeRow}
 use Rattle.vipr_spec.specs.Certificate.{Named, Problem, Claim, infeasible, range, objective_at}
 use Rattle.vipr_spec.specs.Certificate.{objective_constraint, stays, IsAsGood, dual_bound}
 use Rattle.vipr_spec.specs.Certificate.{MeetsBound, MeetsPrimal}
-use Rattle.vipr_spec.specs.Tests.{finite_primal}
-use Rattle.vipr_spec.specs.{Fraction.ℚ, Soundness.IsBestValue}
+use Rattle.vipr_spec.specs.{Fraction.ℚ, Soundness.IsBestValue, Tests.finite_primal}
 use Rattle.vipr_spec.proofs.Laws.{as_good_trans, best_first}
 use Rattle.vipr_linear.specs.{Constraint.condition_of, declared.constraint.Constraint.Constraint}
 use Rattle.vipr_rules.specs.declared.claim.Target.{Target}

@@ -7,8 +7,7 @@ use Rattle.std.specs.{Ordering.nat_cmp, Prelude.IsTrue}
 use Rattle.std.specs.FinSet as set
 use Rattle.vipr_spec.specs.Constraint.{Profile, condition}
 use Rattle.vipr_spec.specs.Steps.{earlier, live, index}
-use Rattle.vipr_spec.specs.Certificate.{Certificate, Derivation, last_at}
-use Rattle.vipr_spec.specs.Certificate.{is_live, count}
+use Rattle.vipr_spec.specs.Certificate.{Certificate, Derivation, last_at, is_live, count}
 use Rattle.vipr_spec.proofs.Laws.{reason_given, constraints_listed, lasts_listed, rests_given}
 use Rattle.vipr_linear.specs.Constraint.{constraint_of, condition_of}
 use Rattle.vipr_linear.specs.declared.constraint.Constraint.{Constraint}

@@ -2,11 +2,10 @@
 use Rattle.std.proofs.Common.{◌≡◌, ℕ, zero, suc, ◌+◌, ◌<◌, ◌≤◌, Bool, true, false, cond, filter}
 use Rattle.std.proofs.Common.{List, [], ◌∷◌, ◌++◌, length, take, drop, map, get_or, Option, Some}
 use Rattle.std.proofs.Common.{None, refl, sym, ap, ◌∙◌, subst, inl, inr, arith, rules}
-use Rattle.std.proofs.lemmas.Grind.{common_steps}
 use Rattle.std.proofs.lemmas.List.{append-nil, take-append-drop, take_all, take_more, get_or-map}
 use Rattle.std.proofs.lemmas.List.Concat.{flat_map-append}
 use Rattle.std.proofs.lemmas.List.FromFn.{length-range_with_len, get_or-range_with_len}
-use Rattle.std.proofs.{Math.ListN.length-map, lemmas.Bool.cases_eq}
+use Rattle.std.proofs.{Math.ListN.length-map, lemmas.Bool.cases_eq, lemmas.Grind.common_steps}
 use Rattle.std.specs.{FinSet.contains, List.flat_map, List.range_with_len}
 use Rattle.vipr_spec.specs.Constraint.{Row, at, IsInteger, NamesBelow}
 use Rattle.vipr_spec.specs.Certificate.{Problem, variables, integer_variables}

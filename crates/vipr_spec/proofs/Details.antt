@@ -1,9 +1,8 @@
 -- A step that is refused has one cause and one detail
 use Rattle.std.proofs.Common.{◌≡◌, ℤ, sym, ◌∙◌, ap₂, subst, arith}
 use Rattle.vipr_spec.specs.{ℚ, whole, Sense, at_most, equal, at_least, Row, Condition, RoundsTo}
-use Rattle.vipr_spec.specs.{Named}
-use Rattle.vipr_spec.specs.{IsBest, cutoff, StepTest}
-use Rattle.vipr_spec.specs.{StepDetail, Shows, Certificate.Certificate}
+use Rattle.vipr_spec.specs.{Named, IsBest, cutoff, StepTest, StepDetail, Shows}
+use Rattle.vipr_spec.specs.Certificate.{Certificate}
 use Rattle.vipr_spec.proofs.Fractions.{le_of_eq_ℚ, le_of_whole}
 use Rattle.vipr_spec.proofs.{Best.as_good_antisymm, Integers.≤ℤ_antisymm}
 

@@ -1,7 +1,6 @@
 -- Digits read one by one
-use Rattle.std.proofs.Common.{◌≡◌, ◌≢◌, ℕ, ◌+◌, ◌-◌, ◌*◌, ◌<◌, ◌≤◌, ◌⊎◌, List, ◌∷◌, length}
-use Rattle.std.proofs.Common.{drop, get_or, Some, None, arith, sym, ◌∙◌, ap, drop-cons}
-use Rattle.std.proofs.Common.{add-one}
+use Rattle.std.proofs.Common.{◌≡◌, ◌≢◌, ℕ, ◌+◌, ◌-◌, ◌*◌, ◌<◌, ◌≤◌, ◌⊎◌, List, ◌∷◌, length, drop}
+use Rattle.std.proofs.Common.{get_or, Some, None, arith, sym, ◌∙◌, ap, drop-cons, add-one}
 use Rattle.std.proofs.{lemmas.Bool.Decides.nat_tests, lemmas.List.drop_all}
 use Rattle.vipr_spec.specs.{natural_after, natural_of}
 

@@ -2,9 +2,8 @@
 use Rattle.std.proofs.Common.{◌≡◌, ℕ, zero, suc, List, [], ◌∷◌}
 use Rattle.std.proofs.Common.{◌++◌, length, Result, Ok, All, arith, refl, sym, ◌∙◌, ap, subst}
 use Rattle.std.proofs.lemmas.List.Elements.{All-nil, All-cons, All-head}
-use Rattle.vipr_spec.specs.{Token, Rest, Read, first_token, token_read}
-use Rattle.vipr_spec.specs.{checked_token, token_of, read_each, name_of, word_of, ReadsKind}
-use Rattle.vipr_spec.specs.{ReadsFront, Reads}
+use Rattle.vipr_spec.specs.{Token, Rest, Read, first_token, token_read, checked_token, token_of}
+use Rattle.vipr_spec.specs.{read_each, name_of, word_of, ReadsKind, ReadsFront, Reads}
 use Rattle.vipr_spec.specs.Grammar.{one, each, word}
 use Rattle.vipr_spec.proofs.GrammarTokens.{kinds_of_token}
 use Rattle.vipr_spec.proofs.GrammarSteps.{bind_ok, ok_then, same_ok, bytes_of, IsShort, read_is}

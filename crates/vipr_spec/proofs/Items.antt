@@ -1,33 +1,30 @@
 -- The items, by the steps of their readings
-use Rattle.std.proofs.Common.{◌≡◌, ℕ, zero, suc, ◌+◌, ◌-◌, ◌≤◌, ◌⊎◌, inl, inr, ⊎_elim}
-use Rattle.std.proofs.Common.{Bool, true, false, ◌||◌, nat_eq, if◌then◌else◌, List, [], ◌∷◌, ◌++◌}
-use Rattle.std.proofs.Common.{length, map, Result, Ok, Err, codes, arith, refl, sym, ◌∙◌, ap, subst}
-use Rattle.std.proofs.Common.{append-nil}
+use Rattle.std.proofs.Common.{◌≡◌, ℕ, zero, suc, ◌+◌, ◌-◌, ◌≤◌, ◌⊎◌, inl, inr, ⊎_elim, Bool, true}
+use Rattle.std.proofs.Common.{false, ◌||◌, nat_eq, if◌then◌else◌, List, [], ◌∷◌, ◌++◌, length, map}
+use Rattle.std.proofs.Common.{Result, Ok, Err, codes, arith, refl, sym, ◌∙◌, ap, subst, append-nil}
+use Rattle.std.proofs.{lemmas.Bool.Decides.nat_tests, lemmas.Grind.common_steps}
 use Rattle.std.specs.List.{IsDistinct, AllByRecursion, list_any}
 use Rattle.std.specs.{FinSet.from_list, Str.bytes_eq}
-use Rattle.std.proofs.lemmas.Bool.Decides.{nat_tests}
-use Rattle.std.proofs.lemmas.Grind.{common_steps}
 use Rattle.vipr_spec.specs.Causes as cause
 use Rattle.vipr_spec.specs.{ℚ, Token, Row, Problem, variables, Reason, asm, lin, rnd, uns, sol}
 use Rattle.vipr_spec.specs.{Claim, infeasible, range, natural_after, natural_of, SpellsNumber}
-use Rattle.vipr_spec.specs.{most_count, Rest, Fault, refused, unread, ◌>>=◌, Read}
-use Rattle.vipr_spec.specs.{first_token, token_read, checked_token, token_of, name_of, word_of}
-use Rattle.vipr_spec.specs.{count_of, derivation_count_of, variable_of, new_variable_of}
-use Rattle.vipr_spec.specs.{reference_of, last_of, number_of, bound_of, spelled_sense}
-use Rattle.vipr_spec.specs.{spelled_direction, has_range_of, rule_of, Rule, by_asm, by_lin, by_rnd}
-use Rattle.vipr_spec.specs.{by_uns, by_sol, keyword_read, pair_read, pairs_read, row_of}
-use Rattle.vipr_spec.specs.{counted_read, vector_read, row_read, constraint_read, version_read}
-use Rattle.vipr_spec.specs.{names_read, integers_read, objective_read, constraints_read, range_read}
-use Rattle.vipr_spec.specs.{claim_read, problem_read, solution_read, derivations_read, entry_read}
-use Rattle.vipr_spec.specs.{entries_read, by_read, reason_read, derivation_read, end_of, end_read}
-use Rattle.vipr_spec.specs.{certificate_read, ReadsKind, ReadsFront, Reads, SpellsRange, rule_word}
-use Rattle.vipr_spec.specs.{problem_and_count, derivation_count, IsRefusedAt, EndsEarly}
-use Rattle.vipr_spec.specs.{FaultsRemain, ItemFaults}
+use Rattle.vipr_spec.specs.{most_count, Rest, Fault, refused, unread, ◌>>=◌, Read, first_token}
+use Rattle.vipr_spec.specs.{token_read, checked_token, token_of, name_of, word_of, count_of}
+use Rattle.vipr_spec.specs.{derivation_count_of, variable_of, new_variable_of, reference_of}
+use Rattle.vipr_spec.specs.{last_of, number_of, bound_of, spelled_sense, spelled_direction}
+use Rattle.vipr_spec.specs.{has_range_of, rule_of, Rule, by_asm, by_lin, by_rnd, by_uns, by_sol}
+use Rattle.vipr_spec.specs.{keyword_read, pair_read, pairs_read, row_of, counted_read, vector_read}
+use Rattle.vipr_spec.specs.{row_read, constraint_read, version_read, names_read, integers_read}
+use Rattle.vipr_spec.specs.{objective_read, constraints_read, range_read, claim_read, problem_read}
+use Rattle.vipr_spec.specs.{solution_read, derivations_read, entry_read, entries_read, by_read}
+use Rattle.vipr_spec.specs.{reason_read, derivation_read, end_of, end_read, certificate_read}
+use Rattle.vipr_spec.specs.{ReadsKind, ReadsFront, Reads, SpellsRange, rule_word, problem_and_count}
+use Rattle.vipr_spec.specs.{derivation_count, IsRefusedAt, EndsEarly, FaultsRemain, ItemFaults}
 use Rattle.vipr_spec.specs.Grammar.{SpellsNatural, SpellsCount, SpellsVariable, SpellsSense}
 use Rattle.vipr_spec.specs.Grammar.{SpellsDirection, SpellsBound, SpellsLast, word, one, ◌then◌}
 use Rattle.vipr_spec.specs.Grammar.{each, pair, vector, coefficients, constraint, version, names}
-use Rattle.vipr_spec.specs.Grammar.{integers, objective, constraints, claim, solution, entry, reason}
-use Rattle.vipr_spec.specs.Grammar.{derivation}
+use Rattle.vipr_spec.specs.Grammar.{integers, objective, constraints, claim, solution, entry}
+use Rattle.vipr_spec.specs.Grammar.{reason, derivation}
 use Rattle.vipr_spec.proofs.GrammarSteps.{bind_ok, ok_then, answer, read_as, is_answer, next_sound}
 use Rattle.vipr_spec.proofs.GrammarTokens.{SpellsRule, kinds_of_token, same_bytes, bytes_same}
 use Rattle.vipr_spec.proofs.GrammarBounds.{number_is, bound_is, no_lower, no_upper}

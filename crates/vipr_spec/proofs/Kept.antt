@@ -3,8 +3,7 @@ use Rattle.std.proofs.Common.{◌≡◌, ℕ, Option, zero, suc, ◌+◌, ◌<�
 use Rattle.std.proofs.Common.{cond, List, [], ◌∷◌, map, length, slice_index_or, arith, refl, sym}
 use Rattle.std.proofs.Common.{◌∙◌, ap, ap₂, subst, inl, inr, ⊎_elim}
 use Rattle.std.proofs.{lemmas.Bool.cases_Bool, lemmas.Bool.cases_order, lemmas.List.length-map}
-use Rattle.vipr_spec.specs.{Derivation, kept_of, new_index}
-use Rattle.vipr_spec.specs.{with_last_references, kept_derivations}
+use Rattle.vipr_spec.specs.{Derivation, kept_of, new_index, with_last_references, kept_derivations}
 
 -- ---- new indices
 

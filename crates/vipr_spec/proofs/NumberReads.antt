@@ -5,12 +5,11 @@ use Rattle.std.proofs.Common.{Some, None, Ok, Err, ℤ, pos, negsuc, subst, appe
 use Rattle.std.proofs.Common.{arith, refl, sym, ◌∙◌, ap, append_assoc}
 use Rattle.std.proofs.lemmas.Bool.Decides.{nat_tests}
 use Rattle.std.proofs.lemmas.Fmt.{decimal_is_IsNumeral_wide, length-decimal-le_wide}
-use Rattle.std.proofs.{lemmas.Bool.eqb-true, lemmas.List.length-append}
+use Rattle.std.proofs.{lemmas.Bool.eqb-true, lemmas.Grind.common_steps, lemmas.List.length-append}
 use Rattle.std.specs.Str.Parse.{AllDigits, IsNumeral, digits_value, without_leading_sign}
 use Rattle.std.specs.Str.Parse.{starts_with_minus}
 use Rattle.std.specs.Prelude.{IfSome, unsigned_abs}
 use Rattle.std.specs.{Char.digit_value, Fmt.decimal, Fmt.signed_decimal}
-use Rattle.std.proofs.lemmas.Grind.{common_steps}
 use Rattle.vipr_spec.specs.{ℚ, over, most, IsBounded, natural_after, natural_of, SpellsNumber}
 use Rattle.vipr_spec.specs.{IsSign, signed_integer, under, denominator, too_large, zero_denominator}
 use Rattle.vipr_spec.specs.{is_slash, slash_place, top_of, bottom_of, written_fraction, of_parts}

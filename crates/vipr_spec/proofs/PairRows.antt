@@ -4,9 +4,8 @@ use Rattle.std.proofs.Common.{filter, None, unwrap_or, All, pos, arith, refl, sy
 use Rattle.std.proofs.lemmas.Bool.Decides.{nat_tests, Decides-int_eq}
 use Rattle.std.proofs.lemmas.List.Elements.{All-head, All-tail}
 use Rattle.std.proofs.lemmas.List.Folds.{Any-from_list_any}
-use Rattle.std.specs.FinSet.{from_list, contains-from_list_nat}
-use Rattle.std.specs.Ordering.{nat_cmp, int_eq}
-use Rattle.std.specs.{Cmp.nat_cmp_total, FinMap.find, FinMap.get-from_entries}
+use Rattle.std.specs.{Cmp.nat_cmp_total, FinMap.find, FinMap.get-from_entries, FinSet.from_list}
+use Rattle.std.specs.{FinSet.contains-from_list_nat, Ordering.nat_cmp, Ordering.int_eq}
 use Rattle.vipr_spec.specs.{ℚ, zero_ℚ, IsInteger, at, NamesBelow, is_nonzero, row_of}
 use Rattle.vipr_spec.proofs.Fractions.{zero_numer}
 

@@ -1,18 +1,17 @@
 -- What a reason refers to, as it is tested, and the last references
 use Rattle.std.proofs.Common.{◌≡◌, ◌≢◌, ℕ, zero, suc, ◌+◌, ◌<◌, ◌≤◌, Bool, true, false, cond, ◌&&◌}
-use Rattle.std.proofs.Common.{nat_eq, List, [], ◌∷◌, map, length, slice_index_or, Option}
-use Rattle.std.proofs.Common.{Some, None, Contains, arith, refl, sym, ap, ap₂, subst, inl, inr}
-use Rattle.std.proofs.Common.{eq-eqb, eqb-true}
-use Rattle.std.specs.List.{list_any}
+use Rattle.std.proofs.Common.{nat_eq, List, [], ◌∷◌, map, length, slice_index_or, Option, Some}
+use Rattle.std.proofs.Common.{None, Contains, arith, refl, sym, ap, ap₂, subst, inl, inr, eq-eqb}
+use Rattle.std.proofs.Common.{eqb-true}
 use Rattle.std.proofs.lemmas.Bool.{and_parts, and_from, or_cases, or_left, or_right}
 use Rattle.std.proofs.lemmas.List.Folds.{Any-from_list_any, list_any-from_Any}
-use Rattle.std.proofs.lemmas.Grind.{common_steps}
+use Rattle.std.proofs.{lemmas.Grind.common_steps, lemmas.List.Elements.All-contains}
+use Rattle.std.specs.List.{list_any}
 use Rattle.vipr_spec.specs.{ℚ, zero_ℚ, Reason, asm, lin, rnd, uns, sol, Derivation, NamesEarlier}
 use Rattle.vipr_spec.specs.{RefersTo, refers_to, or_else, last_reference, with_last_references}
 use Rattle.vipr_spec.specs.{is_nonzero}
 use Rattle.vipr_spec.proofs.SmallerSums.{not_zero_is, Any-contains}
 use Rattle.vipr_spec.proofs.{Kept.map_with, PairRows.not_zero}
-use Rattle.std.proofs.lemmas.List.Elements.{All-contains}
 
 -- ---- the test
 

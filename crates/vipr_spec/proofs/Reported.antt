@@ -2,13 +2,11 @@
 use Rattle.std.proofs.Common.{◌≡◌, ℕ, Option, Some, None, MatchOption, arith, refl, sym, ◌∙◌, ap}
 use Rattle.std.proofs.Common.{subst}
 use Rattle.std.specs.Prelude.{IsSome}
-use Rattle.vipr_spec.specs.{Profile, condition, Derivation, NeedsGoal}
-use Rattle.vipr_spec.specs.{IsGoal, GoalIs, Rest, PassesStep}
-use Rattle.vipr_spec.specs.{step_tests, FirstFailing, IsGoodNext, Test}
-use Rattle.vipr_spec.specs.{meets_dual, Passes, Detail}
-use Rattle.vipr_spec.specs.{Explains, Found, found_in, Report, Reports, Answer, verified}
-use Rattle.vipr_spec.specs.{answer_of_test, IsAnswerOfTest, Answers, IsAnswer, IsExplainedBy}
-use Rattle.vipr_spec.specs.{Explained, IsExplained, Certificate.Certificate}
+use Rattle.vipr_spec.specs.{Profile, condition, Derivation, NeedsGoal, IsGoal, GoalIs, Rest}
+use Rattle.vipr_spec.specs.{PassesStep, step_tests, FirstFailing, IsGoodNext, Test, meets_dual}
+use Rattle.vipr_spec.specs.{Passes, Detail, Explains, Found, found_in, Report, Reports, Answer}
+use Rattle.vipr_spec.specs.{verified, answer_of_test, IsAnswerOfTest, Answers, IsAnswer}
+use Rattle.vipr_spec.specs.{IsExplainedBy, Explained, IsExplained, Certificate.Certificate}
 use Rattle.vipr_spec.proofs.FirstFailing.{failing_unique}
 use Rattle.vipr_spec.proofs.{Details.shows_once, Goals.goal_needed, StepTests.no_test_fails}
 

@@ -3,13 +3,12 @@ use Rattle.std.proofs.Common.{◌≡◌, ℕ, ◌<◌, ◌≤◌, List, [], ◌�
 use Rattle.std.proofs.Common.{Some, None, All, arith, refl, sym, ◌∙◌, ap, subst, ⊎_elim, inl, inr}
 use Rattle.std.proofs.{lemmas.Bool.cases_lt, lemmas.List.Elements.All-contains}
 use Rattle.std.specs.Prelude.{◌↔◌}
-use Rattle.vipr_spec.specs.{ℚ, Profile, Condition, condition, Reason, asm, lin}
-use Rattle.vipr_spec.specs.{rnd, uns, sol, Derivation, Known, constraint_at, reason_at, RestsOn}
-use Rattle.vipr_spec.specs.{itself, brought, count, NamesEarlier, RefersTo, IsGoodStep}
-use Rattle.vipr_spec.specs.{HasGoodSteps, FollowsBy, with_more, with_next, before, StepTest}
-use Rattle.vipr_spec.specs.{PassesStep, step_tests, FirstFailing, IsGoodNext, PassesSteps}
-use Rattle.vipr_spec.specs.{RefersBack, SomeRestsOn, RestsBy, IsSound}
-use Rattle.vipr_spec.specs.Certificate.{Certificate}
+use Rattle.vipr_spec.specs.{ℚ, Profile, Condition, condition, Reason, asm, lin, rnd, uns, sol}
+use Rattle.vipr_spec.specs.{Derivation, Known, constraint_at, reason_at, RestsOn, itself, brought}
+use Rattle.vipr_spec.specs.{count, NamesEarlier, RefersTo, IsGoodStep, HasGoodSteps, FollowsBy}
+use Rattle.vipr_spec.specs.{with_more, with_next, before, StepTest, PassesStep, step_tests}
+use Rattle.vipr_spec.specs.{FirstFailing, IsGoodNext, PassesSteps, RefersBack, SomeRestsOn, RestsBy}
+use Rattle.vipr_spec.specs.{IsSound, Certificate.Certificate}
 use Rattle.vipr_spec.proofs.Prefix.{known_before, known_next, reason_next, reason_given, is_derived}
 use Rattle.vipr_spec.proofs.Prefix.{count_next, before_count, before_stays, before_more, known_in}
 use Rattle.vipr_spec.proofs.Prefix.{Alike, holding, brings_earlier, good_alike, follows_alike}

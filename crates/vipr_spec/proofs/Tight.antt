@@ -10,10 +10,9 @@ use Rattle.vipr_spec.specs.{ℚ, Profile, Condition, Problem, Claim, infeasible,
 use Rattle.vipr_spec.specs.{MeetsDual, constraint_at, Reason, asm, lin, rnd, uns, sol, Derivation}
 use Rattle.vipr_spec.specs.{reason_at, NamesEarlier, RefersTo, is_live, NeedsGoal, count}
 use Rattle.vipr_spec.specs.{ProvesDual, IsProof, GoalIs, IsNeeded, the_goal, referred_to}
-use Rattle.vipr_spec.specs.{RefersBack, is_kept, new_index, renumbered_entries}
-use Rattle.vipr_spec.specs.{renumbered_reason, renumbered_at, with_new_indices}
-use Rattle.vipr_spec.specs.{tightened_certificate, new_goal, IsNeededFor}
-use Rattle.vipr_spec.specs.{is_nonzero, Certificate.Certificate}
+use Rattle.vipr_spec.specs.{RefersBack, is_kept, new_index, renumbered_entries, renumbered_reason}
+use Rattle.vipr_spec.specs.{renumbered_at, with_new_indices, tightened_certificate, new_goal}
+use Rattle.vipr_spec.specs.{IsNeededFor, is_nonzero, Certificate.Certificate}
 use Rattle.vipr_spec.proofs.Kept.{index_mono, index_same, kept_all}
 use Rattle.vipr_spec.proofs.SmallerSums.{filter_yes, filter_no}
 use Rattle.vipr_spec.proofs.Marked.{none_marked, needed_derived, kept_given, kept_derived}

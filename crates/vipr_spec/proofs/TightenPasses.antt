@@ -5,10 +5,9 @@ use Rattle.std.proofs.Common.{[], ◌∷◌, ◌++◌, map, take, drop, length, 
 use Rattle.std.proofs.Common.{None, All, filter, nat_eq, eqb-true, subst, arith, refl, ◌∙◌, ap, ap₂}
 use Rattle.std.proofs.Common.{append-nil}
 use Rattle.std.proofs.lemmas.List.{take_more, drop_more, map_push, length-take-le, length-map}
-use Rattle.std.specs.{FinMap.empty, List.list_any}
-use Rattle.std.proofs.lemmas.List.Folds.{list_any_none}
 use Rattle.std.proofs.lemmas.List.Elements.{All-head, All-tail, All-filter}
-use Rattle.std.proofs.lemmas.Grind.{common_steps}
+use Rattle.std.proofs.{lemmas.Grind.common_steps, lemmas.List.Folds.list_any_none}
+use Rattle.std.specs.{FinMap.empty, List.list_any}
 use Rattle.vipr_spec.specs.{ℚ, zero_ℚ, is_nonzero, NamesEarlier, equal, Reason, asm, lin, rnd, uns}
 use Rattle.vipr_spec.specs.{sol, Derivation, refers_to, is_the_goal, is_marked, renumbered_reason}
 use Rattle.vipr_spec.specs.{kept_of, new_index, with_new_indices, or_else, last_reference}

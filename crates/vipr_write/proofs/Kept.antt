@@ -1,7 +1,7 @@
 -- Steps whose names and constraints are kept in a text that grows
 use Rattle.std.proofs.Common.{◌≡◌, ℕ, zero, suc, get_or, codes, IsTrue, ◌-◌, ◌<◌, ◌≤◌, Bool, true}
 use Rattle.std.proofs.Common.{false, ◌&&◌, nat_lt, nat_le, cond, List, [], ◌∷◌, ◌++◌, length, map}
-use Rattle.std.proofs.Common.{take, drop, slice_index, slice_range, All, refl, sym, ap, ap₂, ◌∙◌}
+use Rattle.std.proofs.Common.{drop, slice_index, slice_range, All, refl, sym, ap, ap₂, ◌∙◌}
 use Rattle.std.proofs.Common.{append_assoc, length-append, lt-ltb, arith, rules}
 use Rattle.std.proofs.lemmas.Grind.{common_steps}
 use Rattle.std.proofs.lemmas.List.{append-nil, take-append-le, drop-append-le, length-drop}
@@ -11,11 +11,10 @@ use Rattle.std.proofs.{Math.Seq.take-length, Math.Seq.drop-length, lemmas.Bool.D
 use Rattle.std.specs.List.{flat_map}
 use Rattle.vipr_spec.specs.Constraint.{Row, Constraint, equal}
 use Rattle.vipr_spec.specs.Certificate.{Problem, Derivation, Certificate}
-use Rattle.vipr_spec.specs.{Fraction.zero_ℚ, Number.number_text}
-use Rattle.vipr_write.specs.Canonical.{sense_word, reason_words, last_word, heading}
+use Rattle.vipr_spec.specs.{Fraction.zero_ℚ}
 use Rattle.vipr_write.specs.Canonical.{words_after_spaces, line_text, lines_text}
 use Rattle.vipr_write.specs.Forms.{row_words, constraint_words_in, derivation_words_in}
-use Rattle.vipr_write.specs.Forms.{problem_lines_in, derivations_lines_in, text_in}
+use Rattle.vipr_write.specs.Forms.{problem_lines_in, text_in}
 use Rattle.vipr_write.specs.declared.statements.Statement.{Statement}
 use Rattle.vipr_write.specs.declared.statements.Statements.{Statements}
 use Rattle.vipr_write.specs.Steps.{step_of, as_text, own_start, own_end, is_within, own_bytes}

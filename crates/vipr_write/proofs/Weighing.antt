@@ -14,9 +14,9 @@ use Rattle.vipr_spec.proofs.Laws.{all_parts}
 use Rattle.vipr_write.specs.Canonical.{pair_words, constraint_words, given_words, claim_words}
 use Rattle.vipr_write.specs.Canonical.{solution_words, reason_words, derivation_words, last_word}
 use Rattle.vipr_write.specs.Canonical.{direction_word, vector_words, heading, variables_lines}
-use Rattle.vipr_write.specs.Canonical.{problem_lines, solutions_lines, derivations_lines}
+use Rattle.vipr_write.specs.Canonical.{problem_lines, derivations_lines}
 use Rattle.vipr_write.specs.Canonical.{words_after_spaces, line_text, lines_text, certificate_lines}
-use Rattle.vipr_write.specs.Forms.{is_objective, row_words, constraint_words_in, given_words_in}
+use Rattle.vipr_write.specs.Forms.{is_objective, row_words, constraint_words_in}
 use Rattle.vipr_write.specs.Forms.{derivation_words_in, problem_lines_in, derivations_lines_in}
 use Rattle.vipr_write.specs.Forms.{certificate_lines_in, text_in}
 use Rattle.vipr_write.specs.declared.form.Form.TheVariants.{Canonical, Compact}
