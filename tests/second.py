@@ -53,7 +53,7 @@ WRONG = {
         '(fun t j => PositiveSet.add (N.succ_pos j) t) (integers p)',
         '(fun t j => if N.eqb j 0 then t else PositiveSet.add (N.succ_pos j) t) (integers p)'),
     'a dropped reference used': (
-        'if live (next t) s then Some s else None | None => None end.', 'Some s | None => None end.'),
+        '; if live (next t) s then Some s else None.', '; Some s.'),
 }
 
 
