@@ -50,10 +50,10 @@ WRONG = {
         'found t || forallb (fun x => Indices.is_empty (snd x)) (rests s) && goals e a', 'found t || goals e a'),
     'a fractional coefficient rounded': ('(is_zero q || i && is_whole q)', '(is_zero q || i)'),
     'an integer variable left out': (
-        '(fun t j => PositiveSet.add (N.succ_pos j) t) (integers p)',
-        '(fun t j => if N.eqb j 0 then t else PositiveSet.add (N.succ_pos j) t) (integers p)'),
+        '(fun t j => put false j true t) (integers p)',
+        '(fun t j => if N.eqb j 0 then t else put false j true t) (integers p)'),
     'a dropped reference used': (
-        '; if live (next t) s then Some s else None.', '; Some s.'),
+        'if N.ltb i (next t) && live (next t) s then', 'if N.ltb i (next t) then'),
 }
 
 
