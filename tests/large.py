@@ -10,7 +10,10 @@ Prints each fault, and last `large: N runs, F failed`; the exit status is 1 if o
 """
 import filecmp
 import hashlib
+import os
 import random
+import re
+import resource
 import shutil
 import subprocess
 import sys
@@ -24,6 +27,8 @@ SECONDS = 300
 # the largest number
 M = 2**127 - 1
 LONG_BYTES = 5 << 30
+# what `explain --long` reads before it looks at the front
+LOOK_BYTES = 1 << 20
 WIDE = 2000
 CHECKS = Checks('large', 'runs')
 
@@ -134,6 +139,34 @@ def of_many_bytes(room):
         stream.stdout.close()
 
 
+def of_a_refused_front(room):
+    """`explain --long` stops reading when the front is refused, and its page is that of `--sum`, which reads to the end. A
+    fault behind an eighth of the first mebibyte is looked for in the whole text."""
+    with open('/dev/zero', 'rb') as zero:
+        got = run([PROGRAM, 'explain', '--long'], stdin=zero, timeout=SECONDS, preexec_fn=little_memory)
+    CHECKS.count += 1
+    CHECKS.expect('vipr explain --long: /dev/zero', (got.returncode, got.stdout.split(b'\n')[0]), (1, b'refused 17 at byte 0'))
+    example = (TOP / 'examples/infeasible.vipr').read_text()
+    path = room / 'refused'
+    for old, new in (('INT', 'INX'), ('b L 0 1 0 1', 'b L 0 1 9 1'), ('min', 'min' + ' ' * LOOK_BYTES), ('1 -1 }', '9 -1 }'),
+                     ('1 -1 }', '1 2 }'), ('G 1 0 {', 'G 2 0 {'), ('SOL 0', 'SOL 1\ns 1 0 7')):
+        text = example.replace(old, new, 1) + '\nf G 1 0 { lin 2 0 1 1 9 } -1' * 100_000
+        path.write_text(text)
+        whole = run([PROGRAM, 'explain', '--long', '--sum'], text.encode(), timeout=SECONDS)
+        with path.open('rb') as file:
+            got = run([PROGRAM, 'explain', '--long'], stdin=file, timeout=SECONDS)
+            read = os.lseek(file.fileno(), 0, os.SEEK_CUR)
+        CHECKS.count += 2
+        CHECKS.expect(f'vipr explain --long: {new[:20]!r}', (got.returncode, got.stderr, got.stdout),
+                      (1, b'', re.sub(rb'sha256 .*\n\Z', b'', whole.stdout)))
+        CHECKS.expect(f'vipr explain --long: {new[:20]!r}, what is read', read,
+                      len(text) if len(new) > LOOK_BYTES else LOOK_BYTES)
+
+
+def little_memory():
+    resource.setrlimit(resource.RLIMIT_AS, (64 << 20, 64 << 20))
+
+
 def of_its_digest(room):
     """The digest of a text of 300 MB as FILE, and of one of 100 MB from a pipe, is that of Python's library."""
     path = room / 'summed'
@@ -206,6 +239,7 @@ def main():
         of_one_name(Path(room))
         of_long_names(Path(room))
         of_many_bytes(Path(room))
+        of_a_refused_front(Path(room))
         of_its_digest(Path(room))
     return CHECKS.end(f', {spent():.0f} seconds of processor time')
 

@@ -1,14 +1,14 @@
 -- What is answered of a certificate, as a value
 use Rattle.std.proofs.Common.{◌≡◌, ◌≢◌, ◌⊎◌, ◌<◌, ◌^◌, ℕ, List, Bool, true, false, length, Option, Some, None, IfSome}
 use Rattle.std.proofs.Common.{Result, Ok, Err, inl, inr, refl, subst, sym}
-use Rattle.std.specs.Prelude.{IsErrAnd}
-use Rattle.vipr_spec.specs.{Constraint.Profile, Input.Input, Verdict.IsExplained}
-use Rattle.vipr_bytes.specs.{Known.IfKnown, Known.text_of}
+use Rattle.std.specs.Prelude.{IsErrAnd, is_ok}
+use Rattle.vipr_spec.specs.{Constraint.Profile, Input.Input, Verdict.Answer, Verdict.IsAnswer, Verdict.IsExplained}
 use Rattle.vipr_check.specs.declared.verdict.Fault.{Fault as CheckFault}
 use Rattle.vipr_check.specs.declared.verdict.Fault.TheVariants.{Memory as CheckMemory}
 use Rattle.vipr_check.specs.declared.verdict.Fault.TheVariants.{Read as CheckRead}
-use Rattle.vipr_check.specs.declared.verdict.Verdict.{Verdict}
-use Rattle.vipr_check.specs.{Checks.ChecksIn, Run.SaysInDetail, declared.detail.Detail.Detail}
+use Rattle.vipr_check.specs.{Checks.ChecksIn, Run.SaysInDetail, View.answer_of}
+use Rattle.vipr_check.specs.{declared.detail.Detail.Detail, declared.verdict.Verdict.Verdict}
+use Rattle.vipr_bytes.specs.{Known.IfKnown, Known.text_of}
 use Rattle.vipr_command.specs.Answer.{AnswersTask, AnswersBy, AnswersWhole, Tells, TellsWhole}
 use Rattle.vipr_command.specs.Answer.{fault_for, input_of}
 use Rattle.vipr_command.specs.Known.{KnownInput, OfInput, known_by, unknown_input}
@@ -83,3 +83,9 @@ module _ (bytes bytes' : List ℕ) (fails ends : Bool) (same : bytes' ≡ bytes)
 
   pub checked_of : (P : Profile) (r : Result Verdict CheckFault) → ChecksIn P (Some (input_of bytes' ends)) r → ChecksIn P (Some (input_of bytes fails)) r
   checked_of P r h = read_as (λ i. ChecksIn P (Some i) r) h
+
+-- a verdict was reached
+pub some_answer : (P : Profile) (i : Input) (r : Result Verdict CheckFault) → length i.bytes < 2 ^ 64
+    → ChecksIn P (Some i) r → is_ok r ≡ true → (a : Answer) × IsAnswer P (text_of i) a
+some_answer P i (Ok v) short c e = (answer_of v, c.exact short)
+some_answer P i (Err f) short c e = absurd (cc)

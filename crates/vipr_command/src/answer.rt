@@ -7,6 +7,7 @@ ghost use Rattle.vipr_command.specs.{Answer.AnswersTask, Answer.Prints, Known.Of
 use crate::ending::Ending;
 use crate::fault::CommandFault;
 use crate::in_memory::{lines, read_all};
+use crate::incoming::Incoming;
 use crate::request::{Job, Task};
 use std::alloc::Global;
 use vipr_bytes::{Sink, Source, write_bytes};
@@ -27,7 +28,7 @@ pub struct Printed {
 /// # Errors
 ///
 /// If a read fails, and if a growth is refused.
-pub fn answer_to<R: Source + Drop>(
+pub fn answer_to<R: Incoming + Drop>(
     alloc: Global,
     job: &Job<'_>,
     mut source: R,
@@ -36,7 +37,7 @@ pub fn answer_to<R: Source + Drop>(
         (profile_of job.now.profile) job.now.is_long job.now.has_sum k result) }
 {
     if job.is_long || job.has_sum {
-        let text = read_all(alloc, &mut source)?;
+        let text = read_all(alloc, job, &mut source)?;
         return text.answer(alloc, job);
     }
     if job.command == Task::Check {

@@ -10,6 +10,7 @@ use crate::args::job;
 use crate::ending::Ending;
 use crate::fault::CommandFault;
 use crate::folder::Folder;
+use crate::incoming::Incoming;
 use crate::line::{say_at_length, say_why_unread};
 use crate::request::{Job, Task};
 use crate::show::print_text;
@@ -17,7 +18,7 @@ use crate::tighten::print_tightened;
 use clap::Error;
 use clap::error::ErrorKind;
 use std::alloc::Global;
-use vipr_bytes::{Sink, Source, write_bytes};
+use vipr_bytes::{Sink, write_bytes};
 
 /// Does what the words ask for, of which the first is the program's name, and answers the exit
 /// status. It is 0 if the certificate is verified, shown or tightened, or help was asked for; 1 if
@@ -26,7 +27,7 @@ use vipr_bytes::{Sink, Source, write_bytes};
 /// A verdict, an explanation, a certificate and help go to `out`. To `err` go what is wrong with
 /// the words, a fault, the refusal of a certificate that was to be shown or tightened, and what was
 /// removed. A tightened certificate goes to a file if the words name one.
-pub fn run<D: Folder, R: Source + Drop, O: Sink, E: Sink>(
+pub fn run<D: Folder, R: Incoming + Drop, O: Sink, E: Sink>(
     alloc: Global,
     files: &mut D,
     words: &[&str],
@@ -48,7 +49,7 @@ pub fn run<D: Folder, R: Source + Drop, O: Sink, E: Sink>(
 }
 
 // Does what the words ask for. What is to be said at the end is answered.
-fn answer_words<D: Folder, R: Source + Drop, O: Sink, E: Sink>(
+fn answer_words<D: Folder, R: Incoming + Drop, O: Sink, E: Sink>(
     alloc: Global,
     files: &mut D,
     words: &[&str],
@@ -125,7 +126,7 @@ fn do_task_on_file<D: Folder, O: Sink, E: Sink>(
     }
 }
 
-fn do_task<D: Folder, R: Source + Drop, O: Sink>(
+fn do_task<D: Folder, R: Incoming + Drop, O: Sink>(
     alloc: Global,
     files: &mut D,
     job: &Job<'_>,

@@ -3,10 +3,11 @@ ghost use Rattle.std.specs.{List.list_any, Prelude.◌≡◌, Prelude.IfOk, Prel
 ghost use Rattle.vipr_command.specs.Folder.{Files, IsFileOf, Replaces, Unchanged, begun_for};
 ghost use Rattle.vipr_command.specs.Folder.{two_files};
 
+use crate::incoming::Incoming;
 use std::alloc::{AllocError, Global};
 use std::io;
 use std::io::ErrorKind;
-use vipr_bytes::{Bytes, Sink, Source, WriteFailed};
+use vipr_bytes::{Bytes, Sink, WriteFailed};
 
 /// Files that can be read and replaced, by their names.
 pub trait Folder {
@@ -14,7 +15,7 @@ pub trait Folder {
     ghost known: { Self → Files };
 
     /// A file that is read from its start.
-    type In: Source + Drop;
+    type In: Incoming + Drop;
 
     /// A text that is to replace a file.
     type Out: Sink + Drop;

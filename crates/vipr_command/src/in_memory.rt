@@ -1,26 +1,33 @@
 //! AnswersTask for a text that is read into memory: with a page for people, or with its digest.
 ghost use Rattle.std.specs.Prelude.{◌≡◌, ◌<◌, ◌^◌, Some, None, true, false};
-ghost use Rattle.std.specs.Prelude.{length, IfOk, IfSome, string_bytes};
-ghost use Rattle.vipr_spec.specs.Input.{Input};
+ghost use Rattle.std.specs.Prelude.{length, take, ◌/◌, IfOk, IfSome, string_bytes};
+ghost use Rattle.vipr_spec.specs.{Input.Input, Verdict.Answer, Verdict.IsAnswer};
 ghost use Rattle.vipr_rules.specs.Profile.{profile_of};
+ghost use Rattle.vipr_bytes.specs.Known.{text_of};
 ghost use Rattle.vipr_command.specs.Answer.{AnswersWhole, HasRead, IsPrinted, ReadsOn, input_of};
 ghost use Rattle.vipr_command.specs.Text.{answer_lines, sum_asked};
 
 use crate::answer::Printed;
 use crate::fault::CommandFault;
+use crate::incoming::Incoming;
 use crate::request::{Job, Task};
 use std::alloc::{AllocError, Global};
 use vipr_bytes::{BUFFER_BYTES, Bytes, Failed, Source};
-use vipr_check::{Detail, Explanation, Verdict, explain_in};
+use vipr_check::{Detail, Explanation, Table, Verdict, check_in, explain_in};
 use vipr_explain::page_for;
 use vipr_page::{Page, with_page};
 use vipr_text::hex_digest;
 
-/// What a source gave: its bytes, and whether a read failed behind them.
+// How many bytes are read before their first eighth is checked; then eight times as many.
+const LOOK_BYTES: usize = 1_048_576;
+
+/// What a source gave: its bytes, and whether a read failed behind them. If the source was left
+/// there, that is as if one failed.
 #[derive(Drop)]
 pub(crate) struct ReadText {
     bytes: Vec<u8>,
     has_failed: bool,
+    is_left: bool,
 }
 
 /// Reads a text from memory, up to the read that failed if one did.
@@ -43,8 +50,13 @@ impl Source for TextReader<'_> {
     }
 }
 
-/// Reads all that a source gives.
-pub(crate) fn read_all<R: Source>(alloc: Global, source: &mut R) -> Result<ReadText, AllocError>
+/// Reads all that a source gives. One that may be left is read no further once the first eighth of
+/// what was read is refused, unless the job has a sum.
+pub(crate) fn read_all<R: Incoming>(
+    alloc: Global,
+    job: &Job<'_>,
+    source: &mut R,
+) -> Result<ReadText, AllocError>
     ensures { IfSome (R.input source.old)
         (λ i. IfOk result (λ t. input_of t.bytes.items t.has_failed ≡ i)) }
 {
@@ -52,11 +64,21 @@ pub(crate) fn read_all<R: Source>(alloc: Global, source: &mut R) -> Result<ReadT
     let mut text = ReadText {
         bytes: Vec::new(alloc),
         has_failed: false,
+        is_left: false,
     };
+    let mut look = LOOK_BYTES;
     loop {
         let room: &mut [u8; BUFFER_BYTES] = &mut buffer;
         if !text.read_more(source, room)? {
             return Ok(text);
+        }
+        if text.bytes.len() >= look {
+            look = look.saturating_mul(8);
+            if text.is_enough(alloc, job, source) {
+                text.has_failed = true;
+                text.is_left = true;
+                return Ok(text);
+            }
         }
     }
 }
@@ -84,6 +106,24 @@ impl ReadText {
                 Ok(false)
             }
         }
+    }
+
+    // Whether the rest of its source may stay unread: nobody knows it, no digest is asked for, and
+    // the first eighth of what was read is refused, whatever follows.
+    fn is_enough<R: Incoming>(&self, alloc: Global, job: &Job<'_>, source: &R) -> bool
+        ensures unknown { result ≡ true → R.input source.now ≡ None }
+        ensures sum { result ≡ true → job.now.has_sum ≡ false }
+        ensures refused { result ≡ true → (a : Answer) × IsAnswer (profile_of job.now.profile)
+            (text_of (input_of (take (length self.now.bytes.items / 8) self.now.bytes.items) true))
+            a }
+    {
+        let front = TextReader {
+            bytes: Bytes::new(&self.bytes.as_slice()[..self.bytes.len() / 8]),
+            has_failed: true,
+        };
+        source.may_be_left()
+            && !job.has_sum
+            && check_in::<TextReader, Table>(alloc, job.profile, front).is_ok()
     }
 
     // A reader of it.
@@ -158,9 +198,9 @@ impl ReadText {
         Ok(line)
     }
 
-    // All bytes of the source, if no read failed.
+    // What was read, unless a read failed.
     fn whole(&self) -> Option<&[u8]> {
-        if self.has_failed {
+        if self.has_failed && !self.is_left {
             None
         } else {
             Some(self.bytes.as_slice())
