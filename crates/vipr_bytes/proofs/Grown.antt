@@ -1,5 +1,5 @@
 -- A text that grows in memory
-use Rattle.std.proofs.Common.{◌≡◌, ℕ, false, List, ◌++◌, [], Result, Ok, Err, IfOk, sym, ap, ◌∙◌}
+use Rattle.std.proofs.Common.{arith, ◌≡◌, ℕ, false, List, ◌++◌, [], Result, IfOk, sym}
 use Rattle.std.proofs.lemmas.List.{append-nil}
 use Rattle.vipr_bytes.specs.{Grown.GrowsBy, Puts.Puts, declared.growing.Growing.Growing}
 
@@ -13,5 +13,4 @@ pub grown_whole : {V E : Type 0} (items : V → List ℕ) (old new : Growing) (b
     (r : Result V E) → Puts GrowsBy old new bytes → old.bytes.items ≡ []
     → IfOk r (λ v. (new.failed ≡ false) × (items v ≡ new.bytes.items))
     → IfOk r (λ v. items v ≡ bytes)
-grown_whole items old new bytes (Ok v) p none is = is.1 ∙ (grown old new bytes p is.0).1 ∙ ap (λ t. t ++ bytes) none
-grown_whole items old new bytes (Err e) p none is = tt
+grown_whole items old new bytes r p none is = grind (arith, grown)

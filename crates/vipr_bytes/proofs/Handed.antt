@@ -1,5 +1,5 @@
 -- Bytes that are handed to a writer piece by piece
-use Rattle.std.proofs.Common.{◌≡◌, ℕ, zero, suc, ◌+◌, ◌-◌, ◌<◌, ◌≤◌, refl, option_map, List, ◌++◌}
+use Rattle.std.proofs.Common.{◌≡◌, ℕ, ◌+◌, ◌-◌, ◌<◌, ◌≤◌, option_map, List, ◌++◌}
 use Rattle.std.proofs.Common.{length, take, drop, Option, Some, None, Ok, IfSome, sym, ap, ◌∙◌}
 use Rattle.std.proofs.Common.{subst, append_assoc, slice_range, arith}
 use Rattle.std.proofs.{Math.Seq.take-add, lemmas.List.take_all, lemmas.List.length-drop}
@@ -24,14 +24,12 @@ output accepted taken' room room' t r = λ i. Some (let o : Output = record { ac
 both : (accepted n : ℕ) (room : Option ℕ) → IfSome room (λ r. accepted ≤ r)
     → IfSome (option_map (λ r. r - accepted) room) (λ r. (n ≤ r) × (0 < r → 0 < n))
     → IfSome room (λ r. accepted + n ≤ r)
-both accepted n None before now = tt
-both accepted n (Some r) before now = let within = now.0 in omega arith
+both accepted n room before now = grind arith
 
 room_after : (accepted n : ℕ) (room : Option ℕ)
     → option_map (λ r. r - n) (option_map (λ r. r - accepted) room)
     ≡ option_map (λ r. r - (accepted + n)) room
-room_after accepted n None = refl
-room_after accepted n (Some r) = ap Some (omega arith)
+room_after accepted n room = grind arith
 
 pub more_handed : (before now after : Option Output) (text : List ℕ) (accepted n : ℕ)
     → IfSome before (TookFirst accepted text now)
@@ -45,6 +43,4 @@ more_handed (Some o) now after text accepted n known wrote =
 -- ---- the writes that failed or took nothing
 pub none_failed : (before now after : Option ℕ) (k : ℕ) → 0 < k → IfSome before (λ n. now ≡ Some n)
     → IfSome now (λ n. after ≡ Some (n + failure_of (Ok k))) → IfSome before (λ n. after ≡ Some n)
-none_failed None now after k some same counted = tt
-none_failed (Some n) now after zero some same counted = absurd (omega arith)
-none_failed (Some n) now after (suc k) some same counted = let e = subst (λ o. IfSome o (λ m. after ≡ Some (m + 0))) same counted in e ∙ ap Some (omega arith)
+none_failed before now after k some same counted = grind arith

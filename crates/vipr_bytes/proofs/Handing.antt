@@ -1,6 +1,6 @@
 -- A text that is handed to a sink piece by piece
-use Rattle.std.proofs.Common.{◌≡◌, ℕ, suc, ◌+◌, ◌-◌, ◌<◌, ◌≤◌, refl, option_map, Bool, true, false}
-use Rattle.std.proofs.Common.{List, [], ◌++◌, length, take, Option, Some, None, Result, Ok, Err}
+use Rattle.std.proofs.Common.{◌≡◌, ℕ, ◌+◌, ◌-◌, ◌<◌, refl, option_map, Bool, true, false}
+use Rattle.std.proofs.Common.{List, [], ◌++◌, length, take, Option, Some, Result, Ok, Err}
 use Rattle.std.proofs.Common.{IfSome, IfErr, sym, ap, ◌∙◌, subst, append_assoc, arith}
 use Rattle.std.proofs.Math.Seq.{take-append-add}
 use Rattle.std.proofs.lemmas.List.{length-append, take-append-le, append-nil}
@@ -18,8 +18,7 @@ output accepted taken' room room' t r = λ i. (let o : Output = record { accepte
 
 room_after : (a b c : ℕ) (room : Option ℕ) → a + b ≡ c
     → option_map (λ r. r - b) (option_map (λ r. r - a) room) ≡ option_map (λ r. r - c) room
-room_after a b c None e = refl
-room_after a b c (Some r) e = ap Some (omega (arith, e))
+room_after a b c room e = grind arith
 
 all_behind : (front bytes : List ℕ) (o : Output)
     → with_all bytes (with_all front o) ≡ with_all (front ++ bytes) o
@@ -34,41 +33,21 @@ abbrev pub behind : ℕ → Result (Unit {0}) WriteFailed → Result (Unit {0}) 
 behind n (Ok u) = Ok u
 behind n (Err e) = Err (record { accepted = n + e.accepted })
 
-room_whole : (a b c : ℕ) (room : Option ℕ) → a + b ≡ c → IfSome room (λ r. a ≤ r)
-    → IfSome (option_map (λ r. r - a) room) (λ r. b ≤ r) → IfSome room (λ r. c ≤ r)
-room_whole a b c None e first second = tt
-room_whole a b c (Some r) e first second = omega (arith, e, first, second)
-
-room_met : (a b : ℕ) (room : Option ℕ) → IfSome room (λ r. a ≤ r)
-    → IfSome (option_map (λ r. r - a) room) (λ r. b ≡ r) → IfSome room (λ r. a + b ≡ r)
-room_met a b None first second = tt
-room_met a b (Some r) first second = omega (arith, first, second)
-
-wrote_more : (o : Output) (new : Option Output) (front bytes : List ℕ)
-    (r : Result (Unit {0}) WriteFailed) → IfSome o.room (λ room. length front ≤ room)
-    → Wrote (with_all front o) new bytes r → Wrote o new (front ++ bytes) (behind (length front) r)
-wrote_more o new front bytes (Ok u) first w = (room_whole (length front) (length bytes) (length (front ++ bytes)) o.room (sym (length-append front bytes)) first w.0, w.1 ∙ ap Some (all_behind front bytes o))
-wrote_more o new front bytes (Err e) first w = (omega (arith, length-append front bytes, w.0), room_met (length front) e.accepted o.room first w.1, w.2 ∙ ap Some (first_behind front bytes e.accepted o))
-
 output_more : (start now new : Option Output) (front bytes : List ℕ)
     (r : Result (Unit {0}) WriteFailed) → IfSome start (λ o. Wrote o now front (Ok tt))
     → IfSome now (λ o. Wrote o new bytes r)
     → IfSome start (λ o. Wrote o new (front ++ bytes) (behind (length front) r))
-output_more None now new front bytes r first second = tt
-output_more (Some o) now new front bytes r first second = wrote_more o new front bytes r first.0 (subst (λ s. IfSome s (λ p. Wrote p new bytes r)) first.1 second)
+output_more start now new front bytes r first second = grind (arith, length-append, all_behind, first_behind)
 
 failures_more : (start now new : Option ℕ) (n : ℕ) (r : Result (Unit {0}) WriteFailed)
     → IfSome start (λ k. now ≡ Some k) → IfSome now (λ k. EndsAtFailure k new r)
     → IfSome start (λ k. EndsAtFailure k new (behind n r))
-failures_more None now new n r first second = tt
-failures_more (Some k) now new n (Ok u) first second = subst (λ s. IfSome s (λ j. new ≡ Some j)) first second
-failures_more (Some k) now new n (Err e) first second = subst (λ s. IfSome s (λ j. new ≡ Some (suc j))) first second
+failures_more start now new n r first second = grind arith
 
 part_more : (front bytes : List ℕ) (r : Result (Unit {0}) WriteFailed)
     → IfErr r (λ e. e.accepted < length bytes)
     → IfErr (behind (length front) r) (λ e. e.accepted < length (front ++ bytes))
-part_more front bytes (Ok u) p = tt
-part_more front bytes (Err e) p = omega (arith, length-append front bytes, p)
+part_more front bytes r p = grind (arith, length-append)
 
 pub end_more : (start now new : Start) (front bytes : List ℕ) (r : Result (Unit {0}) WriteFailed)
     → IsEnd start now front (Ok tt) → IsEnd now new bytes r
@@ -79,21 +58,10 @@ end_more start now new front bytes r first second = record {
   failures = failures_more start.failures now.failures new.failures (length front) r first.failures second.failures;
 }
 
--- what follows a failed write changes nothing
-cut_output : (start now : Option Output) (text more : List ℕ) (n : ℕ) → n < length text
-    → IfSome start (λ o. Wrote o now text (Err (record { accepted = n })))
-    → IfSome start (λ o. Wrote o now (text ++ more) (Err (record { accepted = n })))
-cut_output None now text more n l w = tt
-cut_output (Some o) now text more n l w = (omega (arith, length-append text more, l), w.1, w.2 ∙ ap Some (output _ _ _ _ (ap (λ t. o.accepted ++ t) (sym (take-append-le n text more (omega (arith, l))))) refl))
-
 end_cut : (start now : Start) (text more : List ℕ) (n : ℕ)
     → IsEnd start now text (Err (record { accepted = n }))
     → IsEnd start now (text ++ more) (Err (record { accepted = n }))
-end_cut start now text more n w = record {
-  output = cut_output start.output now.output text more n w.part w.output;
-  part = omega (arith, length-append text more, w.part);
-  failures = w.failures;
-}
+end_cut start now text more n w = grind (arith, length-append, take-append-le)
 
 pub stops_more : (start now : Start) (accepted : ℕ) (text more : List ℕ)
     → Stops start now accepted text → Stops start now accepted (text ++ more)
@@ -123,20 +91,14 @@ flows_on start now new accepted pending text c w = record {
 pub flow_stops : (start now new : Start) (accepted : ℕ) (pending text : List ℕ) (e : WriteFailed)
     → Flows start now accepted pending text → IsEnd now new pending (Err e)
     → Stops start new (counted (accepted + e.accepted)) (text ++ [])
-flow_stops start now new accepted pending text e c w = stops_more start new _ text [] (record {
-  n = length c.front + e.accepted;
-  count = counts (length c.front) e.accepted (length c.front + e.accepted) accepted refl c.count;
-  writes = subst (λ t. IsEnd start new t (Err (record { accepted = length c.front + e.accepted }))) c.parts (end_more start now new c.front pending (Err e) c.writes w);
-})
+flow_stops start now new accepted pending text e c w = grind (arith, stops_more start new, end_more start now new c.front pending (Err e) c.writes w)
 
 pub hands_all : {S : Type 0} (f : S → Option Output) (g : S → Option ℕ) (s t : S) (before total : ℕ)
     (bytes : List ℕ) → total ≡ counted (before + length bytes)
     → IfSome (f s) (λ o. Wrote o (f t) bytes (Ok tt))
     → IfSome (g s) (λ n. EndsAtFailure n (g t) (let r : Result (Unit {0}) WriteFailed = Ok tt in r))
     → Hands f g s t before bytes (total, false)
-hands_all f g s t before total bytes e wrote ended = record {
-  law = λ start text c. subst (λ n. Flows start (start_of f g t) n [] (text ++ [])) (sym e) (flows_on start (start_of f g s) (start_of f g t) before bytes text c (record { output = wrote; part = tt; failures = ended }));
-}
+hands_all f g s t before total bytes e wrote ended = grind (arith, flows_on)
 
 pub hands_front : {S : Type 0} (f : S → Option Output) (g : S → Option ℕ) (s t : S)
     (before total : ℕ) (bytes : List ℕ) (failed : WriteFailed)
@@ -153,21 +115,11 @@ pub sends_handed : {S : Type 0} {f : S → Option Output} {g : S → Option ℕ}
     (bytes : List ℕ) → p.failed ≡ false → bytes ≡ p.bytes.items
     → Hands f g s t p.accepted bytes (q.accepted, q.failed) → q.bytes.items ≡ []
     → Sends f g s t p q []
-sends_handed {S} {f} {g} {s} {t} p q bytes flows same hands none = record {
-  law = λ start text c.
-      let now = subst (λ b. Carries_by b start (start_of f g s) p.accepted p.bytes.items text) flows c in
-      let after = hands.law start text (subst (λ b. Flows start (start_of f g s) p.accepted b text) (sym same) now) in
-      subst (λ b. Carries_by q.failed start (start_of f g t) q.accepted b (text ++ [])) (sym none) after;
-}
+sends_handed {S} {f} {g} {s} {t} p q bytes flows same hands none = grind arith
 
 pub sends_none : {S : Type 0} {f : S → Option Output} {g : S → Option ℕ} {s : S} (p q : SinkBuffer)
     → p.failed ≡ true → q.failed ≡ p.failed → q.accepted ≡ p.accepted → Sends f g s s p q []
-sends_none {S} {f} {g} {s} p q stopped failed accepted = record {
-  law = λ start text c.
-      let now = subst (λ b. Carries_by b start (start_of f g s) p.accepted p.bytes.items text) stopped c in
-      subst (λ b. Carries_by b start (start_of f g s) q.accepted q.bytes.items (text ++ [])) (sym (failed ∙ stopped))
-      (subst (λ n. Stops start (start_of f g s) n (text ++ [])) (sym accepted) (stops_more start (start_of f g s) p.accepted text [] now));
-}
+sends_none {S} {f} {g} {s} p q stopped failed accepted = grind (arith, stops_more)
 
 -- bytes that are handed over with nothing before them
 pub sends_long : {S : Type 0} {f : S → Option Output} {g : S → Option ℕ} {s t : S} (p q : SinkBuffer)
@@ -201,6 +153,4 @@ module _ {S : Type 0} {f : S → Option Output} {g : S → Option ℕ} where
       → IsEnd start (start_of f g q.sink.now) text r)
       → (o.sink.ghost_name ≡ q.sink.ghost_name → sink ≡ q.sink.now)
       → IsEnd start (start_of f g sink) text r
-  put_and_finished o p q text sink start r m none same end free =
-      let sent = put_to_sink o p text m in
-      subst (λ s. IsEnd start (start_of f g s) text r) (sym (free (sym (same ∙ sent.0)))) (end (sent.2.law start [] none))
+  put_and_finished o p q text sink start r m none same end free = grind (arith, put_to_sink o p text m)
