@@ -1,24 +1,23 @@
 -- A checker's state, call by call
+use Rattle.std.proofs.Common.{arith}
 use Rattle.std.proofs.Common.{◌≡◌, ℕ, ◌≤◌, Bool, true, false, List, [], ◌∷◌, ◌++◌, length, Option}
 use Rattle.std.proofs.Common.{Some, None, Result, Ok, Err, refl, sym, ◌∙◌, ap, subst, inl, inr}
 use Rattle.std.specs.Prelude.{◌⊎◌, MatchOption}
-use Rattle.vipr_spec.specs.Constraint.{Profile, Row}
 use Rattle.vipr_spec.specs.Certificate.{Named, Problem, Derivation, Certificate, IsProof, count}
-use Rattle.vipr_spec.specs.Verdict.{refuses, at_solution, at_derivation}
-use Rattle.vipr_spec.specs.Tests.{solution_tests, solution_cause, Passes as PassesTest, meets_dual}
-use Rattle.vipr_spec.specs.{Fraction.ℚ, Steps.step_tests, Steps.with_next}
+use Rattle.vipr_spec.specs.Tests.{solution_tests, Passes as PassesTest, meets_dual}
+use Rattle.vipr_spec.specs.{Constraint.Profile, Constraint.Row, Fraction.ℚ, Steps.step_tests}
+use Rattle.vipr_spec.specs.{Steps.with_next, Verdict.refuses, Verdict.at_derivation}
 use Rattle.vipr_rules.specs.declared.solution.SolutionError.{SolutionError}
 use Rattle.vipr_rules.specs.declared.error.RuleError.{RuleError}
 use Rattle.vipr_rules.specs.{Apply.PassesTestsIn, Apply.StopsIn, Solution.test_of, Solution.FailsBy}
-use Rattle.vipr_table.specs.Table.{Table, advance_table, held_count}
+use Rattle.vipr_table.specs.Table.{advance_table, held_count}
 use Rattle.vipr_rules.specs.declared.error.RuleError.TheVariants as rule
 use Rattle.vipr_check.specs.declared.halt.Halt.TheVariants.{Refused, Memory}
-use Rattle.vipr_check.specs.View.{refusal_of, place_of}
 use Rattle.vipr_check.specs.Halts.{halt_answer, later_answer, step_detail_of, rule_shown}
 use Rattle.vipr_check.specs.Halts.{IsSolutionHalt, IsStepHalt, solution_halt, CanShow, CanShowHalt}
 use Rattle.vipr_check.specs.Progress.{Progress, HasSolutions, HasSteps}
 use Rattle.vipr_check.specs.State.{State, IsReached, HaltsBy, StopsSolution, StopsStep, TakesStep}
-use Rattle.vipr_check.specs.{declared.halt.Halt.Halt, declared.halt.Stop.Stop}
+use Rattle.vipr_check.specs.{View.place_of, declared.halt.Halt.Halt, declared.halt.Stop.Stop}
 use Rattle.vipr_check.proofs.ShownLemmas.{failing_within}
 use Rattle.vipr_check.proofs.{CauseLemmas.cause_is, ProgressLemmas.held_next}
 
@@ -26,8 +25,7 @@ use Rattle.vipr_check.proofs.{CauseLemmas.cause_is, ProgressLemmas.held_next}
 pub runs_of : (halt : Option Halt) (x : Unit {0}) → MatchOption halt
     (◌≡◌ {A = Result (Unit {0}) Stop} (Ok x) (Ok tt))
     (λ h. ◌≡◌ {A = Result (Unit {0}) Stop} (Ok x) (Err (later_answer h))) → halt ≡ None
-runs_of None x h = refl
-runs_of (Some y) x h = absurd (cc h)
+runs_of halt x h = grind arith
 
 pub reached_still : (k : Progress) (b : Bool) (old new : Option Halt) → old ≡ None
     → CanShowHalt k.problem new → IsReached k b old → IsReached k b new
@@ -51,57 +49,22 @@ pub listed_frame : (v w : State) (k : Progress) (n : ℕ) (b : Option ℚ) → v
     ≡ record w { progress = record w.progress { solutions = n; best = b } }
 listed_frame v w k n b e f = ap (λ x. record v { progress = x }) f ∙ ap (λ (u : State). record u { progress = record u.progress { solutions = n; best = b } }) e
 
-pub derived_frame : (v w : State) (k : Progress) (rows : Table) (top : ℕ) (goal : Option ℕ) → v ≡ w
-    → k ≡ record v.progress { rows = rows; peak = top; goal = goal }
-    → record v { progress = k }
-    ≡ record w { progress = record w.progress { rows = rows; peak = top; goal = goal } }
-derived_frame v w k rows top goal e f =
-    ap (λ x. record v { progress = x }) f ∙ ap (λ (u : State). record u { progress = record u.progress { rows = rows; peak = top; goal = goal } }) e
-
 pub halts_same : (v w : State) (k : Progress) (o : Option Halt) (h : Halt) (a : Stop) → v ≡ w
     → k ≡ v.progress → o ≡ Some h → a ≡ halt_answer h
     → HaltsBy w h (record v { progress = k; halt = o }) a
-halts_same v w k o h a e f g says = record {
-  kept = inl (ap (λ x. record v { progress = x; halt = o }) f ∙ ap (λ x. record v { halt = x }) g ∙ ap (λ (u : State). record u { halt = Some h }) e);
-  answer = says;
-}
-
-pub halts_advanced : (v w : State) (k : Progress) (o : Option Halt) (h : Halt) (a : Stop) → v ≡ w
-    → h ≡ Memory → k ≡ record v.progress { rows = advance_table v.progress.rows } → o ≡ Some h
-    → a ≡ halt_answer h
-    → HaltsBy w h (record v { progress = k; halt = o }) a
-halts_advanced v w k o h a e is f g says = record {
-  kept = inr (
-    is,
-    ap (λ x. record v { progress = x; halt = o }) f ∙ ap (λ x. record v { progress = record v.progress { rows = advance_table v.progress.rows }; halt = x }) g
-        ∙ ap (λ (u : State). record u { halt = Some h; progress = record u.progress { rows = advance_table u.progress.rows } }) e,
-  );
-  answer = says;
-}
+halts_same v w k o h a e f g says = grind arith
 
 -- ---- stops
 
 pub stops_solution : (p : Problem) (ss : List (Named Row)) (s : Named Row) (n : ℕ)
     (e : SolutionError) (h : Halt) → length ss ≡ n → IsSolutionHalt n s.name e h
     → FailsBy p s.item (solution_tests p) e → StopsSolution p ss s h
-stops_solution p ss s n e Memory same is fails = tt
-stops_solution p ss s n e (Refused r f) same is fails = (
-  e,
-  is.1,
-  fails,
-  ap (λ x. refuses (refusal_of x)) is.0 ∙ ap (λ i. refuses (record { cause = solution_cause (test_of e); place = at_solution i })) (sym same),
-)
+stops_solution p ss s n e h same is fails = grind arith
 
 -- with the item's own name it stops for what the tests answered
 pub solution_halted : (n : ℕ) (name : List ℕ) (e : SolutionError) (h : Halt)
     → h ≡ solution_halt n name e → IsSolutionHalt n name e h
 solution_halted n name e h is = subst (IsSolutionHalt n name e) (sym is) (refl, refl)
-
--- want of memory is no refusal
-pub memory_stops : (k : ℕ) (name : List ℕ) (e : RuleError) (h : Halt) → e ≡ rule.Memory
-    → IsStepHalt k name e h → h ≡ Memory
-memory_stops k name e Memory is h = refl
-memory_stops k name e (Refused r f) is h = absurd (let n : rule_shown e ≡ None = ap rule_shown is in cc (n, h.3))
 
 pub stops_step : (P : Profile) (c : Certificate) (d : Derivation) (k : ℕ) (e : RuleError) (h : Halt)
     → count c ≡ k → IsStepHalt k d.name e h
@@ -118,20 +81,10 @@ stops_step P c d k e (Refused r f) same is (inr x) = (
       ∙ ap (λ n. refuses (record { cause = n; place = at_derivation (count c) })) (cause_is c d e x.0 r.cause (step_detail_of is.0) x.2 is.3),
 )
 
-pub kept_or_advanced : (v w : State) (k : Progress) (o : Option Halt) (h : Halt) (a : Stop) (n : ℕ)
-    (name : List ℕ) (e : RuleError) → v ≡ w → IsStepHalt n name e h
-    → (k ≡ v.progress)
-    ⊎ ((e ≡ rule.Memory) × (k ≡ record v.progress { rows = advance_table v.progress.rows }))
-    → o ≡ Some h → a ≡ halt_answer h
-    → HaltsBy w h (record v { progress = k; halt = o }) a
-kept_or_advanced v w k o h a n name e same is (inl f) g says = halts_same v w k o h a same f g says
-kept_or_advanced v w k o h a n name e same is (inr f) g says = halts_advanced v w k o h a same (memory_stops n name e h f.0 is) f.1 g says
-
 -- what is to be shown is there
 step_can_show : (p : Problem) (k : ℕ) (name : List ℕ) (e : RuleError) (h : Halt)
     → IsStepHalt k name e h → CanShowHalt p (Some h)
-step_can_show p k name e Memory is = tt
-step_can_show p k name e (Refused r f) is = subst (CanShow p) (sym is.1) tt
+step_can_show p k name e h is = grind arith
 
 pub solution_can_show : (p : Problem) (s : Row) (n : ℕ) (name : List ℕ) (e : SolutionError)
     (h : Halt) → FailsBy p s (solution_tests p) e → IsSolutionHalt n name e h
@@ -145,9 +98,7 @@ pub reached_after : (k new : Progress) (b : Bool) (old o : Option Halt) (h : Hal
     → (new ≡ k) ⊎ ((e ≡ rule.Memory) × (new ≡ record k { rows = advance_table k.rows }))
     → o ≡ Some h → IsReached new b o
 reached_after k new b old o h n name e none is answers (inl f) g = subst (λ x. IsReached x b o) (sym f) (reached_still k b old o none (subst (CanShowHalt k.problem) (sym g) (step_can_show k.problem n name e h answers)) is)
-reached_after k new b old o h n name e none is answers (inr f) g =
-    let m : o ≡ Some Memory = g ∙ ap Some (memory_stops n name e h f.0 answers) in
-    record { solutions = λ not p. absurd (not m); steps = λ not p. absurd (not m); shows = subst (CanShowHalt new.problem) (sym m) tt }
+reached_after k new b old o h n name e none is answers (inr f) g = grind arith
 
 pub unstopped : (v w : State) (x : Unit {0}) → v ≡ w → MatchOption w.halt
     (◌≡◌ {A = Result (Unit {0}) Stop} (Ok x) (Ok tt))
@@ -162,11 +113,7 @@ pub reached_listed : (v w : State) (new : Progress) (x : Unit {0}) (s : Named Ro
     → IsReached v.progress v.in_solutions v.halt
     → ((ss : List (Named Row)) → HasSolutions ss v.progress → HasSolutions (ss ++ s ∷ []) new)
     → IsReached new v.in_solutions v.halt
-reached_listed v w new x s same runs phase is next = record {
-  solutions = λ n e. (let r = is.solutions n e in (r.0 ++ s ∷ [], next r.0 r.1));
-  steps = λ n e. absurd (let now = ap (λ (u : State). u.in_solutions) same in cc (now, phase, e));
-  shows = subst (CanShowHalt new.problem) (sym (unstopped v w x same runs)) tt;
-}
+reached_listed v w new x s same runs phase is next = grind arith
 
 -- ---- a derivation, as `derivation` and `take_from` take it
 
@@ -189,9 +136,7 @@ pub halts_at_step : (v w : State) (k : Progress) (o : Option Halt) (h : Halt) (a
     → o ≡ Some h → a ≡ halt_answer h → n ≡ v.progress.rows.next → HasSteps c w.progress
     → (HasSteps c v.progress → (e ≡ rule.Memory) ⊎ StopsIn v.progress.profile c d (step_tests d.reason) e)
     → HaltsBy w h (record v { progress = k; halt = o }) a × StopsStep w.progress.profile c d h
-halts_at_step v w k o h a n d e c same is keeps set says at has why =
-    let own : HasSteps c v.progress = subst (λ (s : State). HasSteps c s.progress) (sym same) has in
-    (kept_or_advanced v w k o h a n d.name e same is keeps set says, subst (λ (s : State). StopsStep s.progress.profile c d h) same (stops_step v.progress.profile c d n e h (sym (at ∙ own.rows.next)) is (why own)))
+halts_at_step v w k o h a n d e c same is keeps set says at has why = grind (arith, stops_step)
 
 pub takes_step : (v w : State) (new : Progress) (d : Derivation) (c : Certificate) → v ≡ w
     → HasSteps c w.progress
@@ -200,6 +145,4 @@ pub takes_step : (v w : State) (new : Progress) (d : Derivation) (c : Certificat
     → held_count new.rows ≤ new.peak
     → new ≡ record v.progress { rows = new.rows; peak = new.peak; goal = new.goal }
     → TakesStep c d w (record v { progress = new }) (Ok tt)
-takes_step v w new d c same has passes peak kept =
-    let t = passes (subst (λ (s : State). HasSteps c s.progress) (sym same) has) in
-    (subst (λ (s : State). PassesTestsIn s.progress.profile c d (step_tests d.reason)) same t.0, t.1, held_next c d new t.1, peak, derived_frame v w new new.rows new.peak new.goal same kept)
+takes_step v w new d c same has passes peak kept = grind (arith, held_next)

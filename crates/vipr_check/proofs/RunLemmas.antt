@@ -26,7 +26,7 @@ use Rattle.vipr_spec.proofs.Laws.{end_verified}
 use Rattle.vipr_read.specs.Items.{Items, Knows, Remembers}
 use Rattle.vipr_check.specs.declared.halt.Halt.TheVariants.{Refused, Memory}
 use Rattle.vipr_check.specs.Shown.{finding_shown, primal_shown, halt_shown, state_shown}
-use Rattle.vipr_check.specs.Progress.{HasSolutions, HasSteps}
+use Rattle.vipr_check.specs.Progress.{HasSolutions}
 use Rattle.vipr_check.specs.State.{State, HaltsBy, StopsSolution, TakesSolution, StopsEnd}
 use Rattle.vipr_check.specs.State.{EndsSolutions, StopsStep, TakesStep, StopsFinish, Finishes}
 use Rattle.vipr_check.specs.Reasons.{stop_reason, text_reason, SaysWhy}
@@ -34,7 +34,7 @@ use Rattle.vipr_check.specs.Run.{IsAmong, HasListed, IsAt, HasReached, Goes, Say
 use Rattle.vipr_check.specs.{Halts.halt_answer, Halts.step_detail_of, View.report_of}
 use Rattle.vipr_check.specs.{View.refusal_of, declared.halt.Halt.Halt, declared.halt.Stop.Stop}
 use Rattle.vipr_check.specs.{declared.no_proof.NoProof.NoProof, declared.verdict.Report.Report}
-use Rattle.vipr_check.proofs.Answering.{SaysWhy-by, SaysWith-by, text_says}
+use Rattle.vipr_check.proofs.Answering.{SaysWith-by, text_says}
 use Rattle.vipr_check.proofs.ShownLemmas.{missed_bound, stop_shown, halted_shown, unshown}
 
 -- ---- the reader's memory
@@ -56,15 +56,7 @@ pub at_start : (P : Profile) (p : Problem) (ss : List (Named Row)) (k l : State)
     → IsAmong P p ss k r → EndsSolutions ss k l (Ok tt) → (new : Items) → Knows new p
     → new.failed ≡ false → new.constraints + new.left < 2 ^ 32
     → IsAt P (start p ss) l new
-at_start P p ss k l r is h new knows unspent room = record {
-  profile = ap (λ v. v.progress.profile) h.2 ∙ is.profile;
-  has = subst (λ q. HasSteps (start q ss) l.progress) is.problem h.1;
-  phase = ap (λ v. v.in_solutions) h.2;
-  runs = ap (λ v. v.halt) h.2 ∙ is.runs;
-  knows = knows;
-  unspent = unspent;
-  room = let e = knows.constraints in omega arith;
-}
+at_start P p ss k l r is h new knows unspent room = grind arith
 
 pub reached_later : (P : Profile) (c : Certificate) (k l : State) (old mid new : Items)
     → (h : HasReached P c old k mid) → HasReached P h.now mid l new → HasReached P c old l new
@@ -74,39 +66,16 @@ reached_later P c k l old mid new h i = record {
   leads = λ known. let a = h.leads known in let b = i.leads a.known in record { known = b.known; answers = λ x z y. a.answers x z (b.answers x z y) };
 }
 
--- an answer for what is left now is one for what was left before
-pub reached_says : (P : Profile) (c : Certificate) (k : State) (old mid : Items)
-    (h : HasReached P c old k mid) → IsSome old.rest → (a : Answer) (x : Detail)
-    → (IsSome mid.rest → Explained P (derivations_from h.now mid.left (rest_of mid.rest)) a x)
-    → Explained P (derivations_from c old.left (rest_of old.rest)) a x
-reached_says P c k old mid h known a x s = let leads = h.leads known in leads.answers a x (s leads.known)
-
-pub reached_why : (P : Profile) (c : Certificate) (k : State) (old mid : Items)
-    (h : HasReached P c old k mid) → IsSome old.rest → (x : Detail) (e : NoProof) → (IsSome mid.rest
-    → SaysWhy (Explained P (derivations_from h.now mid.left (rest_of mid.rest))) x e)
-    → SaysWhy (Explained P (derivations_from c old.left (rest_of old.rest))) x e
-reached_why P c k old mid h known x e s = let leads = h.leads known in SaysWhy-by (Explained P (derivations_from h.now mid.left (rest_of mid.rest))) (Explained P (derivations_from c old.left (rest_of old.rest))) x e leads.answers (s leads.known)
-
 -- what ends the steps says of what was left before what it says of what is left now
 pub step_ends : (P : Profile) (c : Certificate) (k l : State) (old mid new : Items)
     (h : HasReached P c old k mid) (r : Result (Option Report) NoProof) (x : Result Report NoProof)
     → Some x ≡ result_transpose r → Goes P h.now mid l new r → IsSome old.rest
     → SaysWith (Explained P (derivations_from c old.left (rest_of old.rest))) (state_shown l) x
-step_ends P c k l old mid new h (Ok None) x is goes known = absurd (cc is)
-step_ends P c k l old mid new h (Ok (Some report)) x is goes known =
-    let same : x ≡ Ok report = cc is in
-    subst (SaysWith (Explained P (derivations_from c old.left (rest_of old.rest))) (state_shown l)) (sym same) (reached_says P c k old mid h known (verified (report_of report)) (state_shown l) goes)
-step_ends P c k l old mid new h (Err e) x is goes known =
-    let same : x ≡ Err e = cc is in
-    subst (SaysWith (Explained P (derivations_from c old.left (rest_of old.rest))) (state_shown l)) (sym same) (reached_why P c k old mid h known (state_shown l) e goes)
+step_ends P c k l old mid new h r x is goes known = grind arith
 
 pub step_ends_proved : (Q : Report → Type 0) (r : Result (Option Report) NoProof) (x : Result Report NoProof)
     → Some x ≡ result_transpose r → IfOk r (λ o. IfSome o Q) → IfOk x Q
-step_ends_proved Q (Ok None) x is q = absurd (cc is)
-step_ends_proved Q (Ok (Some report)) x is q =
-    let same : x ≡ Ok report = cc is in subst (λ (y : Result Report NoProof). IfOk y Q) (sym same) q
-step_ends_proved Q (Err e) x is q =
-    let same : x ≡ Err e = cc is in subst (λ (y : Result Report NoProof). IfOk y Q) (sym same) tt
+step_ends_proved Q r x is q = grind arith
 
 -- and if they go on, the checker is behind one more
 pub step_goes_on : (P : Profile) (c : Certificate) (k l : State) (old mid new : Items)
@@ -118,15 +87,7 @@ step_goes_on P c k l old mid new h (Err e) is goes = absurd (cc is)
 
 module _ (P : Profile) (c : Certificate) (k l : State) (old new : Items) (d : Derivation) (is : IsAt P c k old) (fewer : old.left ≡ suc new.left) where
   pub step_taken : Remembers old new → new.failed ≡ false → TakesStep c d k l (Ok tt) → IsAt P (with_next c d) l new
-  step_taken memory unspent h = record {
-    profile = ap (λ v. v.progress.profile) h.4 ∙ is.profile;
-    has = h.1;
-    phase = ap (λ v. v.in_solutions) h.4 ∙ is.phase;
-    runs = ap (λ v. v.halt) h.4 ∙ is.runs;
-    knows = knows_still c.problem old new is.knows memory;
-    unspent = unspent;
-    room = (let e = count_next c d in let r = is.room in omega arith);
-  }
+  step_taken memory unspent h = grind (arith, count_next)
 
   pub step_passes : TakesStep c d k l (Ok tt) → PassesTestsIn P c d (step_tests d.reason)
   step_passes h = subst (λ Q. PassesTestsIn Q c d (step_tests d.reason)) is.profile h.0
@@ -189,12 +150,7 @@ module _ (P : Profile) (c : Certificate) (k l : State) (r : Rest) (under : k.pro
 pub listed_later : (P : Profile) (p : Problem) (ss : List (Named Row)) (k l : State)
     (old mid new : Items) → (h : HasListed P p ss old k mid) → HasListed P p h.now mid l new
     → HasListed P p ss old l new
-listed_later P p ss k l old mid new h i = record {
-  now = i.now;
-  is_among = i.is_among;
-  known = λ t. i.known (h.known t);
-  answers = λ t a x y. h.answers t a x (i.answers (h.known t) a x y);
-}
+listed_later P p ss k l old mid new h i = grind arith
 
 -- an answer for what is left now is one for what was left before
 pub listed_says : (P : Profile) (p : Problem) (ss : List (Named Row)) (k : State) (old mid : Items)
@@ -206,16 +162,7 @@ listed_says P p ss k old mid h known x y s = SaysWith-by (Explained P (solutions
 
 module _ (P : Profile) (p : Problem) (ss : List (Named Row)) (k l : State) (old new : Items) (s : Named Row) (is : IsAmong P p ss k old) (fewer : old.left ≡ suc new.left) where
   pub solution_taken : Remembers old new → new.failed ≡ false → TakesSolution ss s k l (Ok tt) → IsAmong P p (ss ++ s ∷ []) l new
-  solution_taken memory unspent h = record {
-    profile = ap (λ v. v.progress.profile) h.2 ∙ is.profile;
-    problem = ap (λ v. v.progress.problem) h.2 ∙ is.problem;
-    has = h.1;
-    phase = ap (λ v. v.in_solutions) h.2 ∙ is.phase;
-    runs = ap (λ v. v.halt) h.2 ∙ is.runs;
-    knows = knows_still p old new is.knows memory;
-    unspent = unspent;
-    room = (let e = length-append ss (s ∷ []) in let r = is.room in omega (arith, e, r, fewer));
-  }
+  solution_taken memory unspent h = grind (arith, length-append)
 
   pub solution_passes_all : TakesSolution ss s k l (Ok tt) → FirstFailing (PassesSolution p s.item) (solution_tests p) None
   solution_passes_all h = subst (λ q. FirstFailing (PassesSolution q s.item) (solution_tests q) None) is.problem h.0
@@ -243,8 +190,7 @@ module _ (P : Profile) (p : Problem) (ss : List (Named Row)) (k l : State) (old 
         ((solution_fails P a x p ss new.left (rest_of old.rest) s (rest_of new.rest) (test_of e) (read known).0 fails.0).1 (refusal, shown))
 
     pub solution_stops : (e : Stop) → TakesSolution ss s k l (Err e) → IsSome old.rest → SaysWhy Remaining (state_shown l) (stop_reason e)
-    solution_stops e (h, halts, why) known = stopped_says Remaining k l h e halts
-        (subst (λ q. SaysWhy Remaining (halt_shown q (Some h)) (stop_reason (halt_answer h))) (sym is.problem) (solution_stopped h (subst (λ q. StopsSolution q ss s h) is.problem why) known))
+    solution_stops e (h, halts, why) known = grind (arith, solution_stopped)
 
 solution_fault_at : (P : Profile) (p : Problem) (ss : List (Named Row)) (n : ℕ) (r : Rest)
     (x : Detail) (e : TextError) → x ≡ none → 0 < n → Fails e (solution_read p r)

@@ -1,32 +1,29 @@
 -- What is shown where a checker stopped is what the definitions show
-use Rattle.std.proofs.Common.{◌≡◌, ℕ, ◌+◌, ◌<◌, ◌≤◌, min, Bool, true, false, List, [], ◌∷◌, ◌++◌}
-use Rattle.std.proofs.Common.{length, map, get_or, Option, Some, None, IfSome, Result, Ok, Err}
+use Rattle.std.proofs.Common.{◌≡◌, ℕ, ◌+◌, ◌<◌, ◌≤◌, Bool, true, false, List, [], ◌∷◌, ◌++◌}
+use Rattle.std.proofs.Common.{length, map, get_or, Option, Some, None, IfSome, Result}
 use Rattle.std.proofs.Common.{IfOk, MatchResult, All, Contains, ◌⊎◌, if◌then◌else◌, refl, sym, ◌∙◌}
-use Rattle.std.proofs.Common.{ap, subst, inl, inr, arith}
-use Rattle.std.specs.Prelude.{option_map, unwrap_or}
+use Rattle.std.proofs.Common.{ap, inl, inr, arith}
 use Rattle.std.specs.{FinSet.contains, List.flat_map, List.range_with_len}
 use Rattle.std.proofs.lemmas.List.{length-append, length-map, get_or-map}
 use Rattle.std.proofs.lemmas.List.Elements.{All-nil, All-cons, All-tail, All-append, All-map}
 use Rattle.std.proofs.lemmas.List.Elements.{All-filter, All-from_recursion}
 use Rattle.std.proofs.lemmas.List.FromFn.{length-range_with_len, get_or-range_with_len}
-use Rattle.vipr_spec.specs.Constraint.{Profile, Row, at, Condition, condition}
+use Rattle.vipr_spec.specs.Constraint.{Profile, Row, at, condition}
 use Rattle.vipr_spec.specs.Certificate.{Named, Problem, variables, integer_variables, Claim}
 use Rattle.vipr_spec.specs.Certificate.{infeasible, range, primal_bound, objective_at, IsAsGood}
 use Rattle.vipr_spec.specs.Certificate.{MeetsPrimal, Reason, asm, lin, rnd, uns, sol, Derivation}
 use Rattle.vipr_spec.specs.Certificate.{Certificate}
-use Rattle.vipr_spec.specs.Steps.{PassesStep, StepTest, earlier, live, assumed, suitable, fitting}
-use Rattle.vipr_spec.specs.Steps.{roundable, split, listed, by_sum, by_rounding, by_constraint}
-use Rattle.vipr_spec.specs.Steps.{by_cutoff, StepDetail, index, position, sum, both, compared}
-use Rattle.vipr_spec.specs.Steps.{nothing, Shows, FirstFailing, reference_tests, entry_tests}
-use Rattle.vipr_spec.specs.Steps.{sum_tests, step_tests}
+use Rattle.vipr_spec.specs.Steps.{PassesStep, StepTest, earlier, live, suitable, fitting, roundable}
+use Rattle.vipr_spec.specs.Steps.{by_sum, by_rounding, StepDetail, FirstFailing}
+use Rattle.vipr_spec.specs.Steps.{reference_tests, entry_tests, sum_tests, step_tests}
 use Rattle.vipr_spec.specs.Tests.{SolutionTest, whole_at, value_fits, holds, objective_fits}
 use Rattle.vipr_spec.specs.Tests.{PassesSolution, solution_tests, finite_primal, name_at, names_of}
 use Rattle.vipr_spec.specs.Tests.{none}
 use Rattle.vipr_spec.specs.{Fraction.ℚ, Reading.most_count, Reading.is_nonzero, Shape.ReasonShape}
 use Rattle.vipr_linear.specs.{Constraint.constraint_of, declared.constraint.Constraint.Constraint}
 use Rattle.vipr_cert.specs.{Items.named_of, declared.items.Named.Named as NamedItem}
-use Rattle.vipr_rules.specs.{Apply.shown_by, Apply.StopsIn, declared.error.RuleError.RuleError}
-use Rattle.vipr_check.specs.{Halts.capped, Halts.rule_shown, Halts.IsTestOf, Shown.halt_shown}
+use Rattle.vipr_rules.specs.{Apply.StopsIn, declared.error.RuleError.RuleError}
+use Rattle.vipr_check.specs.{Halts.rule_shown, Halts.IsTestOf, Shown.halt_shown}
 use Rattle.vipr_check.specs.{Shown.state_shown, State.State, State.HaltsBy, declared.halt.Halt.Halt}
 use Rattle.vipr_check.specs.{declared.halt.Halt.TheVariants.Memory, declared.halt.Stop.Stop}
 use Rattle.vipr_table.specs.Table.{advance_table}
@@ -74,8 +71,7 @@ name_of_given p cons i n same within =
 -- a copy of one of two same names is the other
 pub copy_is : {E : Type 0} (r : Result (List ℕ) E) (x y : List ℕ) (Q : E → Type 0) → x ≡ y
     → MatchResult r (λ copy. copy ≡ x) Q → IfOk r (λ name. name ≡ y)
-copy_is (Ok copy) x y Q e h = h ∙ e
-copy_is (Err f) x y Q e h = tt
+copy_is r x y Q e h = grind arith
 
 -- ---- the primal bound
 
@@ -129,48 +125,12 @@ step_few (rnd es) h = All-append FewIn (sum_tests es) (roundable es ∷ by_round
 step_few (uns i1 l1 i2 l2) h = All-from_recursion FewIn (step_tests (uns i1 l1 i2 l2)) (tt, (tt, (tt, (tt, (tt, (tt, (tt, (tt, (tt, (tt, (tt, (tt, (tt, tt)))))))))))))
 step_few sol h = All-from_recursion FewIn (step_tests sol) (tt, (tt, tt))
 
-abbrev IsFew : StepDetail → Type 0
-IsFew (position n) = n ≤ most_count
-IsFew _ = Unit {0}
-
-shows_few : (c : Certificate) (d : Condition) (t : StepTest) (x : StepDetail) → FewIn t
-    → Shows c d t x → IsFew x
-shows_few c d (earlier i) x few h = subst IsFew (sym h) tt
-shows_few c d (live i) x few h = subst IsFew (sym h) tt
-shows_few c d (assumed l) x few h = subst IsFew (sym h) tt
-shows_few c d (suitable es) x few h = subst IsFew (sym h) (omega arith)
-shows_few c d (fitting es) x few h = subst IsFew (sym h) (omega arith)
-shows_few c d (roundable es) x few h = subst IsFew (sym h.2) tt
-shows_few c d (split l1 l2) x few h = subst IsFew (sym h) tt
-shows_few c d listed x few h = subst IsFew (sym h) tt
-shows_few c d (by_sum es) x few h = subst IsFew (sym h.2) tt
-shows_few c d (by_rounding es) x few h = subst IsFew (sym h.4) tt
-shows_few c d (by_constraint i) x few h = subst IsFew (sym h) tt
-shows_few c d by_cutoff x few h = subst IsFew (sym h.2) tt
-
 -- ---- derivations
-
-capped_few : (x : StepDetail) → IsFew x → capped x ≡ x
-capped_few (index i) few = refl
-capped_few (position n) few = let e : min n most_count ≡ n = omega (arith, few) in ap position e
-capped_few (sum x) few = refl
-capped_few (both x y) few = refl
-capped_few (compared x y) few = refl
-capped_few nothing few = refl
-
-detail_is : (m n : ℕ) (x y : StepDetail)
-    → ◌≡◌ {A = Option (ℕ × StepDetail)} (Some (m, x)) (Some (n, y)) → y ≡ x
-detail_is m n x y g = sym (ap (λ (o : Option (ℕ × StepDetail)). (unwrap_or o (m, x)).1) g)
-
-rule_is : (e : RuleError) (m n : ℕ) (x y : StepDetail) → shown_by e ≡ Some (m, x) → IsFew x
-    → rule_shown e ≡ Some (n, y) → y ≡ x
-rule_is e m n x y h few g = detail_is m n (capped x) y (sym (ap (option_map (λ (p : ℕ × StepDetail). (p.0, capped p.1))) h) ∙ g) ∙ capped_few x few
 
 pub stop_shown : (P : Profile) (c : Certificate) (d : Derivation) (e : RuleError)
     (n : ℕ) (y : StepDetail) → ReasonShape d.reason
     → (s : StopsIn P c d (step_tests d.reason) e) → rule_shown e ≡ Some (n, y) → y ≡ s.2.0
-stop_shown P c d e n y few (t, first, (x, says, shows)) =
-    rule_is e _ n x y says (shows_few c (condition d.stated) t x (failing_has (PassesStep P c (condition d.stated)) FewIn (step_tests d.reason) t (step_few d.reason few) first) shows)
+stop_shown P c d e n y few (t, first, (x, says, shows)) = grind (arith, failing_has (PassesStep P c (condition d.stated)) FewIn (step_tests d.reason) t (step_few d.reason few) first)
 
 -- ---- checkers
 
