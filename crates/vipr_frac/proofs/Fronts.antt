@@ -1,15 +1,15 @@
 -- What digits at the front write, in front of more digits and behind others
-use Rattle.std.proofs.Common.{◌≡◌, ℕ, ◌+◌, ◌-◌, ◌*◌, ◌^◌, ◌<◌, ◌≤◌, ◌≢◌, ◌⊎◌, Bool, true, false}
-use Rattle.std.proofs.Common.{List, [], ◌∷◌, ◌++◌, length, take, drop, get_or, Some, None, refl}
-use Rattle.std.proofs.Common.{sym, ap, ◌∙◌, arith, inl, inr, if◌then◌else◌, add-one, zero-lt-suc}
-use Rattle.std.proofs.Common.{subst, Result, not, nat_lt, ◌==◌, cond}
+use Rattle.std.proofs.Common.{rules, ◌≡◌, ℕ, ◌+◌, ◌-◌, ◌*◌, ◌^◌, ◌<◌, ◌≤◌, ◌≢◌, ◌⊎◌, Bool, true}
+use Rattle.std.proofs.Common.{false, List, [], ◌∷◌, ◌++◌, length, take, drop, get_or, Some, None}
+use Rattle.std.proofs.Common.{refl, sym, ap, ◌∙◌, arith, inl, inr, if◌then◌else◌, add-one}
+use Rattle.std.proofs.Common.{zero-lt-suc, subst, Result, not, cond}
 use Rattle.std.proofs.lemmas.List.{take-append-drop, drop-drop, length-take, length-drop, take_all}
 use Rattle.std.proofs.lemmas.List.{get_or-take, get_or-drop, take-take, drop-take}
 use Rattle.std.proofs.Math.Nat.{pow-suc, pow-le-pow_right, mul-le-mul}
-use Rattle.std.proofs.lemmas.Bool.{lt-ltb, cases_lt, cases_eq, eqb-true}
+use Rattle.std.proofs.lemmas.Bool.{cases_lt, cases_eq}
 use Rattle.std.proofs.{lemmas.Bool.Decides.nat_tests, lemmas.List.Sums.prefix_len_is}
-use Rattle.std.specs.Str.Parse.{starts_with_minus, without_leading_sign}
-use Rattle.vipr_spec.specs.Number.{is_slash, slash_place, top_of, bottom_of, of_parts, number_read}
+use Rattle.std.specs.Str.Parse.{starts_with_minus}
+use Rattle.vipr_spec.specs.Number.{is_slash, top_of, bottom_of, of_parts, number_read}
 use Rattle.vipr_spec.specs.Digits.{natural_of, natural_after, is_digit}
 use Rattle.vipr_spec.specs.{Fraction.ℚ, Tokens.is_white}
 use Rattle.vipr_spec.proofs.Laws.{natural_of_some, next_other}
@@ -59,8 +59,7 @@ pub part_fits : (value len part : ℕ) → value ≤ 170141183460469231731 → l
     → value * 10 ^ len + part < 2 ^ 128
 part_fits value len part small few below =
     let p : 10 ^ len ≤ 10 ^ 18 = pow-le-pow_right (zero-lt-suc 9) few in
-    let q : value * 10 ^ len ≤ 170141183460469231731 * 10 ^ 18 = mul-le-mul small p in
-    omega arith
+    omega (arith, mul-le-mul small p)
 
 pub solid : (b : ℕ) → is_digit b ≡ true → is_white b ≡ false
 unfolding is_white
@@ -69,9 +68,7 @@ solid b h = grind (arith, nat_tests)
 -- the number of the digits at the front
 pub front_value : (len v : ℕ) (bs : List ℕ) → 0 < len → len ≤ length bs
     → natural_after 0 (take len bs) ≡ Some v → natural_of (take len bs) ≡ Some v
-front_value len v bs some within e =
-    let size : length (take len bs) ≢ 0 = omega (arith, length-take len bs) in
-    sym (natural_of_some (take len bs) size) ∙ e
+front_value len v bs some within e = grind (arith, natural_of_some)
 
 -- another byte behind the digits at the front
 pub stopped : (len v : ℕ) (bs : List ℕ) → len < length bs → natural_after 0 (take len bs) ≡ Some v
@@ -111,33 +108,13 @@ pub fraction_value : (bs : List ℕ) (is_negative : Bool) (len more top : ℕ)
     of_parts is_negative (Some top) (natural_of (take more (drop (len + 1) bs)))
     ≡ of_parts is_negative (natural_of (top_of (take (len + 1 + more) bs)))
     (natural_of (bottom_of (take (len + 1 + more) bs)))
-fraction_value bs is_negative len more top digits slash within e =
-    let t : List ℕ = take (len + 1 + more) bs in
-    let size : len < length (take (len + 1 + more) bs) = omega (arith, length-take (len + 1 + more) bs) in
-    let place : slash_place (take (len + 1 + more) bs) ≡ len =
-    prefix_len_is (λ x. not (is_slash x)) (take (len + 1 + more) bs) len 0 (omega arith)
-    (λ k h. rw (get_or-take (len + 1 + more) bs k 0 (omega arith)) (no_slash (get_or bs k 0) (digits k h)))
-    (λ h. rw (get_or-take (len + 1 + more) bs len 0 (omega arith), slash) refl) in
-    let above : top_of (take (len + 1 + more) bs) ≡ take len bs = ap (λ n. take n (take (len + 1 + more) bs)) place ∙ take-take len (len + 1 + more) bs (omega arith) in
-    let lt : nat_lt len (length (take (len + 1 + more) bs)) ≡ true = lt-ltb len (length (take (len + 1 + more) bs)) size in
-    let below : bottom_of (take (len + 1 + more) bs) ≡ take more (drop (len + 1) bs) = rw (place, lt) (drop-take (len + 1) more bs) in
-    ap (λ m. of_parts is_negative m (natural_of (take more (drop (len + 1) bs)))) (sym e ∙ ap natural_of (sym above))
-    ∙ ap (λ ds. of_parts is_negative (natural_of (top_of (take (len + 1 + more) bs))) (natural_of ds)) (sym below)
+fraction_value bs is_negative len more top digits slash within e = search (rules, length-take, prefix_len_is, get_or-take, no_slash, take-take, drop-take)
 
 chosen : (b : Bool) (x y : List ℕ) → true ≡ b → x ≡ cond b x y
-chosen true x y e = refl
-chosen false x y e = absurd (cc)
+chosen b x y e = grind arith
 
 passed : (b : Bool) (x y : List ℕ) → false ≡ b → y ≡ cond b x y
-passed true x y e = absurd (cc)
-passed false x y e = refl
-
-unplussed : (b : Bool) (xs : List ℕ) → false ≡ b → xs ≡ drop (cond b 1 0) xs
-unplussed true xs e = absurd (cc)
-unplussed false xs e = refl
-
-no_plus : (b : ℕ) → is_digit b ≡ true → false ≡ (b == 43)
-no_plus b h = grind (arith, nat_tests)
+passed b x y e = grind arith
 
 -- a sign and a number without one at the front
 pub front_read : (bs : List ℕ) (is_negative : Bool) (sign len : ℕ) (r : Result ℚ NumberError)
@@ -147,18 +124,7 @@ pub front_read : (bs : List ℕ) (is_negative : Bool) (sign len : ℕ) (r : Resu
     (natural_of (top_of (take len (drop sign bs))))
     (natural_of (bottom_of (take len (drop sign bs))))
     → as_read r ≡ number_read (take (sign + len) bs)
-front_read bs true sign len r e one none some digit h =
-    let first : get_or (take (1 + len) bs) 0 0 ≡ get_or bs 0 0 = get_or-take (1 + len) bs 0 0 (omega arith) in
-    let minus : true ≡ starts_with_minus (take (1 + len) bs) = e ∙ ap (λ b. b == 45) (sym first) in
-    let rest : take len (drop 1 bs) ≡ without_leading_sign (take (1 + len) bs) = sym (drop-take 1 len bs) ∙ chosen (starts_with_minus (take (1 + len) bs)) (drop 1 (take (1 + len) bs)) _ minus in
-    rw (one refl) (read_parts (take (1 + len) bs) (take len (drop 1 bs)) true r minus rest (rw (one refl) at h))
-front_read bs false sign len r e one none some digit h =
-    let plain : 0 + len ≡ len = omega arith in
-    let first : get_or (take len bs) 0 0 ≡ get_or bs 0 0 = get_or-take len bs 0 0 some in
-    let minus : false ≡ starts_with_minus (take len bs) = e ∙ ap (λ b. b == 45) (sym first) in
-    let plus : false ≡ (get_or (take len bs) 0 0 == 43) = no_plus (get_or bs 0 0) (rw (none refl) at digit) ∙ ap (λ b. b == 43) (sym first) in
-    let rest : take len bs ≡ without_leading_sign (take len bs) = unplussed (get_or (take len bs) 0 0 == 43) (take len bs) plus ∙ passed (starts_with_minus (take len bs)) (drop 1 (take len bs)) _ minus in
-    rw (none refl, plain) (read_parts (take len bs) (take len bs) false r minus rest (rw (none refl) at h))
+front_read bs is_negative sign len r e one none some digit h = grind (arith, get_or-take, read_parts, nat_tests)
 
 -- neither a sign has white space
 pub sign_solid : (bs : List ℕ) (is_negative : Bool) (sign len : ℕ)
@@ -167,14 +133,7 @@ pub sign_solid : (bs : List ℕ) (is_negative : Bool) (sign len : ℕ)
     ((k : ℕ) → k < len → is_white (get_or (drop sign bs) k 0) ≡ false) → (k : ℕ) → k < sign + len
     → is_white (get_or bs k 0) ≡ false
 unfolding is_white
-sign_solid bs true sign len e one none rest k h = elim (cases_eq k 0) [
-  | inl q ↦ let minus : get_or bs 0 0 ≡ 45 = eqb-true (get_or bs 0 0) 45 (sym e) in rw (q, minus) refl
-  | inr q ↦
-      let at : get_or (drop sign bs) (k - sign) 0 ≡ get_or bs (sign + (k - sign)) 0 = get_or-drop sign bs (k - sign) 0 in
-      let first : sign ≡ 1 = one refl in
-      let same : sign + (k - sign) ≡ k = omega arith in
-      subst (λ b. is_white b ≡ false) (at ∙ ap (λ j. get_or bs j 0) same) (rest (k - sign) (omega arith))
-]
+sign_solid bs true sign len e one none rest k h = grind (arith, get_or-drop sign bs (k - sign) 0)
 sign_solid bs false sign len e one none rest k h =
     let at : get_or (drop sign bs) k 0 ≡ get_or bs (sign + k) 0 = get_or-drop sign bs k 0 in
     let first : sign ≡ 0 = none refl in

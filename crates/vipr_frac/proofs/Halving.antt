@@ -1,12 +1,11 @@
 -- The greatest common divisor by taking out factors 2.
 use mir.Val.{bits}
 use Rattle.std.proofs.Common.{◌≡◌, ℕ, zero, suc, ◌+◌, ◌*◌, ◌/◌, ◌%◌, ◌^◌, ◌-◌, ◌<◌, ◌≤◌, sym, ap}
-use Rattle.std.proofs.Common.{ap₂, subst, ◌∙◌, arith, min, inl, inr}
+use Rattle.std.proofs.Common.{ap₂, subst, ◌∙◌, arith, min}
 use Rattle.std.proofs.Math.Nat.{mul_comm, mul_assoc, add-mul, mul-one, pow-suc, dvd-mul_right}
 use Rattle.std.proofs.Math.Nat.{dvd-sub, div-add-mod'}
-use Rattle.std.proofs.lemmas.Nat.Gcd.{IsGcd-from_sub, dvd_trans}
 use Rattle.std.proofs.lemmas.Nat.Bits.{bit_at_lowest, bit_at-suc, bit_at-trailing_zeros}
-use Rattle.std.proofs.{lemmas.Bool.cases_lt, lemmas.Nat.shr-shr}
+use Rattle.std.proofs.{lemmas.Nat.shr-shr, lemmas.Nat.Gcd.IsGcd-from_sub, lemmas.Nat.Gcd.dvd_trans}
 use Rattle.std.specs.Int.{◌∣◌, bit_at, abs_diff, trailing_zeros, Width}
 use Rattle.vipr_spec.specs.{Gcd.gcd, GcdLaws.gcd_is, GcdLaws.gcd-scaled}
 use Rattle.vipr_frac.proofs.Steps.{gcd-same, gcd-swap}
@@ -45,10 +44,7 @@ pub both_odd : (i j x y : ℕ) → x % 2 ≡ 1 → y % 2 ≡ 1
 both_odd zero j x y odd other =
     let least : min 0 j ≡ 0 = omega arith in
     ap (λ n. gcd n (y * 2 ^ j)) (once x) ∙ odd_shift j x y odd ∙ sym (once (gcd x y)) ∙ ap (λ n. gcd x y * 2 ^ n) (sym least)
-both_odd (suc i) zero x y odd other =
-    let least : min (suc i) 0 ≡ 0 = omega arith in
-    ap (gcd (x * 2 ^ suc i)) (once y) ∙ gcd-swap (x * 2 ^ suc i) y ∙ odd_shift (suc i) y x other ∙ gcd-swap y x ∙ sym (once (gcd x y))
-    ∙ ap (λ n. gcd x y * 2 ^ n) (sym least)
+both_odd (suc i) zero x y odd other = grind (arith, gcd-swap, odd_shift)
 both_odd (suc i) (suc j) x y odd other =
     let least : min (suc i) (suc j) ≡ suc (min i j) = omega arith in
     ap₂ gcd (twice x i) (twice y j) ∙ gcd-scaled (x * 2 ^ i) (y * 2 ^ j) 1 ∙ ap (λ n. n * 2) (both_odd i j x y odd other)
@@ -68,21 +64,10 @@ above_zeros (suc k) n h =
 pub gcd_difference : (x y : ℕ) → y ≤ x → gcd (x - y) y ≡ gcd x y
 gcd_difference x y h = sym (gcd-same x y _ (IsGcd-from_sub x y _ h (gcd_is (x - y) y)))
 
-step_up : (x o : ℕ) → x ≤ o → (min x o ≡ x) × (abs_diff x o ≡ o - x)
-step_up x o h = (omega arith, omega arith)
-
-step_down : (x o : ℕ) → o ≤ x → (min x o ≡ o) × (abs_diff x o ≡ x - o)
-step_down x o h = (omega arith, omega arith)
-
 -- the smaller of two odd numbers is odd, and with their difference it has the same common divisors
 pub odd_step : (x o : ℕ) → x % 2 ≡ 1 → o % 2 ≡ 1
     → (min x o % 2 ≡ 1) × (gcd (min x o) (abs_diff x o) ≡ gcd x o)
-odd_step x o odd other = elim (cases_lt x o) [
-  | inl l ↦ let h : x ≤ o = omega arith in let e = step_up x o h in
-      (ap (λ n. n % 2) e.0 ∙ odd, ap₂ gcd e.0 e.1 ∙ gcd-swap x (o - x) ∙ gcd_difference o x h ∙ gcd-swap o x)
-  | inr h ↦ let e = step_down x o h in
-      (ap (λ n. n % 2) e.0 ∙ other, ap₂ gcd e.0 e.1 ∙ gcd-swap o (x - o) ∙ gcd_difference x o h)
-]
+odd_step x o odd other = grind (arith, gcd-swap x (o - x), gcd_difference, gcd-swap o x, gcd-swap o (x - o))
 
 -- ---- the factors 2 of a number of this width
 module _ (w : Width) where
@@ -102,9 +87,7 @@ module _ (w : Width) where
   -- a step of the division by halving
   pub halved : (x n : ℕ) → 0 < n → n < 2 ^ bits w → x % 2 ≡ 1
       → (min x (odd_part n) % 2 ≡ 1) × (gcd (min x (odd_part n)) (abs_diff x (odd_part n)) ≡ gcd x n)
-  halved x n some small odd =
-      let step = odd_step x (odd_part n) odd (odd_is n some small) in
-      (step.0, step.1 ∙ sym (odd_alone x n some small odd))
+  halved x n some small odd = grind (arith, odd_step, odd_is, odd_alone)
 
   pub twos_back : (a b : ℕ) → 0 < a → a < 2 ^ bits w → 0 < b → b < 2 ^ bits w
       → gcd (odd_part b) a * 2 ^ min (trailing_zeros w b) (trailing_zeros w a) ≡ gcd a b

@@ -1,14 +1,12 @@
 -- A sum fits if its parts over some common denominator are in bound.
 use Rattle.std.proofs.Common.{◌≡◌, ℕ, zero, suc, ◌*◌, ◌/◌, ◌<◌, ◌≤◌, ◌^◌, refl, sym, ap, ap₂, subst}
 use Rattle.std.proofs.Common.{◌∙◌, arith, FitsSigned, lit≤}
-use Rattle.std.specs.Prelude.{ℤ, pos, ◌+ℤ◌, ◌*ℤ◌, neg_ℤ, unsigned_abs}
-use Rattle.std.specs.Int.{◌∣◌, w64, w128, int_wrap, int_wrapping_add}
-use Rattle.std.proofs.Math.Nat.{le_trans, div-le_self, div-mul_cancel, dvd-mul_right, dvd_trans}
-use Rattle.std.proofs.Math.Nat.{mul_comm, mul_assoc, mul-pos, mul-dvd-mul_left, mul-le-mul}
-use Rattle.std.proofs.Math.Nat.{mul-le-mul_left, le_of_mul-le-mul_right}
-use Rattle.std.proofs.lemmas.Int.{ints, unsigned_abs-mul, fits_signed_from_abs, int_wrap_fits}
-use Rattle.std.proofs.lemmas.Int.{int_wrap-add_left, wrapping_add_is}
-use Rattle.std.proofs.lemmas.Nat.Gcd.{le_of_dvd}
+use Rattle.std.proofs.Math.Nat.{le_trans, div-mul_cancel, dvd-mul_right, dvd_trans, mul_comm}
+use Rattle.std.proofs.Math.Nat.{mul_assoc, mul-pos, mul-dvd-mul_left, mul-le-mul, mul-le-mul_left}
+use Rattle.std.proofs.Math.Nat.{le_of_mul-le-mul_right}
+use Rattle.std.proofs.{lemmas.Int.ints, lemmas.Int.unsigned_abs-mul, lemmas.Nat.Gcd.le_of_dvd}
+use Rattle.std.specs.Prelude.{ℤ, pos, ◌+ℤ◌, ◌*ℤ◌, unsigned_abs}
+use Rattle.std.specs.Int.{◌∣◌, w64, w128, int_wrapping_add}
 use Rattle.vipr_spec.specs.Fraction.{ℚ, over, most, ◌+ℚ◌, ◌*ℚ◌, zero_ℚ, IsBounded, SumFits}
 use Rattle.vipr_spec.specs.Fraction.{ProductFits}
 use Rattle.vipr_spec.specs.{Gcd.gcd, GcdLaws.gcd_is, GcdLaws.gcd-scaled, Lowest.abs_div}
@@ -85,35 +83,15 @@ module _ (x y : ℚ) (p t : ℤ) (n : ℕ) (some : 0 < n) (x_is : over p n ≡ x
       rw (← size) (part_small _ h z.denom n _ z.lowest.positive below (cross z (p +ℤ t) n (subst (λ w. Is w (p +ℤ t) n) sum_over (is_over (p +ℤ t) n some))))
 
   denom_small : sum_denom x y ≤ n
-  denom_small =
-      let less : sum_denom x y ≤ x.denom / gcd x.denom y.denom * y.denom = mul-le-mul_left (x.denom / gcd x.denom y.denom) (div-le_self y.denom (sum_gcd x y)) in
-      le_trans less (rw (mul_comm (x.denom / gcd x.denom y.denom) y.denom) second)
+  denom_small = grind (arith, second)
 
   pub fits_over : unsigned_abs p ≤ most → unsigned_abs t ≤ most → unsigned_abs (p +ℤ t) ≤ most → n ≤ most → FitsSum x y
-  fits_over a b c d = record {
-    left = le_trans left_small a;
-    right = le_trans right_small b;
-    both = le_trans both_small c;
-    below = le_trans denom_small d;
-  }
+  fits_over a b c d = grind (arith, le_trans left_small a, le_trans right_small b, le_trans both_small c, le_trans denom_small d)
 
 -- ---- a sum that was wrapped on the way, and is a word
 pub wrapped_sum : (p t s : ℤ) → unsigned_abs p ≤ most → unsigned_abs t ≤ 2 ^ 126
     → s ≡ int_wrapping_add w128 p t → FitsSigned w64 s → s ≡ p +ℤ t
-wrapped_sum p t s a b e word =
-    let p_fits : FitsSigned w128 p = fits_signed_from_abs w128 p (omega arith) in
-    let t_fits : FitsSigned w128 t = fits_signed_from_abs w128 t (omega arith) in
-    let size : unsigned_abs s ≤ 2 ^ 63 = word_abs s word in
-    let small : unsigned_abs (s +ℤ neg_ℤ t) ≤ most = omega (arith, ints) in
-    let fits : FitsSigned w128 (s +ℤ neg_ℤ t) = fits_signed_from_abs w128 (s +ℤ neg_ℤ t) (omega arith) in
-    let over_t : (p +ℤ t) +ℤ neg_ℤ t ≡ p = omega (arith, ints) in
-    let back : s +ℤ neg_ℤ t ≡ p =
-    sym (int_wrap_fits w128 (s +ℤ neg_ℤ t) fits)
-    ∙ ap (λ z. int_wrap w128 (z +ℤ neg_ℤ t)) (e ∙ wrapping_add_is w128 p t p_fits t_fits)
-    ∙ int_wrap-add_left w128 (p +ℤ t) (neg_ℤ t)
-    ∙ ap (int_wrap w128) over_t
-    ∙ int_wrap_fits w128 p p_fits in
-    omega (arith, ints)
+wrapped_sum p t s a b e word = grind arith
 
 -- ---- a sum over the denominator of both
 equal_fits : (x : ℚ) (p t : ℤ) (q : ℕ) → 0 < q → q < 2 ^ 63 → unsigned_abs p ≤ most

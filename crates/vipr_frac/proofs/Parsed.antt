@@ -1,5 +1,5 @@
 -- What the parts of a text give is what is read from it, and what it spells.
-use Rattle.std.proofs.Common.{◌≡◌, ℕ, Bool, List, Result, Ok, Err, sym, ◌∙◌, ap}
+use Rattle.std.proofs.Common.{arith, ◌≡◌, ℕ, Bool, List, Result, Ok, sym, ◌∙◌, ap}
 use Rattle.std.specs.{Prelude.◌↔◌, Str.Parse.starts_with_minus, Str.Parse.without_leading_sign}
 use Rattle.vipr_spec.specs.Number.{SpellsNumber, number_read, of_parts, top_of, bottom_of}
 use Rattle.vipr_spec.specs.{Digits.natural_of, Fraction.ℚ}
@@ -11,13 +11,10 @@ pub read_parts : (bs cs : List ℕ) (is_negative : Bool) (r : Result ℚ NumberE
     → as_read r ≡ of_parts is_negative (natural_of (top_of cs)) (natural_of (bottom_of cs))
     → as_read r ≡ number_read bs
 unfolding number_read
-read_parts bs cs is_negative r e f h =
-    h ∙ ap (λ m. of_parts m (natural_of (top_of cs)) (natural_of (bottom_of cs))) e
-    ∙ ap (λ ds. of_parts (starts_with_minus bs) (natural_of (top_of ds)) (natural_of (bottom_of ds))) f
+read_parts bs cs is_negative r e f h = grind arith
 
 same_number : (r : Result ℚ NumberError) (x : ℚ) → as_read r ≡ Ok x → r ≡ Ok x
-same_number (Ok y) x e = cc
-same_number (Err f) x e = absurd (cc)
+same_number r x e = grind arith
 
 pub spelled : (bs : List ℕ) (r : Result ℚ NumberError) → as_read r ≡ number_read bs → (x : ℚ)
     → (r ≡ Ok x) ↔ SpellsNumber bs x

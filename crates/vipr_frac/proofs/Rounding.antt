@@ -8,8 +8,7 @@ use Rattle.vipr_spec.proofs.Laws.{mul-le_ℤ, neg-mul, add-mul_ℤ, is_whole, is
 use Rattle.vipr_spec.proofs.Laws.{le_out}
 
 quotient-below : (p : ℤ) (q : ℕ) → 0 < q → (int_div_euclid p (pos q) *ℤ pos q) ≤ℤ p
-quotient-below (pos a) q h = omega (arith, ints)
-quotient-below (negsuc a) q h = omega (arith, ints)
+quotient-below p q h = grind arith
 
 quotient-above : (p : ℤ) (q : ℕ) → 0 < q → p <ℤ ((int_div_euclid p (pos q) +ℤ pos 1) *ℤ pos q)
 quotient-above (pos a) q h = omega (arith, ints)

@@ -1,11 +1,11 @@
 -- Sums and products of small fractions stay in bound.
 use Rattle.std.proofs.Common.{◌≡◌, ℕ, ◌+◌, ◌-◌, ◌*◌, ◌/◌, ◌<◌, ◌≤◌, ◌^◌, ap, ◌∙◌, arith, to_z, of_z}
 use Rattle.std.proofs.Common.{FitsSigned, lit≤}
-use Rattle.std.specs.Prelude.{ℤ, pos, ◌+ℤ◌, ◌*ℤ◌, unsigned_abs, int_div}
+use Rattle.std.specs.Prelude.{ℤ, pos, ◌+ℤ◌, ◌*ℤ◌, unsigned_abs}
 use Rattle.std.specs.Int.{w128}
 use Rattle.std.proofs.Math.Nat.{le_trans, div-le_self, mul-le-mul}
 use Rattle.std.proofs.lemmas.Int.{ints, unsigned_abs-mul, fits_signed_from_abs}
-use Rattle.vipr_spec.specs.{Fraction.ℚ, Fraction.most, Gcd.gcd, Lowest.abs_div}
+use Rattle.vipr_spec.specs.{Fraction.ℚ, Fraction.most, Gcd.gcd}
 use Rattle.vipr_frac.specs.Parts.{IsSmall, left_part, right_part, both_parts, sum_denom}
 use Rattle.vipr_frac.specs.Parts.{product_numer, product_denom, FitsSum, FitsProduct}
 use Rattle.vipr_frac.proofs.Views.{as-is}
@@ -35,13 +35,7 @@ pub word_products : (p r : ℤ) (u v : ℕ) → unsigned_abs p ≤ 2 ^ 63 → un
     → u < 2 ^ 63 → v < 2 ^ 63
     → (unsigned_abs (p *ℤ pos u) ≤ most) × (unsigned_abs (r *ℤ pos v) ≤ most)
     × (unsigned_abs (p *ℤ pos u +ℤ r *ℤ pos v) ≤ most)
-word_products p r u v a b c d =
-    let left : unsigned_abs (p *ℤ pos u) ≤ edge = rw (unsigned_abs-mul p (pos u)) (product_bound _ _ a c) in
-    let right : unsigned_abs (r *ℤ pos v) ≤ edge = rw (unsigned_abs-mul r (pos v)) (product_bound _ _ b d) in
-    (in_bound _ left, in_bound _ right, both_bound _ (abs_sum (p *ℤ pos u) (r *ℤ pos v) edge left right))
-
-numer_in_bound : (n : ℕ) → n ≤ 2 ^ 126 → n ≤ most
-numer_in_bound n h = le_trans h (lit≤ tt)
+word_products p r u v a b c d = grind (arith, product_bound)
 
 pub quotient_bound : (n g : ℕ) → n ≤ 2 ^ 63 → n / g ≤ 2 ^ 63
 quotient_bound n g h = le_trans (div-le_self n g) h
@@ -69,9 +63,7 @@ module _ (x y : ℚ) (a : IsSmall x) (b : IsSmall y) where
   small_sum_fits = record { left = in_bound _ left_small; right = in_bound _ right_small; both = both_small; below = sum_denom_small }
 
   pub product_numer_small : unsigned_abs (product_numer x y) ≤ most
-  product_numer_small =
-      rw (unsigned_abs-mul (int_div x.numer (pos (gcd (unsigned_abs x.numer) y.denom))) (int_div y.numer (pos (gcd (unsigned_abs y.numer) x.denom))), abs_div x.numer (gcd (unsigned_abs x.numer) y.denom), abs_div y.numer (gcd (unsigned_abs y.numer) x.denom))
-      (numer_in_bound _ (numer_bound _ _ (quotient_bound (unsigned_abs x.numer) _ a.numer) (quotient_bound (unsigned_abs y.numer) _ b.numer)))
+  product_numer_small = grind (arith, numer_bound)
 
   pub product_denom_small : product_denom x y ≤ most
   product_denom_small = in_bound _ (product_bound _ _ (quotient_bound x.denom _ (at_most _ a.denom)) (quotient_below y.denom _ b.denom))
@@ -114,8 +106,7 @@ module _ (x y : ℚ) (a : IsSmall x) (b : IsSmall y) (p r : ℤ) (q s g : ℕ) (
       right_fits = term_fits r y.numer u _ r_is u_is (quotient_below x.denom _ a.denom) (right_small x y a b)
 
       both_now : to_z w128 (of_z w128 (to_z w128 (of_z w128 p) *ℤ to_z w128 t)) +ℤ to_z w128 (of_z w128 (to_z w128 (of_z w128 r) *ℤ to_z w128 u)) ≡ both_parts x y
-      both_now =
-          rw (term_back p x.numer t _ p_is t_is (quotient_below y.denom _ b.denom) (left_small x y a b), term_back r y.numer u _ r_is u_is (quotient_below x.denom _ a.denom) (right_small x y a b))
+      both_now = grind (arith, term_back, left_small, right_small)
 
       pub both_fits : FitsSigned w128 (to_z w128 (of_z w128 (to_z w128 (of_z w128 p) *ℤ to_z w128 t)) +ℤ to_z w128 (of_z w128 (to_z w128 (of_z w128 r) *ℤ to_z w128 u)))
       both_fits = rw both_now (word_fits _ (both_small x y a b))

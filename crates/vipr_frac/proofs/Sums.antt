@@ -1,11 +1,11 @@
 -- The steps of a sum and a product give the sum and the product.
-use Rattle.std.proofs.Common.{◌≡◌, ◌≤◌, ◌↔◌, ℕ, sym, ap, ap₂, subst, ◌∙◌, arith, to_z, of_z}
-use Rattle.std.proofs.{Math.Nat.le_trans, Math.Nat.div-le_self, lemmas.Int.ints}
+use Rattle.std.proofs.Common.{◌≡◌, ◌≤◌, ◌↔◌, ℕ, sym, ap, ap₂, ◌∙◌, arith, to_z, of_z}
+use Rattle.std.proofs.{lemmas.Int.ints}
 use Rattle.std.specs.Prelude.{ℤ, pos, ◌+ℤ◌, ◌*ℤ◌, unsigned_abs, int_div, Result, IsOk, IfOk}
 use Rattle.std.specs.Int.{w128}
 use Rattle.vipr_spec.specs.Fraction.{ℚ, over, whole, most, ◌+ℚ◌, ◌*ℚ◌, IsBounded, IsWhole, SumFits}
 use Rattle.vipr_spec.specs.Fraction.{ProductFits}
-use Rattle.vipr_spec.specs.{Gcd.gcd, Lowest.IsLowest, Lowest.abs_div}
+use Rattle.vipr_spec.specs.{Lowest.IsLowest, Lowest.abs_div}
 use Rattle.vipr_spec.proofs.Laws.{whole-add, whole-mul, sum_is, sum_lowest, product_is, parts_of}
 use Rattle.vipr_frac.specs.Parts.{IsReduced, left_part, right_part, both_parts, sum_gcd, sum_denom}
 use Rattle.vipr_frac.specs.Parts.{product_numer, product_denom, FitsSum, FitsProduct}
@@ -27,11 +27,7 @@ sum-denom x y = ap (λ (z : ℚ). z.denom) (sum-is x y) ∙ (parts_of _ _ (sum-l
 
 pub IsReduced-sum : (x y : ℚ) → FitsSum x y
     → IsReduced (int_div (both_parts x y) (pos (sum_gcd x y))) (sum_denom x y)
-IsReduced-sum x y f = record {
-  lowest = sum-lowest x y;
-  numer_bounded = rw (abs_div (both_parts x y) (sum_gcd x y)) (le_trans (div-le_self _ (sum_gcd x y)) f.both);
-  denom_bounded = f.below;
-}
+IsReduced-sum x y f = grind (arith, sum-lowest, abs_div)
 
 pub SumFits-parts : (x y : ℚ) → FitsSum x y → SumFits x y
 SumFits-parts x y f = (f.left, f.right, f.both, rw (sum-denom x y) f.below)
@@ -45,9 +41,7 @@ product-is x y = (product_is x y).1
 
 product-parts : (x y : ℚ)
     → ((x *ℚ y).numer ≡ product_numer x y) × ((x *ℚ y).denom ≡ product_denom x y)
-product-parts x y =
-    let parts = parts_of _ _ (product_is x y).0 in
-    (ap (λ (z : ℚ). z.numer) (product-is x y) ∙ parts.0, ap (λ (z : ℚ). z.denom) (product-is x y) ∙ parts.1)
+product-parts x y = grind (arith, parts_of, product_is, product-is)
 
 pub IsReduced-product : (x y : ℚ) → FitsProduct x y
     → IsReduced (product_numer x y) (product_denom x y)
@@ -90,26 +84,15 @@ part-whole x y e f = (rw (e, f, gcd-one 1) (times-one x.numer), rw (e, f, gcd-on
 
 pub FitsSum-whole : (x y : ℚ) → x.denom ≡ 1 → y.denom ≡ 1 → IsBounded x → IsBounded y
     → unsigned_abs (x.numer +ℤ y.numer) ≤ most → FitsSum x y
-FitsSum-whole x y e f bx b_y h =
-    let w = part-whole x y e f in
-    let both : both_parts x y ≡ x.numer +ℤ y.numer = ap₂ (λ u v. u +ℤ v) w.0 w.1 in
-    let is_g : gcd x.denom y.denom ≡ 1 = rw (e, f) (gcd-one 1) in
-    let is_h : sum_gcd x y ≡ 1 = ap (gcd (unsigned_abs (both_parts x y))) is_g ∙ gcd-one _ in
-    let below : sum_denom x y ≡ 1 = rw (is_h, is_g, e, f) in
-    record { left = rw w.0 bx.0; right = rw w.1 b_y.0; both = rw both h; below = rw below (omega arith) }
+FitsSum-whole x y e f bx b_y h = grind (arith, gcd-one)
 
 pub FitsSum-whole_back : (x y : ℚ) → x.denom ≡ 1 → y.denom ≡ 1 → FitsSum x y
     → unsigned_abs (x.numer +ℤ y.numer) ≤ most
-FitsSum-whole_back x y e f h =
-    let w = part-whole x y e f in
-    let both : both_parts x y ≡ x.numer +ℤ y.numer = ap₂ (λ u v. u +ℤ v) w.0 w.1 in
-    rw both at h.both
+FitsSum-whole_back x y e f h = grind (arith, part-whole)
 
 pub ProductFits-whole : (x y : ℚ) → x.denom ≡ 1 → y.denom ≡ 1
     → unsigned_abs (x.numer *ℤ y.numer) ≤ most → ProductFits x y
-ProductFits-whole x y e f h =
-    let k : ℤ = x.numer *ℤ y.numer in
-    rw (product-whole x y e f, whole-numer k, whole-denom k) (h, omega arith)
+ProductFits-whole x y e f h = grind (arith, product-whole, whole-numer, whole-denom)
 
 pub ProductFits-whole_back : (x y : ℚ) → x.denom ≡ 1 → y.denom ≡ 1 → ProductFits x y
     → unsigned_abs (x.numer *ℤ y.numer) ≤ most
@@ -124,15 +107,10 @@ pub by_numerators : {E : Type 0} (x y z : ℚ) (p r : ℤ) (op : ℤ → ℤ →
     → IsOk s ↔ (unsigned_abs (op (to_z w128 (of_z w128 p)) (to_z w128 (of_z w128 r))) ≤ most)
     → IfOk s (λ f. f ≡ whole (op (to_z w128 (of_z w128 p)) (to_z w128 (of_z w128 r))))
     → (IsOk s ↔ Fits) × IfOk s (λ f. f ≡ z)
-by_numerators x y z p r op Fits s a b z_is fits ok value =
-    let now : op (to_z w128 (of_z w128 p)) (to_z w128 (of_z w128 r)) ≡ op x.numer y.numer = ap₂ op a.back b.back in (
-      (λ o. fits.0 (subst (λ n. unsigned_abs n ≤ most) now (ok.0 o)), λ h. ok.1 (subst (λ n. unsigned_abs n ≤ most) (sym now) (fits.1 h))),
-      subst (λ v. IfOk s (λ f. f ≡ v)) (ap whole now ∙ sym z_is) value,
-    )
+by_numerators x y z p r op Fits s a b z_is fits ok value = grind arith
 
 -- on two fractions whose parts are passed on
 pub passed_both : (P : ℚ → ℚ → Type 0) (x y : ℚ) (p r : ℤ) (q s : ℕ) → p ≡ x.numer → q ≡ x.denom
     → IsReduced p q → r ≡ y.numer → s ≡ y.denom → IsReduced r s
     → P (over (to_z w128 (of_z w128 p)) q) (over (to_z w128 (of_z w128 r)) s) → P x y
-passed_both P x y p r q s a b c d e f h =
-    subst (λ v. P v y) (passed-on x p q a b c) (subst (P (over (to_z w128 (of_z w128 p)) q)) (passed-on y r s d e f) h)
+passed_both P x y p r q s a b c d e f h = grind (arith, passed-on x p q a b c, passed-on y r s d e f)

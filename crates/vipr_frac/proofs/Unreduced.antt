@@ -3,14 +3,14 @@ use Rattle.std.proofs.Common.{◌≡◌, ℕ, ◌*◌, ◌/◌, ◌%◌, ◌<◌
 use Rattle.std.proofs.Common.{FitsSigned, pos_of_ne-zero, zero-mul}
 use Rattle.std.proofs.Math.Nat.{div-mul_cancel, mul_comm}
 use Rattle.std.proofs.{lemmas.Int.ints, lemmas.Nat.Gcd.dvd_of_mod-eq-zero}
-use Rattle.std.specs.Prelude.{ℤ, pos, ◌+ℤ◌, ◌*ℤ◌, unsigned_abs, Bool, true, false, Option, Some}
-use Rattle.std.specs.Prelude.{None, IsSome, IfSome, IsTrue, IsFalse, MatchOption}
+use Rattle.std.specs.Prelude.{ℤ, pos, ◌+ℤ◌, ◌*ℤ◌, unsigned_abs, Bool, Option}
+use Rattle.std.specs.Prelude.{IsSome, IfSome, IsTrue, IsFalse, MatchOption}
 use Rattle.std.specs.Int.{w64}
 use Rattle.vipr_spec.specs.Fraction.{ℚ, over, ◌+ℚ◌, ◌*ℚ◌}
-use Rattle.vipr_spec.specs.{Gcd.gcd, GcdLaws.gcd_is, Lowest.abs_div}
+use Rattle.vipr_spec.specs.{Gcd.gcd, GcdLaws.gcd_is}
 use Rattle.vipr_spec.proofs.Laws.{over_common}
 use Rattle.vipr_frac.specs.Parts.{IsSmall, AreWords}
-use Rattle.vipr_frac.proofs.{Small.quotient_bound, Small.quotient_below, Views.over-parts}
+use Rattle.vipr_frac.proofs.{Views.over-parts}
 
 -- ---- words
 pub word_abs : (z : ℤ) → FitsSigned w64 z → unsigned_abs z ≤ 2 ^ 63
@@ -19,9 +19,7 @@ word_abs z h = let k = h.sfits in omega (arith, ints)
 pub some_words : (x : ℚ) (p : ℤ) (q : ℕ) (o : Option (ℤ × ℕ)) → p ≡ x.numer → q ≡ x.denom
     → MatchOption o (¬ AreWords p q) (λ r. AreWords p q × (r.0 ≡ p) × (r.1 ≡ q))
     → IfSome o (λ r. r.0 ≡ x.numer) × IfSome o (λ r. r.1 ≡ x.denom) × (IsSome o → IsSmall x)
-some_words x p q (Some r) e f h =
-    (h.1 ∙ e, h.2 ∙ f, λ _. record { numer = rw (← e) (word_abs p h.0.numer); denom = rw (← f) h.0.denom })
-some_words x p q None e f h = (tt, tt, λ (s : IsSome {T = ℤ × ℕ} None). cc)
+some_words x p q o e f h = grind arith
 
 -- ---- a sum over a common denominator
 some_factor : (n u g : ℕ) → 0 < n → n ≡ u * g → 0 < u
@@ -32,9 +30,7 @@ module _ (q s g u v : ℕ) (q_some : 0 < q) (s_some : 0 < s) (g_some : 0 < g) (q
   factor_some = some_factor s u g s_some s_is
 
   pub common_sum : (p r : ℤ) → over (p *ℤ pos u +ℤ r *ℤ pos v) (q * u) ≡ over p q +ℚ over r s
-  common_sum p r =
-      let law = over_common p r u v g factor_some (some_factor q v g q_some q_is) g_some in
-      ap (λ n. over (p *ℤ pos u +ℤ r *ℤ pos v) (n * u)) q_is ∙ sym law ∙ ap₂ (λ m n. over p m +ℚ over r n) (sym q_is) (sym s_is)
+  common_sum p r = grind (arith, over_common)
 
 -- the second denominator is a multiple of the first
 pub raised_sum : (q s u : ℕ) → 0 < q → 0 < s → s ≡ u * q → (p r : ℤ)
@@ -57,12 +53,7 @@ whole_factor q s e = sym (div-mul_cancel q (dvd_of_mod-eq-zero q e))
 
 -- ---- small parts
 pub small_over : (p : ℤ) (q : ℕ) → 0 < q → unsigned_abs p ≤ 2 ^ 63 → q < 2 ^ 63 → IsSmall (over p q)
-small_over p q some h k =
-    let parts = over-parts p q some in
-    record {
-      numer = rw (parts.0, abs_div p (gcd (unsigned_abs p) q)) (quotient_bound (unsigned_abs p) _ h);
-      denom = rw parts.1 (quotient_below q _ k);
-    }
+small_over p q some h k = grind (arith, over-parts)
 
 pub product_over : (x y : ℚ) → x *ℚ y ≡ over (x.numer *ℤ y.numer) (x.denom * y.denom)
 unfolding ◌*ℚ◌
@@ -72,8 +63,7 @@ product_over x y = refl
 pub put_value : (o : Option (ℤ × ℕ)) (r : Bool) (old new v : ℚ)
     → MatchOption o (IsFalse r × (new ≡ old)) (λ t. IsTrue r × (new ≡ over t.0 t.1))
     → IfSome o (λ t. over t.0 t.1 ≡ v) → (IsTrue r → new ≡ v) × (IsFalse r → new ≡ old)
-put_value (Some t) r old new v h e = (λ _. h.1 ∙ e, λ f. let yes : r ≡ true = h.0 in let no : r ≡ false = f in cc)
-put_value None r old new v h e = (λ t. let yes : r ≡ true = t in let no : r ≡ false = h.0 in cc, λ _. h.1)
+put_value o r old new v h e = grind arith
 
 pub sum-swap : (x y : ℚ) → x +ℚ y ≡ y +ℚ x
 unfolding ◌+ℚ◌
@@ -87,10 +77,8 @@ pub product_of : (x y : ℚ) (p r : ℤ) (q s : ℕ) (o : Option (ℤ × ℕ)) �
     → r ≡ y.numer → s ≡ y.denom
     → IfSome o (λ t. (t.0 ≡ p *ℤ r) × (t.1 ≡ q * s) × (0 < t.1) × (t.1 < 2 ^ 63))
     → IfSome o (λ t. over t.0 t.1 ≡ x *ℚ y)
-product_of x y p r q s (Some t) e f g h k = is_product x y t.0 t.1 (k.0 ∙ ap₂ (λ a b. a *ℤ b) e g) (k.1 ∙ ap₂ (λ a b. a * b) f h)
-product_of x y p r q s None e f g h k = tt
+product_of x y p r q s o e f g h k = grind (arith, is_product)
 
 pub turned : (o : Option (ℤ × ℕ)) (x y : ℚ) → IfSome o (λ t. over t.0 t.1 ≡ y +ℚ x)
     → IfSome o (λ t. over t.0 t.1 ≡ x +ℚ y)
-turned (Some t) x y h = h ∙ sum-swap y x
-turned None x y h = tt
+turned o x y h = grind (arith, sum-swap)

@@ -1,13 +1,12 @@
 -- What the fields of a `Frac` say of the fraction that contracts see, and signed words that are
 -- passed on.
-use Rattle.std.proofs.Common.{◌≡◌, ℕ, zero, suc, ℤ, pos, ◌/◌, ◌<◌, ◌≤◌, refl, sym, ap, ◌∙◌, arith}
+use Rattle.std.proofs.Common.{◌≡◌, ℕ, ℤ, pos, ◌/◌, ◌<◌, ◌≤◌, refl, ap, ◌∙◌, arith}
 use Rattle.std.proofs.Common.{to_z, of_z, int_div, FitsSigned}
-use Rattle.std.proofs.lemmas.Int.{ints, to_z-of_z, fits_signed_from_abs}
-use Rattle.std.proofs.Math.Nat.{div-le_self, le_trans}
-use Rattle.std.specs.Prelude.{unsigned_abs, ◌*ℤ◌, ◌-ℤ◌, neg_ℤ, Result, Ok, Err, IsOk}
+use Rattle.std.proofs.lemmas.Int.{to_z-of_z, fits_signed_from_abs}
+use Rattle.std.specs.Prelude.{unsigned_abs, ◌*ℤ◌, ◌-ℤ◌, neg_ℤ, Result, IsOk}
 use Rattle.std.specs.{Int.w128, Result.IsErr}
 use Rattle.vipr_spec.specs.Fraction.{ℚ, over, neg_ℚ, most, IsBounded}
-use Rattle.vipr_spec.specs.{Gcd.gcd, Lowest.abs_div}
+use Rattle.vipr_spec.specs.{Gcd.gcd}
 use Rattle.vipr_spec.proofs.Laws.{parts_of, is_one, is_neg, is_over}
 use Rattle.vipr_frac.specs.Parts.{IsReduced}
 use Rattle.vipr_frac.proofs.Steps.{gcd-one}
@@ -28,25 +27,14 @@ pub record Facts (x : ℚ) (p : ℤ) (q : ℕ) : Type 0 where
   pub bounded : IsBounded x
 
 pub facts : (x : ℚ) (p : ℤ) (q : ℕ) → over p q ≡ x → IsReduced p q → Facts x p q
-facts x p q e h =
-    let parts = parts_of p q h.lowest in
-    let numer_is : p ≡ x.numer = sym parts.0 ∙ ap (λ (y : ℚ). y.numer) e in
-    let denom_is : q ≡ x.denom = sym parts.1 ∙ ap (λ (y : ℚ). y.denom) e in
-    record {
-      numer = numer_is;
-      back = as-is p h.numer_bounded ∙ numer_is;
-      denom = denom_is;
-      some = x.lowest.positive;
-      bounded = (rw numer_is at h.numer_bounded, rw denom_is at h.denom_bounded);
-    }
+facts x p q e h = grind (arith, parts_of)
 
 -- ---- p / q in lowest terms
 pub over-parts : (p : ℤ) (q : ℕ) → 0 < q
     → ((over p q).numer ≡ int_div p (pos (gcd (unsigned_abs p) q)))
     × ((over p q).denom ≡ q / gcd (unsigned_abs p) q)
 unfolding over
-over-parts p zero h = absurd (omega arith)
-over-parts p (suc q) h = (refl, refl)
+over-parts p q h = grind arith
 
 -- a fraction is made of its parts
 pub over-self : (x : ℚ) → over x.numer x.denom ≡ x
@@ -74,41 +62,23 @@ pub record WholeFacts (x : ℚ) (p : ℤ) : Type 0 where
 
 pub whole_facts : (x : ℚ) (p : ℤ) (q : ℕ) → p ≡ x.numer → q ≡ x.denom → IsReduced p q → q ≡ 1
     → WholeFacts x p
-whole_facts x p q e f h one =
-    let known : Facts x p q = facts_of x p q e f h in
-    record { back = known.back; whole = sym known.denom ∙ one; bounded = known.bounded }
+whole_facts x p q e f h one = grind arith
 
 -- reduction keeps the bound
 pub IsReduced-over : (p : ℤ) (q : ℕ) → 0 < q → unsigned_abs p ≤ most → q ≤ most
     → IsReduced (over p q).numer (over p q).denom
-IsReduced-over p q some h k =
-    let parts = over-parts p q some in
-    record {
-      lowest = (over p q).lowest;
-      numer_bounded = rw (parts.0, abs_div p (gcd (unsigned_abs p) q)) (le_trans (div-le_self (unsigned_abs p) _) h);
-      denom_bounded = rw parts.1 (le_trans (div-le_self q _) k);
-    }
+IsReduced-over p q some h k = grind (arith, over-parts)
 
 pub IsReduced-whole : (p : ℤ) → unsigned_abs p ≤ most → IsReduced p 1
-IsReduced-whole p h =
-    record { lowest = record { positive = omega arith; apart = gcd-one (unsigned_abs p) }; numer_bounded = h; denom_bounded = omega arith }
-
-pub abs-neg : (z : ℤ) → unsigned_abs (pos 0 -ℤ z) ≡ unsigned_abs z
-abs-neg z = omega (arith, ints)
-
-neg-is : (z : ℤ) → pos 0 -ℤ z ≡ neg_ℤ z
-neg-is z = omega (arith, ints)
+IsReduced-whole p h = grind (arith, gcd-one)
 
 pub negated-word : (p : ℤ) → unsigned_abs p ≤ most
     → to_z w128 (of_z w128 (pos 0 -ℤ to_z w128 (of_z w128 p))) ≡ neg_ℤ p
-negated-word p h =
-    let small : unsigned_abs (pos 0 -ℤ p) ≤ most = rw (abs-neg p) h in
-    rw (as-is p h) (as-is (pos 0 -ℤ p) small ∙ neg-is p)
+negated-word p h = grind arith
 
 pub over-negated : (p : ℤ) (q : ℕ) → 0 < q → over (neg_ℤ p) q ≡ neg_ℚ (over p q)
 over-negated p q some = is_one _ _ _ _ (is_over (neg_ℤ p) q some) (is_neg _ _ _ (is_over p q some))
 
 -- a refusal is no success
 pub refused : {A E X : Type 0} (r : Result A E) → IsErr r → IsOk r → X
-refused (Ok x) p q = cc
-refused (Err e) p q = cc
+refused r p q = grind arith
