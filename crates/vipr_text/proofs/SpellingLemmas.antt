@@ -1,6 +1,6 @@
 -- A certificate's text, made while the certificate is read
-use Rattle.std.proofs.Common.{◌≡◌, ◌≢◌, ◌⊎◌, ◌↔◌, Bool, true, false, None, Some, IsErrOf, ℕ, zero}
-use Rattle.std.proofs.Common.{suc, ◌+◌, ◌<◌, List, [], ◌∷◌, ◌++◌, length, map, codes, Option}
+use Rattle.std.proofs.Common.{rules, ◌≡◌, ◌≢◌, ◌⊎◌, ◌↔◌, Bool, true, false, None, Some, IsErrOf, ℕ}
+use Rattle.std.proofs.Common.{zero, suc, ◌+◌, ◌<◌, List, [], ◌∷◌, ◌++◌, length, map, codes, Option}
 use Rattle.std.proofs.Common.{Result, Ok, Err, IsSome, inl, inr, refl, sym, ap, subst, ◌∙◌}
 use Rattle.std.proofs.Common.{append_assoc, arith}
 use Rattle.std.proofs.lemmas.List.{append-nil, length-append, map_push}
@@ -24,10 +24,7 @@ use Rattle.vipr_text.specs.Spelling.{with_count}
 -- a fault is that of what goes on after it
 pub fails_first : {X Y : Type 0} (e : TextError) (r : Result X Fault) (f : X → Result Y Fault)
     → Fails e r → Fails e (r >>= f)
-fails_first (error.Refused c o) r f h = rw h refl
-fails_first error.Read r f h = rw h refl
-fails_first error.Memory r f h = tt
-fails_first error.Spent r f h = absurd h
+fails_first e r f h = grind arith
 
 -- the error is none of a reader that failed before
 pub unspent : {X : Type 0} (r : Result X TextError) (e : TextError) (failed : Bool) → r ≡ Err e
@@ -39,29 +36,16 @@ unspent {X} r e failed is spent working = λ s. let bad : failed ≡ true = spen
 
 -- what a reader knew it still knows
 pub still_knows : (p : Problem) (old new : Items) → Knows old p → Remembers old new → Knows new p
-still_knows p old new k r = record {
-  variables = r.variables ∙ k.variables;
-  constraints = r.constraints ∙ k.constraints;
-  objective = r.objective ∙ k.objective;
-}
+still_knows p old new k r = grind arith
 
 -- ---- items one by one
 
 module _ {Y : Type 0} (item : Rest → Read Y) (words : Y → List (List ℕ)) where
   begins : (read : Read (List Y)) → with_front [] read ≡ read
-  begins (Ok xs) = refl
-  begins (Err e) = refl
+  begins read = grind arith
 
   pub none_yet : (r : Items) (text : Begun) → r.failed ≡ false → HasAppended item words r r text text
-  none_yet r text working = record {
-    items = [];
-    counted = omega arith;
-    lines = ap (λ bs. let b : Begun = record text { bytes = bs } in b) (sym (append-nil text.bytes));
-    remembers = record { variables = refl; constraints = refl; objective = refl };
-    working = working;
-    known = λ k. k;
-    read = λ _. begins (read_each item r.left (rest_of r.rest));
-  }
+  none_yet r text working = search rules
 
   regroup : (front : List Y) (x : Y) (read : Read (List Y)) → with_front front (read >>= λ xs. Ok (x ∷ xs.0, xs.1)) ≡ with_front (front ++ x ∷ []) read
   regroup front x (Ok xs) = ap (λ (ys : List Y). Ok (ys, xs.1)) (simp append_assoc)
@@ -80,19 +64,7 @@ module _ {Y : Type 0} (item : Rest → Read Y) (words : Y → List (List ℕ)) w
   -- one more item was read, and its line appended
   pub one_more : (old mid new : Items) (before text after : Begun) (y : Y) → HasAppended item words old mid before text → mid.left ≡ suc new.left → Remembers mid new → new.failed ≡ false
       → (IsSome mid.rest → (item (rest_of mid.rest) ≡ Ok (y, rest_of new.rest)) × IsSome new.rest) → after ≡ with_more_bytes text (line_text (words y)) → HasAppended item words old new before after
-  one_more old mid new before text after y h counted remembers working read more = record {
-    items = h.items ++ y ∷ [];
-    counted = omega (arith, length-append h.items (y ∷ []), h.counted, counted);
-    lines = more_lines before text after h.items y h.lines more;
-    remembers = record {
-      variables = remembers.variables ∙ h.remembers.variables;
-      constraints = remembers.constraints ∙ h.remembers.constraints;
-      objective = remembers.objective ∙ h.remembers.objective;
-    };
-    working = working;
-    known = λ k. (read (h.known k)).1;
-    read = λ k. goes_on h.items new.left (rest_of mid.rest) (rest_of new.rest) y (read (h.known k)).0 ∙ ap (λ n. with_front h.items (read_each item n (rest_of mid.rest))) (sym counted) ∙ h.read k;
-  }
+  one_more old mid new before text after y h counted remembers working read more = grind (arith, length-append h.items (y ∷ []), more_lines before text after h.items y h.lines more, goes_on)
 
   -- the next item has a fault, or the ending has
   fails_item : (ending : Rest → Result (Unit {0}) Fault) (e : TextError) (front : List Y) (k : ℕ) (l : Rest) → Fails e (item l) → Fails e (with_front front (read_each item (suc k) l) >>= λ x. ending x.1)
@@ -112,8 +84,7 @@ module _ {Y : Type 0} (item : Rest → Read Y) (words : Y → List (List ℕ)) w
   pub stops : (ending : Rest → Result (Unit {0}) Fault) (e : TextError) (old mid : Items) (before text : Begun) → HasAppended item words old mid before text
       → (IsSome mid.rest → ((mid.left ≡ 0) × Fails e (ending (rest_of mid.rest))) ⊎ ((0 < mid.left) × Fails e (item (rest_of mid.rest))))
       → IsSome old.rest → Fails e (read_each item old.left (rest_of old.rest) >>= λ x. ending x.1)
-  stops ending e old mid before text h fault known =
-      subst (λ r. Fails e (r >>= λ x. ending x.1)) (h.read known) (fails_at ending e h.items mid.left (rest_of mid.rest) (fault (h.known known)))
+  stops ending e old mid before text h fault known = grind (arith, fails_at)
 
   all_read : (front : List Y) (n : ℕ) (l : Rest) → n ≡ 0 → with_front front (read_each item n l) ≡ Ok (front, l)
   unfolding read_each
@@ -125,19 +96,7 @@ module _ {Y : Type 0} (item : Rest → Read Y) (words : Y → List (List ℕ)) w
 
   -- the end of the text was found
   pub at_end : (old mid new : Items) (before text : Begun) → HasAppended item words old mid before text → HasEnded mid new → HasAppended item words old new before text
-  at_end old mid new before text h e = record {
-    items = h.items;
-    counted = ap (λ n. length h.items + n) e.kept ∙ h.counted;
-    lines = h.lines;
-    remembers = record {
-      variables = e.remembers.variables ∙ h.remembers.variables;
-      constraints = e.remembers.constraints ∙ h.remembers.constraints;
-      objective = e.remembers.objective ∙ h.remembers.objective;
-    };
-    working = e.working;
-    known = λ k. subst (λ (r : Items). IsSome r.rest) (sym (e.same (h.known k))) (h.known k);
-    read = λ k. subst (λ (r : Items). with_front h.items (read_each item r.left (rest_of r.rest)) ≡ read_each item old.left (rest_of old.rest)) (sym (e.same (h.known k))) (h.read k);
-  }
+  at_end old mid new before text h e = grind arith
 
 -- ---- the parts of a certificate, one after the other
 
@@ -153,21 +112,12 @@ no_ending l = Ok tt
 -- where nothing can be wrong behind the items, the fault is one of theirs
 of_items : {Y Z : Type 0} (e : TextError) (r : Read Y) (f : Y × Rest → Result Z Fault)
     → Fails e (r >>= λ x. no_ending x.1) → Fails e (r >>= f)
-of_items (error.Refused c o) (Err x) f h = cc
-of_items error.Read (Err x) f h = cc
-of_items (error.Refused c o) (Ok x) f h = absurd (cc)
-of_items error.Read (Ok x) f h = absurd (cc)
-of_items error.Memory r f h = tt
-of_items error.Spent r f h = absurd h
+of_items e r f h = grind arith
 
 of_ending : {Y Z : Type 0} (e : TextError) (r : Read Y) (ending : Rest → Result (Unit {0}) Fault)
     (f : Y × Rest → Unit {0} → Result Z Fault) → Fails e (r >>= λ x. ending x.1)
     → Fails e (r >>= λ x. ending x.1 >>= f x)
-of_ending e (Ok x) ending f h = fails_first e (ending x.1) (f x) h
-of_ending (error.Refused c o) (Err x) ending f h = cc
-of_ending error.Read (Err x) ending f h = cc
-of_ending error.Memory (Err x) ending f h = tt
-of_ending error.Spent (Err x) ending f h = absurd h
+of_ending e r ending f h = grind arith
 
 module _ (l l1 : Rest) (p : Problem) (n : ℕ) (problem : problem_read l ≡ Ok ((p, n), l1)) where
   pub solutions_fail : (e : TextError) → Fails e (read_each (solution_read p) n l1 >>= λ x. no_ending x.1) → Fails e (certificate_read l)
@@ -196,9 +146,7 @@ one_by_one a b c d e = simp append_assoc
 in_sections : (ls ms ns : List (List (List ℕ))) (h k : List (List ℕ)) →
     (((lines_text ls ++ line_text h) ++ lines_text ms) ++ line_text k)
     ++ lines_text ns ≡ lines_text (ls ++ ((h ∷ ms) ++ (k ∷ ns)))
-in_sections ls ms ns h k =
-    one_by_one (lines_text ls) (line_text h) (lines_text ms) (line_text k) (lines_text ns)
-    ∙ sym (flat_map-append line_text ls ((h ∷ ms) ++ (k ∷ ns)) ∙ ap (λ t. lines_text ls ++ t) (flat_map-append line_text (h ∷ ms) (k ∷ ns)))
+in_sections ls ms ns h k = search (rules, one_by_one, flat_map-append)
 
 -- the lines that were appended are those of the certificate
 pub appended_text : (F : Form) (p : Problem) (ss : List (Named Row)) (ds : List Derivation) →
@@ -217,13 +165,7 @@ all_bytes : (F : Form) (p : Problem) (ss : List (Named Row)) (ds : List Derivati
     → t3 ≡ t2 ++ line_text (heading (codes "DER") m)
     → t4 ≡ t3 ++ lines_text (map (derivation_words_in F p.objective) ds)
     → t4 ≡ text_in F (record { problem = p; solutions = ss; derivations = ds })
-all_bytes F p ss ds n m left over t1 t2 t3 t4 some no_more steps none e1 e2 e3 e4 =
-    let listed : n ≡ length ss = omega (arith, some, no_more) in
-    let derived : m ≡ length ds = omega (arith, steps, none) in
-    let first = e1 ∙ ap (λ k. lines_text (problem_lines_in F p) ++ line_text (heading (codes "SOL") k)) listed in
-    let second = e2 ∙ ap (λ t. t ++ lines_text (map solution_words ss)) first in
-    let third = e3 ∙ ap (λ k. t2 ++ line_text (heading (codes "DER") k)) derived ∙ ap (λ t. t ++ line_text (heading (codes "DER") (length ds))) second in
-    e4 ∙ ap (λ t. t ++ lines_text (map (derivation_words_in F p.objective) ds)) third ∙ appended_text F p ss ds
+all_bytes F p ss ds n m left over t1 t2 t3 t4 some no_more steps none e1 e2 e3 e4 = grind (arith, appended_text F p ss ds)
 
 pub all_lines : (F : Form) (p : Problem) (ss : List (Named Row)) (ds : List Derivation)
     (n m left over : ℕ) (t1 t2 t3 t4 : Begun) → length ss + left ≡ n → left ≡ 0
@@ -240,8 +182,7 @@ pub all_lines : (F : Form) (p : Problem) (ss : List (Named Row)) (ds : List Deri
 all_lines F p ss ds n m left over t1 t2 t3 t4 some no_more steps none e1 e2 e3 e4 =
     let form : t3.form ≡ F = ap (λ (b : Begun). b.form) e3 ∙ ap (λ (b : Begun). b.form) e2 ∙ ap (λ (b : Begun). b.form) e1 in
     let objective : t3.objective ≡ p.objective = ap (λ (b : Begun). b.objective) e3 ∙ ap (λ (b : Begun). b.objective) e2 ∙ ap (λ (b : Begun). b.objective) e1 in
-    let last : t4.bytes ≡ t3.bytes ++ lines_text (map (derivation_words_in F p.objective) ds) =
-    ap (λ (b : Begun). b.bytes) e4 ∙ ap (λ f. t3.bytes ++ lines_text (map (derivation_words_in f t3.objective) ds)) form ∙ ap (λ o. t3.bytes ++ lines_text (map (derivation_words_in F o) ds)) objective in
+    let last : t4.bytes ≡ t3.bytes ++ lines_text (map (derivation_words_in F p.objective) ds) = grind arith in
     all_bytes F p ss ds n m left over t1.bytes t2.bytes t3.bytes t4.bytes some no_more steps none (ap (λ (b : Begun). b.bytes) e1) (ap (λ (b : Begun). b.bytes) e2) (ap (λ (b : Begun). b.bytes) e3) last
 
 -- where the problem and the solutions were read, what is answered of the derivations is answered of
