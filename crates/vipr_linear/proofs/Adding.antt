@@ -93,12 +93,7 @@ module _ (sums : List ℚ) (m : ℚ) (p : ℕ × ℚ) (es : List (ℕ × ℚ)) (
       by (inr d) = subst₂ (λ s c. TermFits s m c) (changed_elsewhere sums m p j d) (sym (coefficient_later p es j d)) (h.1 j (λ z. n (coefficient_later p es j d ∙ z)))
 
   parts_fit : p.1 ≢ zero_ℚ → FitAll sums m (p ∷ es) → TermFits (get_or sums p.0 zero_ℚ) m p.1 × FitAll (with_term sums m p) m es
-  parts_fit some h = (
-    subst (TermFits (get_or sums p.0 zero_ℚ) m) (coefficient_here p es p.0 refl) (h p.0 (λ z. some (sym (coefficient_here p es p.0 refl) ∙ z))),
-    λ j n.
-        let apart : j ≢ p.0 = λ e. n (ap (coefficient es) e ∙ none_here) in
-        subst₂ (λ s c. TermFits s m c) (sym (changed_elsewhere sums m p j apart)) (coefficient_later p es j apart) (h j (λ z. n (sym (coefficient_later p es j apart) ∙ z))),
-  )
+  parts_fit some h = grind (arith, coefficient_here, none_here, changed_elsewhere, coefficient_later)
 
 pub fits_at : (low : ℕ) (sums : List ℚ) (m : ℚ) (es : List (ℕ × ℚ)) → RisesFrom low es
     → TermsFitIn sums m es ↔ FitAll sums m es
@@ -150,8 +145,7 @@ module _ (row : Row) where
           first (inr past) = absurd (r.1 (sym (coefficient_here p es p.0 refl) ∙ none p.0 past))
 
           later : (j : ℕ) → n ≤ j → (j ≡ p.0) ⊎ (j ≢ p.0) → coefficient es j ≡ zero_ℚ
-          later j l (inl e) = coefficient_below (p.0 + 1) es j (omega arith) r.2
-          later j l (inr d) = sym (coefficient_later p es j d) ∙ none j l
+          later j l h = grind arith
 
   pub row_each : (P : ℕ → ℚ → Type 0) → RisesFrom 0 (entries row) → All (λ e. P e.0 e.1) (entries row) ↔ ((j : ℕ) → at row j ≢ zero_ℚ → P j (at row j))
   row_each P r =

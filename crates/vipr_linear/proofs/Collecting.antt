@@ -84,16 +84,13 @@ pub touched_sorted : (marks : List Bool) (xs ys : List ℕ) (m n : ℕ) → IsPe
 touched_sorted marks xs ys m n p e k = record { room = (let r = k.room in omega (arith, e, r)); touching = touching_sorted marks xs ys p k.touching }
 
 pub on_ok : {A E : Type 0} (r : Result A E) (P : Type 0) → P → OnOk r P
-on_ok (Ok x) P p = p
-on_ok (Err e) P p = tt
+on_ok r P p = grind arith
 
 pub on_ok_then : {A E : Type 0} (r : Result A E) (P Q : Type 0) → (P → Q) → OnOk r P → OnOk r Q
-on_ok_then (Ok x) P Q f p = f p
-on_ok_then (Err e) P Q f p = tt
+on_ok_then r P Q f p = grind arith
 
 pub on_err_then : {A E : Type 0} (r : Result A E) (P Q : Type 0) → (P → Q) → OnErr r P → OnErr r Q
-on_err_then (Ok x) P Q f p = tt
-on_err_then (Err e) P Q f p = f p
+on_err_then r P Q f p = grind arith
 
 pub both_ok : {A E : Type 0} (r : Result A E) (P Q R : A → Type 0) → ((v : A) → P v → Q v → R v)
     → IfOk r P → IfOk r Q → IfOk r R

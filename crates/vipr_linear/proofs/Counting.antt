@@ -3,7 +3,7 @@
 use Rattle.std.proofs.Common.{◌≡◌, ◌≢◌, ℕ, ◌+◌, ◌<◌, ◌≤◌, take, List, [], ◌∷◌, ◌++◌, length, get_or}
 use Rattle.std.proofs.Common.{arith, refl, sym, ◌∙◌, ap, subst, map, filter, false, true, Bool}
 use Rattle.std.proofs.Common.{nat_eq, not, pos, All, Option, Some, None, unwrap_or, is_some, IsSome}
-use Rattle.std.proofs.Common.{◌⊎◌, inl, inr, ◌||◌}
+use Rattle.std.proofs.Common.{◌⊎◌, inl, inr}
 use Rattle.std.proofs.lemmas.List.{length_push, length-map, get_or_default}
 use Rattle.std.proofs.lemmas.Map.Keys.{IsDistinct-push, IsDistinct-cons}
 use Rattle.std.proofs.lemmas.Map.Steps.{length-le_from_keys}
@@ -17,16 +17,10 @@ use Rattle.vipr_spec.specs.{Fraction.ℚ, Fraction.zero_ℚ, Reading.is_nonzero}
 use Rattle.vipr_spec.proofs.Laws.{zero_numer, zero_or_not}
 use Rattle.vipr_linear.specs.Row.{RisesFrom, variables_of}
 use Rattle.vipr_linear.specs.Touched.{Touching, Covers, CoversNonzero}
-use Rattle.vipr_linear.proofs.Rows.{nonzero_test, find_lookup, contains_unfiltered, exact}
-use Rattle.vipr_linear.proofs.Rows.{nothing_distinct}
-use Rattle.vipr_linear.proofs.Adding.{coefficient, coefficient_here, coefficient_later}
-use Rattle.vipr_linear.proofs.Adding.{coefficient_at, entries_each}
-use Rattle.vipr_linear.proofs.Collecting.{picked_distinct, found}
-use Rattle.vipr_linear.proofs.Marks.{pick, kept, left_out, other, or_false}
-
-is_false : (b : Bool) → not b ≡ true → b ≡ false
-is_false false e = refl
-is_false true e = sym e
+use Rattle.vipr_linear.proofs.Adding.{coefficient, coefficient_at, entries_each}
+use Rattle.vipr_linear.proofs.{Collecting.picked_distinct, Collecting.found, Marks.pick, Marks.kept}
+use Rattle.vipr_linear.proofs.{Marks.left_out, Marks.other, Rows.nonzero_test, Rows.find_lookup}
+use Rattle.vipr_linear.proofs.{Rows.contains_unfiltered, Rows.exact, Rows.nothing_distinct}
 
 no_numer : (x : ℚ) → x ≡ zero_ℚ → int_eq x.numer (pos 0) ≡ true
 no_numer x z = ap (λ (y : ℚ). int_eq y.numer (pos 0)) z ∙ ap (λ n. int_eq n (pos 0)) zero_numer
@@ -36,10 +30,7 @@ module _ (sums : List ℚ) (places : List ℕ) (i : ℕ) (x : ℚ) (l : i < leng
   so_far = filter is_nonzero (take i (map (pick sums) places))
 
   pub counted : x ≢ zero_ℚ → length (filter is_nonzero (take (i + 1) (map (pick sums) places))) ≡ length (filter is_nonzero (take i (map (pick sums) places))) + 1
-  counted n =
-      let e = ap length (kept sums places i x l w r so_far refl (is_false _ (nonzero_test x n))) in
-      let m = length_push so_far (get_or places i 0, x) in
-      omega (arith, e, m)
+  counted n = grind (arith, kept sums places i x l w r so_far, nonzero_test x n, length_push so_far (get_or places i 0, x))
 
   pub passed : x ≡ zero_ℚ → length (filter is_nonzero (take (i + 1) (map (pick sums) places))) ≡ length (filter is_nonzero (take i (map (pick sums) places)))
   passed z = sym (ap length (left_out sums places i x l w r so_far refl (no_numer x z)))
@@ -57,8 +48,7 @@ named_more : (p : ℕ × ℚ) (es : List (ℕ × ℚ)) → p.1 ≢ zero_ℚ → 
     → (list_any (nat_eq j) (variables_of es) ≡ true → coefficient es j ≢ zero_ℚ)
     → list_any (nat_eq j) (variables_of (p ∷ es)) ≡ true → (j ≡ p.0) ⊎ (j ≢ p.0)
     → coefficient (p ∷ es) j ≢ zero_ℚ
-named_more p es some j rest t (inl e) z = some (sym (coefficient_here p es j e) ∙ z)
-named_more p es some j rest t (inr n) z = rest (ap (λ b. b || list_any (nat_eq j) (variables_of es)) (sym (other j p.0 n)) ∙ t) (sym (coefficient_later p es j n) ∙ z)
+named_more p es some j rest t h z = grind arith
 
 -- a variable of a row has a coefficient that is not 0
 named_nonzero : (low : ℕ) (es : List (ℕ × ℚ)) → RisesFrom low es → (j : ℕ)
@@ -80,10 +70,7 @@ distinct_variables low (p ∷ es) r = IsDistinct-cons nat_eq p.0 (variables_of e
 
 any_one_more : (q j : ℕ) (xs : List ℕ) → list_any (nat_eq q) (xs ++ j ∷ []) ≡ true
     → (q ≡ j) ⊎ (list_any (nat_eq q) xs ≡ true)
-any_one_more q j xs t = elim (cases_eq q j) [
-  | inl e ↦ inl e
-  | inr n ↦ inr (sym (list_any-append (nat_eq q) xs (j ∷ []) ∙ ap (λ b. list_any (nat_eq q) xs || (b || false)) (other q j n) ∙ or_false _) ∙ t)
-]
+any_one_more q j xs t = grind (arith, list_any-append)
 
 module _ (sums : List ℚ) (marks : List Bool) (xs : List ℕ) (t : Touching marks xs) (c : Covers sums marks) where
   abbrev these : List (ℕ × ℚ)

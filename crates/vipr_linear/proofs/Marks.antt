@@ -2,7 +2,7 @@
 use Rattle.std.proofs.Common.{◌≡◌, ◌≢◌, ℕ, suc, ◌+◌, ◌<◌, ◌≤◌, take, drop, Bool, true, false, cond}
 use Rattle.std.proofs.Common.{nat_eq, List, [], ◌∷◌, ◌++◌, length, get_or, arith, refl, sym, ◌∙◌}
 use Rattle.std.proofs.Common.{ap, subst, ◌||◌, inl, inr, ◌⊎◌, drop-cons, add-one, ap₂, map, filter}
-use Rattle.std.proofs.Common.{not, pos, replicate, Result, Ok, Err, IsOk, IsErr}
+use Rattle.std.proofs.Common.{not, pos, replicate, Result, IsOk, IsErr}
 use Rattle.std.proofs.lemmas.List.{get_or-set_same, get_or-set_other, get_or_past, get_or_default}
 use Rattle.std.proofs.lemmas.List.{get_or-map, get_or-replicate, length_push, length-set}
 use Rattle.std.proofs.lemmas.List.{length-map, length-replicate, drop_all, append-nil, same_lists}
@@ -32,12 +32,10 @@ pub other : (j v : ℕ) → j ≢ v → nat_eq j v ≡ false
 other j v n = grind (arith, nat_tests)
 
 or_true : (a : Bool) → (a || (true || false)) ≡ true
-or_true true = refl
-or_true false = refl
+or_true a = grind arith
 
 pub or_false : (a : Bool) → (a || (false || false)) ≡ a
-or_false true = refl
-or_false false = refl
+or_false a = grind arith
 
 -- ---- one more place in a list
 pub unmarked_more : (list : List ℕ) (v j : ℕ) → j ≢ v → list_any (nat_eq j) list ≡ list_any (nat_eq j) (list ++ v ∷ [])
@@ -137,8 +135,7 @@ covered_set sums marks v x l k = record {
 
 -- an error is no success
 pub not_both : {A E : Type 0} (r : Result A E) → IsErr r → IsOk r → ⊥
-not_both (Ok x) e o = absurd (cc)
-not_both (Err x) e o = absurd (cc)
+not_both r e o = grind arith
 
 -- after the last term
 pub all_fit : (sums : List ℚ) (m : ℚ) (es : List (ℕ × ℚ)) (i : ℕ) → length es ≤ i

@@ -1,12 +1,12 @@
 -- A solution laid out over places, and its coordinates that aren't whole
 use Rattle.std.proofs.Common.{◌≡◌, ◌≢◌, ℕ, zero, suc, ◌+◌, ◌<◌, ◌≤◌, replicate, drop, List, [], ◌∷◌}
-use Rattle.std.proofs.Common.{length, get_or, pos, arith, refl, sym, ◌∙◌, ap, ap₂, subst, subst₂}
+use Rattle.std.proofs.Common.{length, get_or, pos, arith, refl, sym, ◌∙◌, ap, ap₂, subst}
 use Rattle.std.proofs.Common.{◌⊎◌, inl, inr}
 use Rattle.std.specs.{FinMap.entries, Prelude.◌↔◌, Prelude.slice_set}
 use Rattle.std.proofs.lemmas.Bool.{cases_eq, cases_lt}
 use Rattle.std.proofs.lemmas.List.{get_or-set_same, get_or-set_other, get_or-replicate, get_or_past}
 use Rattle.std.proofs.lemmas.List.{length-set, length-replicate, set_past, drop_all}
-use Rattle.vipr_spec.specs.Fraction.{ℚ, zero_ℚ, ◌+ℚ◌, ◌*ℚ◌, IsWhole, ProductFits, SumFits}
+use Rattle.vipr_spec.specs.Fraction.{ℚ, zero_ℚ, ◌+ℚ◌, ◌*ℚ◌, IsWhole}
 use Rattle.vipr_spec.specs.Constraint.{Row, Point, at, value, ValueFits, Ints, IsInteger}
 use Rattle.vipr_linear.specs.Row.{RisesFrom}
 use Rattle.vipr_linear.specs.Values.{with_set, point_of, IsLaidOut, AreWhole, IsFirstFractional}
@@ -38,9 +38,7 @@ set_below : (low : ℕ) (xs : List ℚ) (es : List (ℕ × ℚ)) (j : ℕ) → R
     → get_or (with_set xs es) j zero_ℚ ≡ get_or xs j zero_ℚ
 unfolding with_set
 set_below low xs [] j r l = refl
-set_below low xs (p ∷ ps) j r l =
-    let k : low ≤ p.0 = r.0 in
-    set_below (p.0 + 1) (slice_set xs p.0 p.1) ps j r.2 (omega (arith, k, l)) ∙ get_or-set_other xs p.0 j p.1 zero_ℚ (λ e. absurd (omega (arith, k, l, e)))
+set_below low xs (p ∷ ps) j r l = grind (arith, set_below (p.0 + 1) (slice_set xs p.0 p.1) ps j r.2 (omega (arith, r.0, l)), get_or-set_other)
 
 -- over places that are 0, each has its coefficient
 set_at : (low : ℕ) (xs : List ℚ) (es : List (ℕ × ℚ)) (j : ℕ) → RisesFrom low es → low ≤ j
@@ -63,24 +61,9 @@ set_at low xs (p ∷ ps) j r a l none =
     by (inr past) (inr n) further =
         let later : p.0 + 1 ≤ j = omega (arith, past, n) in further later ∙ sym (coefficient_later p ps j n)
 
-zeros_at : (n j : ℕ) → get_or (replicate n zero_ℚ) j zero_ℚ ≡ zero_ℚ
-zeros_at n j = elim (cases_lt j n) [
-  | inl l ↦ get_or-replicate n j zero_ℚ zero_ℚ l
-  | inr past ↦ get_or_past (replicate n zero_ℚ) j zero_ℚ (let e = length-replicate n zero_ℚ in omega (arith, e, past))
-]
-
 pub laid_out : (n : ℕ) (row : Row) (es : List (ℕ × ℚ)) (old xs : List ℚ) → es ≡ entries row
     → RisesFrom 0 es → old ≡ replicate n zero_ℚ → xs ≡ with_set old es → IsLaidOut n (at row) xs
-laid_out n row es old xs list rising start set =
-    let same : xs ≡ with_set (replicate n zero_ℚ) (entries row) = set ∙ ap (λ o. with_set o es) start ∙ ap (with_set (replicate n zero_ℚ)) list in
-    let rising' : RisesFrom 0 (entries row) = subst (RisesFrom 0) list rising in
-    record {
-      places = ap length same ∙ length-with_set (replicate n zero_ℚ) (entries row) ∙ length-replicate n zero_ℚ;
-      coordinates = λ j l.
-          ap (λ ys. get_or ys j zero_ℚ) same
-          ∙ set_at 0 (replicate n zero_ℚ) (entries row) j rising' (omega arith) (let e = length-replicate n zero_ℚ in omega (arith, e, l)) (λ k a. zeros_at n k)
-          ∙ coefficient_at row rising' j;
-    }
+laid_out n row es old xs list rising start set = grind (arith, length-with_set, length-replicate, set_at, coefficient_at, get_or-replicate, get_or_past)
 
 -- ---- coordinates that aren't whole
 whole_zero : IsWhole zero_ℚ
@@ -103,10 +86,7 @@ module _ (integers : Ints) (row : Row) (es : List (ℕ × ℚ)) (r : RisesFrom 0
   all_left j integer = inr (sym (is_listed j))
 
   pub none_left_whole : (i : ℕ) → length es ≤ i → WholeOrLeft integers row (drop i es) → AreWhole integers row
-  none_left_whole i past h j integer = elim (h j integer) [
-    | inl w ↦ w
-    | inr e ↦ subst IsWhole (sym (e ∙ ap (λ xs. coefficient xs j) (drop_all i es past))) whole_zero
-  ]
+  none_left_whole i past h j integer = grind (arith, drop_all)
 
   module _ (i : ℕ) (p : ℕ × ℚ) (l : i < length es) (e : p ≡ get_or es i p) (h : WholeOrLeft integers row (drop i es)) where
     rest : drop i es ≡ p ∷ drop (i + 1) es
@@ -147,8 +127,7 @@ point_value (suc n) row x y same = ap₂ (λ v c. v +ℚ row n *ℚ c) (point_va
 
 point_fits : (n : ℕ) (row x y : ℕ → ℚ) → ((j : ℕ) → j < n → x j ≡ y j) → ValueFits n row x
     → ValueFits n row y
-point_fits n row x y same h j l =
-    subst₂ (λ v c. ProductFits (row j) c × SumFits v (row j *ℚ c)) (point_value j row x y (λ i k. same i (omega arith))) (same j l) (h j l)
+point_fits n row x y same h j l = grind (arith, point_value)
 
 module _ (n : ℕ) (x : Point) (xs : List ℚ) (laid : IsLaidOut n x xs) (row : ℕ → ℚ) where
   pub laid_value : value n row (point_of xs) ≡ value n row x

@@ -1,10 +1,10 @@
 -- Whole fractions, and what a rounding dominates
-use Rattle.std.proofs.Common.{◌≡◌, ℤ, pos, ◌+ℤ◌, ◌≤ℤ◌, Bool, true, arith, refl, sym, ◌∙◌, ap, subst}
+use Rattle.std.proofs.Common.{◌≡◌, ℤ, pos, ◌+ℤ◌, ◌≤ℤ◌, Bool, true, arith, refl, sym, subst}
 use Rattle.std.proofs.Common.{inl, inr}
 use Rattle.std.specs.Prelude.{◌↔◌}
 use Rattle.std.proofs.lemmas.Int.{ints}
 use Rattle.vipr_spec.specs.Fraction.{ℚ, whole}
-use Rattle.vipr_spec.specs.Constraint.{Sense, at_most, equal, at_least, Condition, at, RoundsTo}
+use Rattle.vipr_spec.specs.Constraint.{Sense, at_most, at_least, Condition, at, RoundsTo}
 use Rattle.vipr_spec.specs.Constraint.{Dominates, DominatesRounded, two, LeavesNone}
 use Rattle.vipr_spec.proofs.Laws.{Is, is_self, is_one, is_whole, le_of_whole, le_of_eq_ℚ}
 use Rattle.vipr_linear.specs.Constraint.{sense_of, condition_of, with_bound}
@@ -25,15 +25,10 @@ same_whole j k e = antisymmetric j k (le_of_whole j k (le_of_eq_ℚ _ _ e)) (le_
 pub next_known : (low high : ℚ) (b : Bool) → low.denom ≡ 1 → high.denom ≡ 1
     → (b ≡ true) ↔ (high.numer ≡ low.numer +ℤ pos 1)
     → (b ≡ true) ↔ ((k : ℤ) × (low ≡ whole k) × (high ≡ whole (k +ℤ pos 1)))
-next_known low high b e f t = (
-  λ h. (low.numer, whole_of low e, whole_of high f ∙ ap whole (t.0 h)),
-  λ s. t.1 (same_whole high.numer (s.0 +ℤ pos 1) (sym (whole_of high f) ∙ s.2) ∙ ap (λ k. k +ℤ pos 1) (same_whole s.0 low.numer (sym s.1 ∙ whole_of low e))),
-)
+next_known low high b e f t = grind (arith, whole_of low e, whole_of high f, same_whole)
 
 rounds_once : (s : Sense) (b : ℚ) (j k : ℤ) → RoundsTo s b j → RoundsTo s b k → j ≡ k
-rounds_once at_least b j k h l = antisymmetric j k (h.1 k l.0) (l.1 j h.0)
-rounds_once at_most b j k h l = antisymmetric j k (l.1 j h.0) (h.1 k l.0)
-rounds_once equal b j k h l = same_whole j k (sym h ∙ l)
+rounds_once s b j k h l = grind (arith, same_whole)
 
 pub rounding_dominates : (c : Constraint) (r : Rounded) (d : Condition) → IsRounding c r
     → RoundedDominates r d ↔ DominatesRounded (condition_of c) d

@@ -20,13 +20,12 @@ use Rattle.std.proofs.{lemmas.Map.Made.IsDistinct-keys_filter, lemmas.Slice.Eq.s
 use Rattle.std.specs.FinMap.{entries, from_sorted, find, is_sorted, get-from_sorted}
 use Rattle.std.specs.FinMap.{get-from_entries, entries-from_sorted, entries_sorted}
 use Rattle.std.specs.FinMap.{same_entries_map, same_map, nat_cmp-IsAntisymmetric}
-use Rattle.std.specs.List.{IsDistinct, AllByRecursion, list_any}
 use Rattle.std.specs.List.Sorted.{IsPermutation, IsNonDecreasing, IsNonDecreasingBy}
 use Rattle.std.specs.List.Sorted.{IsStrictlyIncreasing, IsStrictlySortedBy}
-use Rattle.std.specs.Ordering.{nat_cmp, int_eq, eq_by_cmp}
 use Rattle.std.specs.{BTreeMap.is_at, Bool.Decides, Bool.◌==◌, Cmp.nat_eq_equiv, Cmp.nat_cmp_total}
-use Rattle.std.specs.{Cmp.Lexicographic.pointwise, FinMap.Entries.below_all, Map.lookup}
-use Rattle.std.specs.{Prelude.◌↔◌, declared.cmp.Ordering.TheVariants.Less}
+use Rattle.std.specs.{Cmp.Lexicographic.pointwise, FinMap.Entries.below_all, List.IsDistinct}
+use Rattle.std.specs.{List.AllByRecursion, List.list_any, Map.lookup, Ordering.nat_cmp}
+use Rattle.std.specs.{Ordering.int_eq, Prelude.◌↔◌, declared.cmp.Ordering.TheVariants.Less}
 use Rattle.vipr_spec.specs.Fraction.{ℚ, zero_ℚ, IsBounded}
 use Rattle.vipr_spec.specs.Constraint.{Row, at, HasNoZeros}
 use Rattle.vipr_spec.specs.{FractionOrder.eq_ℚ, Reading.is_nonzero, Reading.row_of, Shape.RowFits}
@@ -57,25 +56,17 @@ rises_from low high (e ∷ es) h r = (omega arith, r.1, r.2)
 rises_below : (x low : ℕ) (es : List (ℕ × ℚ)) → x < low → RisesFrom low es
     → T (below_all nat_cmp x es)
 rises_below x low [] h r = tt
-rises_below x low (e ∷ es) h r =
-    let less : x < e.0 = omega arith in
-    let rest = rises_below x (e.0 + 1) es (omega arith) r.2 in
-    grind (arith, nat_tests)
+rises_below x low (e ∷ es) h r = grind (arith, rises_below x (e.0 + 1) es (omega arith) r.2)
 
 pub rises_sorted : (low : ℕ) (es : List (ℕ × ℚ)) → RisesFrom low es → T (is_sorted nat_cmp es)
 rises_sorted low [] r = tt
-rises_sorted low (e ∷ es) r =
-    let below = rises_below e.0 (e.0 + 1) es (omega arith) r.2 in
-    let rest = rises_sorted (e.0 + 1) es r.2 in
-    grind (arith, nat_tests)
+rises_sorted low (e ∷ es) r = grind (arith, rises_below e.0 (e.0 + 1) es (omega arith) r.2, rises_sorted (e.0 + 1) es r.2)
 
 -- ---- look-ups
 module _ (j : ℕ) where
   find_nonzero : (low : ℕ) (es : List (ℕ × ℚ)) → RisesFrom low es → IfSome (find nat_cmp j es) (λ a. a ≢ zero_ℚ)
   find_nonzero low [] r = tt
-  find_nonzero low (e ∷ es) r =
-      let rest = find_nonzero (e.0 + 1) es r.2 in
-      elim (eq_by_cmp nat_cmp j e.0) as (λ b. IfSome (cond b (Some e.1) (find nat_cmp j es)) (λ a. a ≢ zero_ℚ)) [ true ↦ r.1 | false ↦ rest ]
+  find_nonzero low (e ∷ es) r = grind (arith, find_nonzero (e.0 + 1) es r.2)
 
 pub no_zeros : (es : List (ℕ × ℚ)) → RisesFrom 0 es → HasNoZeros (from_sorted es)
 no_zeros es r = λ j. subst (λ (o : Option ℚ). IfSome o (λ a. a ≢ zero_ℚ)) (sym (get-from_sorted nat_cmp es j (rises_sorted 0 es r))) (find_nonzero j 0 es r)
@@ -91,10 +82,7 @@ entries_fit es a = subst (All (λ (e : ℕ × ℚ). (e.1 ≢ zero_ℚ) × IsBoun
 
 pub find_lookup : (q : ℕ) (es : List (ℕ × ℚ)) → find nat_cmp q es ≡ lookup (nat_eq q) es
 find_lookup q [] = refl
-find_lookup q (e ∷ es) =
-    let same : eq_by_cmp nat_cmp q e.0 ≡ nat_eq q e.0 = grind (arith, nat_tests) in
-    let rest = find_lookup q es in
-    (λ i. cond (same i) (Some e.1) (rest i))
+find_lookup q (e ∷ es) = grind (arith, find_lookup q es)
 
 pub exact : (x y : ℕ) → nat_eq x y ≡ true → x ≡ y
 exact x y h = grind (arith, nat_tests)
@@ -114,8 +102,7 @@ contains_cons : (x e : ℕ × ℚ) (es : List (ℕ × ℚ)) → Contains es e �
 contains_cons x e es h = (suc h.0, omega (arith, h.1), h.2)
 
 contains_cases : (x e : ℕ × ℚ) (es : List (ℕ × ℚ)) → Contains (x ∷ es) e → (x ≡ e) ⊎ Contains es e
-contains_cases x e es (zero, l, h) = inl h
-contains_cases x e es (suc k, l, h) = inr (k, omega arith, h)
+contains_cases x e es h = grind arith
 
 pub contains_filter : (p : ℕ × ℚ → Bool) (es : List (ℕ × ℚ)) (e : ℕ × ℚ) → p e ≡ true
     → Contains es e → Contains (filter p es) e
@@ -270,10 +257,7 @@ module _ (es : List (ℕ × ℚ)) (i : ℕ) (p : ℕ × ℚ) (l : i < length es)
       same = grind (arith, nat_tests)
 
       either : (t o : Bool) → cond t true o ≡ (o || (t || false))
-      either true true = refl
-      either true false = refl
-      either false true = refl
-      either false false = refl
+      either t o = grind arith
 
 pub nothing_distinct : IsDistinct nat_eq []
 unfolding IsDistinct
@@ -301,9 +285,7 @@ same_lists xs ys r s e =
 pub same_known : (xs ys : List (ℕ × ℚ)) (b : Bool) → RisesFrom 0 xs → RisesFrom 0 ys
     → b ≡ pointwise (λ (x y : ℕ × ℚ). nat_eq x.0 y.0 && eq_ℚ x.1 y.1) xs ys
     → (b ≡ true) ↔ ((j : ℕ) → at (from_sorted xs) j ≡ at (from_sorted ys) j)
-same_known xs ys b r s h =
-    let d = slice_eq-Decides same_entry xs ys b h in
-    (λ t j. ap (λ es. at (from_sorted es) j) (d.0 t), λ e. d.1 (same_lists xs ys r s e))
+same_known xs ys b r s h = grind (arith, slice_eq-Decides same_entry xs ys b h, same_lists)
 
 pub same_if_equal : (xs ys : List (ℕ × ℚ)) (b : Bool)
     → b ≡ pointwise (λ (x y : ℕ × ℚ). nat_eq x.0 y.0 && eq_ℚ x.1 y.1) xs ys → b ≡ true → xs ≡ ys

@@ -1,7 +1,7 @@
 -- What a binary search among a row's entries finds
 use Rattle.std.proofs.Common.{◌≡◌, ◌≢◌, ℕ, zero, suc, ◌+◌, ◌<◌, ◌≤◌, List, [], ◌∷◌, length, get_or}
-use Rattle.std.proofs.Common.{unwrap_or, arith, refl, sym, ◌∙◌, ap, inl, inr}
-use Rattle.std.proofs.{lemmas.Bool.cases_lt, lemmas.Bool.Decides.nat_tests}
+use Rattle.std.proofs.Common.{unwrap_or, arith, refl, sym, ◌∙◌, ap}
+use Rattle.std.proofs.{lemmas.Bool.Decides.nat_tests}
 use Rattle.std.specs.declared.cmp.Ordering.TheVariants.{Less, Equal, Greater}
 use Rattle.std.specs.{FinMap.from_sorted, FinMap.get-from_sorted, List.Sorted.IsNonDecreasingBy}
 use Rattle.std.specs.{List.Sorted.IsPartitionPoint, Ordering.nat_cmp, Ordering.ordering_index}
@@ -35,9 +35,7 @@ pub at_place : (low : ℕ) (es : List (ℕ × ℚ)) (i : ℕ) (d : ℕ × ℚ) �
     → coefficient es (get_or es i d).0 ≡ (get_or es i d).1
 at_place low [] i d r l = absurd (omega arith)
 at_place low (e ∷ es) zero d r l = coefficient_here e es e.0 refl
-at_place low (e ∷ es) (suc i) d r l =
-    let h = at_least_low (e.0 + 1) es i d r.2 (omega arith) in
-    coefficient_later e es (get_or es i d).0 (λ k. absurd (omega (arith, h, k))) ∙ at_place (e.0 + 1) es i d r.2 (omega arith)
+at_place low (e ∷ es) (suc i) d r l = grind (arith, at_least_low (e.0 + 1) es i d r.2 (omega arith), coefficient_later, at_place (e.0 + 1) es i d r.2 (omega arith))
 
 pub absent : (es : List (ℕ × ℚ)) (v : ℕ) (d : ℕ × ℚ)
     → ((k : ℕ) → k < length es → (get_or es k d).0 ≢ v) → coefficient es v ≡ zero_ℚ
@@ -46,12 +44,6 @@ absent (e ∷ es) v d h = coefficient_later e es v (λ k. h 0 (omega arith) (sym
 
 same_number : (a v : ℕ) → nat_cmp a v ≡ Equal → a ≡ v
 same_number a v e = grind (arith, nat_tests)
-
-below_apart : (a v : ℕ) → nat_cmp a v ≡ Less → a ≢ v
-below_apart a v e k = absurd (grind (arith, nat_tests))
-
-above_apart : (a v : ℕ) → nat_cmp a v ≡ Greater → a ≢ v
-above_apart a v e k = absurd (grind (arith, nat_tests))
 
 at_sorted : (es : List (ℕ × ℚ)) (v : ℕ) → RisesFrom 0 es → at (from_sorted es) v ≡ coefficient es v
 at_sorted es v r = ap (λ o. unwrap_or o zero_ℚ) (get-from_sorted nat_cmp es v (rises_sorted 0 es r))
@@ -63,7 +55,4 @@ found_at es v i p r l e t = ap (λ (q : ℕ × ℚ). q.1) e ∙ sym (at_place 0 
 pub not_found : (es : List (ℕ × ℚ)) (v i : ℕ) → RisesFrom 0 es
     → IsPartitionPoint (λ (y : ℕ × ℚ). nat_cmp y.0 v ≡ Less) (λ y. nat_cmp y.0 v ≡ Greater) es i
     → zero_ℚ ≡ at (from_sorted es) v
-not_found es v i r h = sym (at_sorted es v r ∙ absent es v (0, zero_ℚ) (λ k l. elim (cases_lt k i) [
-  | inl before ↦ below_apart _ v (h.0 k (0, zero_ℚ) (omega arith) before)
-  | inr after ↦ above_apart _ v (h.1 k (0, zero_ℚ) after l)
-]))
+not_found es v i r h = sym (at_sorted es v r ∙ absent es v (0, zero_ℚ) (λ k l. grind arith))

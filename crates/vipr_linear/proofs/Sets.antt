@@ -38,10 +38,7 @@ deduped_rises ys zs s f = rw (dedup_is nat_eq ys zs f) (IsStrictlyIncreasing-ded
 
 order : (xs : List ℕ) → IsStrictlyIncreasing xs → (i j : ℕ) → i ≤ j → j < length xs
     → get_or xs i 0 ≤ get_or xs j 0
-order xs s i j le l = elim (cases_lt i j) [
-  | inl below ↦ let h = below_from_sorted xs i j 0 (sorted_from_strictly_increasing xs s) below l in omega (arith, h)
-  | inr above ↦ let e : i ≡ j = omega arith in rw e (omega arith)
-]
+order xs s i j le l = grind (arith, below_from_sorted, sorted_from_strictly_increasing)
 
 pub found : (xs : List ℕ) (q : ℕ) (r : Result ℕ ℕ) → IsStrictlyIncreasing xs
     → IsBinarySearchResult (λ y. nat_cmp y q) xs r

@@ -20,11 +20,7 @@ use Rattle.vipr_linear.specs.Accumulator.{HoldsSum}
 -- ---- what fits
 module _ (n : ℕ) (es : List Entry) (e : Entry) (a : Accumulator) (h : Holds n es a) where
   terms_known : (((j : ℕ) → TermFits (sum_at a j) e.0 (e.1.row j)) × TermFits a.bound e.0 e.1.bound) ↔ SumOfFits (es ++ e ∷ [])
-  terms_known =
-      let more = fits_more es e in (
-        λ k. more.1 (h.fits, λ j. subst (λ s. TermFits s e.0 (e.1.row j)) (h.row_is j) (k.0 j), subst (λ s. TermFits s e.0 e.1.bound) h.bound_is k.1),
-        λ k. let m = more.0 k in (λ j. subst (λ s. TermFits s e.0 (e.1.row j)) (sym (h.row_is j)) (m.1 j), subst (λ s. TermFits s e.0 e.1.bound) (sym h.bound_is) m.2),
-      )
+  terms_known = grind (arith, fits_more es e)
 
   sum_bounded : (j : ℕ) → IsBounded (sum_at a j)
   sum_bounded j = subst IsBounded (sym (h.row_is j)) ((sums_bounded es h.fits).0 j)
@@ -56,8 +52,7 @@ module _ (n : ℕ) (es : List Entry) (e : Entry) (a : Accumulator) (h : Holds n 
       by None is some = absurd (cc)
 
   sense_held : (o : Option Sense) → joined_with a e ≡ o → IsSome o → HasSense (es ++ e ∷ []) (unwrap_or o equal)
-  sense_held (Some t) is some = new_sense t is
-  sense_held None is some = absurd (cc)
+  sense_held o is some = grind (arith, new_sense)
 
   pub step_held : NamesBelow n e.1.row → IsSome (joined_with a e) → AdditionFits a e → Holds n (es ++ e ∷ []) (with_entry a e)
   step_held names some fit = record {
@@ -92,10 +87,7 @@ start_held n = record {
 pub sum_held : (n : ℕ) (es : List Entry) (a : Accumulator) (row : Row) (s : Sense) (b : ℚ)
     → Holds n es a → HoldsSum a row s b
     → HasSense es s × (record { row = at row; sense = s; bound = b } ≡ sum_of es s)
-sum_held n es a row s b h k = (
-  subst (HasSense es) (sym k.sense_is) h.sense_is,
-  λ i. record { row = λ j. (k.row_is j ∙ h.row_is j) i; sense = s; bound = (k.bound_is ∙ h.bound_is) i },
-)
+sum_held n es a row s b h k = grind arith
 
 -- what the sum says is the sum of the entries that it holds
 pub held_sum : (n : ℕ) (es : List Entry) (a : Accumulator) → Holds n es a

@@ -1,6 +1,6 @@
 -- The value of a row, summed over its listed entries
 use Rattle.std.proofs.Common.{◌≡◌, ◌≢◌, ℕ, ◌+◌, ◌<◌, ◌≤◌, true, false, List, [], ◌∷◌, length}
-use Rattle.std.proofs.Common.{get_or, drop, Result, Ok, Err, IfOk, arith, refl, sym, ◌∙◌, ap, ap₂}
+use Rattle.std.proofs.Common.{get_or, drop, Result, IfOk, arith, refl, sym, ◌∙◌, ap, ap₂}
 use Rattle.std.proofs.Common.{subst, subst₂, ◌⊎◌, inl, inr, add-one}
 use Rattle.std.proofs.{lemmas.Bool.cases_eq, lemmas.Bool.cases_lt, lemmas.List.drop_all}
 use Rattle.std.specs.{FinMap.entries, Prelude.◌↔◌}
@@ -133,5 +133,4 @@ module _ (row : Row) (x : Point) (n : ℕ) (r : RisesFrom 0 (entries row)) (name
 
 pub if_ok : {A E : Type 0} (v w : A) (t : Result A E) → v ≡ w → IfOk t (λ y. y ≡ v)
     → IfOk t (λ y. y ≡ w)
-if_ok v w (Ok y) e h = h ∙ e
-if_ok v w (Err y) e h = tt
+if_ok v w t e h = grind arith
