@@ -1,6 +1,6 @@
 -- How many keys a map by number has: as many as pass the test in a range that has them all.
 use Rattle.std.proofs.Common.{◌≡◌, ℕ, zero, suc, ◌+◌, ◌-◌, ◌<◌, ◌≤◌, Bool, true, false, cond}
-use Rattle.std.proofs.Common.{nat_eq, Option, Some, None, is_some, List, [], ◌∷◌, ◌++◌, refl, sym}
+use Rattle.std.proofs.Common.{nat_eq, Option, None, is_some, List, [], ◌∷◌, ◌++◌, refl, sym}
 use Rattle.std.proofs.Common.{ap, ap₂, ◌∙◌, arith, add-zero, inl, inr}
 use Rattle.std.proofs.lemmas.List.Sums.{sum_by-cons, sum_by_push}
 use Rattle.std.proofs.{lemmas.Bool.cases_lt, lemmas.Bool.Decides.nat_tests}
@@ -30,23 +30,14 @@ pub count_more : (p : ℕ → Bool) (a n : ℕ)
 count_more p a n = ap (count_by p) (range_more a n) ∙ sum_by_push (λ x. cond (p x) 1 0) (range_with_len a n) (a + n)
 
 some_or_none : {X : Type 0} (o : Option X) → ((is_some o ≡ true → ⊥) → o ≡ None)
-some_or_none None h = refl
-some_or_none (Some x) h = absurd (h refl)
+some_or_none o h = grind arith
 
 other : (q k : ℕ) → k < q → nat_eq q k ≡ false
 other q k h = grind (arith, nat_tests)
 
 module _ {X : Type 0} where
   pub some_held : (m : FinMap nat_cmp X) (i : ℕ) (b : Bool) → contains_key m i ≡ b → cond b 1 0 ≤ len m
-  some_held m i false e = omega arith
-  some_held m i true e =
-      elim (cases_lt 0 (len m)) [
-        | inl some ↦ omega arith
-        | inr none ↦ absurd (
-            let is_empty = empty_of_len m (omega arith) in
-            let gone = ap (λ n. is_some (get n i)) is_empty ∙ ap is_some (get-empty {X = X} nat_cmp i) in
-            cc (gone, e))
-      ]
+  some_held m i b e = grind (arith, empty_of_len, get-empty)
 
   less_one : (m : FinMap nat_cmp X) (k : ℕ) (b : Bool) → contains_key m k ≡ b → len m ≡ cond b 1 0 + len (remove m k)
   less_one m k b e = by b (some_held m k b e) (len-remove nat_cmp_total m k ∙ ap (λ d. cond d (len m - 1) (len m)) e)

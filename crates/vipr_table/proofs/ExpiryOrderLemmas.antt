@@ -4,8 +4,8 @@ use Rattle.std.proofs.Common.{◌≡◌, ℕ, ◌+◌, ◌<◌, ◌≤◌, true,
 use Rattle.std.proofs.Common.{Some, None, List, [], ◌∷◌, All, Contains, IsPermutation, refl, sym}
 use Rattle.std.proofs.Common.{ap, ◌∙◌, subst, arith, ◌⊎◌, inl, inr}
 use Rattle.std.proofs.lemmas.Bool.Decides.{nat_tests}
-use Rattle.std.proofs.lemmas.List.Elements.{All-cons, All-head, All-tail, All-weaker, All-contains}
-use Rattle.std.proofs.lemmas.List.Elements.{Contains-append_right, Contains-append_cases}
+use Rattle.std.proofs.lemmas.List.Elements.{All-cons, All-head, All-tail, All-weaker}
+use Rattle.std.proofs.lemmas.List.Elements.{Contains-append_right}
 use Rattle.std.proofs.lemmas.List.Sorted.{All-permutation, Contains-permutation}
 use Rattle.std.specs.Ordering.{nat_cmp}
 use Rattle.std.specs.FinMap.{FinMap, get, insert, remove, empty, get-empty}
@@ -16,11 +16,7 @@ use Rattle.vipr_table.proofs.TableLemmas.{get-insert_at, get-remove_at, get-live
 use Rattle.vipr_table.proofs.TableLemmas.{if_live-true, if_live-false, same_table}
 
 ahead_cases : (x y : ℕ × ℕ) (ds : List (ℕ × ℕ)) → Contains (x ∷ ds) y → (y ≡ x) ⊎ Contains ds y
-ahead_cases x y ds h =
-    elim (Contains-append_cases (x ∷ []) ds y h) [
-      | inl one ↦ inl (All-contains (λ z. z ≡ x) (x ∷ []) y (All-cons (λ z. z ≡ x) x [] refl (λ k d lt. absurd (omega arith))) one)
-      | inr rest ↦ inr rest
-    ]
+ahead_cases x y ds h = grind arith
 
 eq_cases : (i j : ℕ) → ((i ≡ j) × (nat_eq i j ≡ true)) ⊎ ((i ≡ j → ⊥) × (nat_eq i j ≡ false))
 eq_cases i j = grind (arith, nat_tests)
@@ -28,19 +24,11 @@ eq_cases i j = grind (arith, nat_tests)
 module _ (m : FinMap nat_cmp Entry) (i : ℕ) where
   -- what is left after a removal was there before, at another index
   left_over : (j : ℕ) (e : Entry) → get (remove m i) j ≡ Some e → (get m j ≡ Some e) × (j ≡ i → ⊥)
-  left_over j e h =
-      elim (eq_cases j i) [
-        | inl here ↦ absurd (let gone = get-remove_at m i j ∙ ap (λ b. cond b None (get m j)) here.1 in cc (gone, h))
-        | inr apart ↦ (sym (get-remove_at m i j ∙ ap (λ b. cond b None (get m j)) apart.1) ∙ h, apart.0)
-      ]
+  left_over j e h = grind (arith, eq_cases, get-remove_at, cond, get)
 
 module _ (m : FinMap nat_cmp Entry) (next : ℕ) (new : Entry) where
   put_cases : (j : ℕ) (e : Entry) → get (insert m next new) j ≡ Some e → ((j ≡ next) × (e ≡ new)) ⊎ ((j ≡ next → ⊥) × (get m j ≡ Some e))
-  put_cases j e h =
-      elim (eq_cases j next) [
-        | inl here ↦ inl (here.0, let at_next = get-insert_at m next new j ∙ ap (λ b. cond b (Some new) (get m j)) here.1 in cc (at_next, h))
-        | inr apart ↦ inr (apart.0, sym (get-insert_at m next new j ∙ ap (λ b. cond b (Some new) (get m j)) apart.1) ∙ h)
-      ]
+  put_cases j e h = grind (arith, eq_cases, get-insert_at, cond, get)
 
 -- the pair is taken out of the order, and its index out of the map
 pub IsTied-removed : (next : ℕ) (m : FinMap nat_cmp Entry) (ds es : List (ℕ × ℕ)) (last i : ℕ)
@@ -79,11 +67,7 @@ live_part-removed next now m ds es last i t p due = same_numbers _ _ (λ q. get-
     gone (Some e) is = sym (expired e is)
 
     at : (q : ℕ) → if_live (now + 1) (get (remove m i) q) ≡ if_live (now + 1) (get m q)
-    at q =
-        elim (eq_cases q i) [
-          | inl here ↦ ap (if_live (now + 1)) (get-remove_at m i q ∙ ap (λ b. cond b None (get m q)) here.1) ∙ gone (get m i) refl ∙ ap (λ j. if_live (now + 1) (get m j)) (sym here.0)
-          | inr apart ↦ ap (if_live (now + 1)) (get-remove_at m i q ∙ ap (λ b. cond b None (get m q)) apart.1)
-        ]
+    at q = grind (arith, eq_cases, get-remove_at, cond, get, gone)
 
 -- where nothing is due, all is live
 live_part-none_due : (next now : ℕ) (m : FinMap nat_cmp Entry) (ds : List (ℕ × ℕ))
@@ -94,12 +78,10 @@ live_part-none_due next now m ds t none = same_numbers _ _ (λ q. get-live_part 
     ahead last h = grind (arith, nat_tests)
 
     stays : (q : ℕ) (e : Entry) → get m q ≡ Some e → (o : Option ℕ) → expiry e ≡ o → lasts_to (now + 1) o ≡ true
-    stays q e is None expires = refl
-    stays q e is (Some last) expires = ahead last (All-contains (λ d. now < d.0) ds (last, q) none (t.listed q last e is expires))
+    stays q e is o expires = grind arith
 
     at : (q : ℕ) (o : Option Entry) → get m q ≡ o → if_live (now + 1) o ≡ o
-    at q None is = refl
-    at q (Some e) is = if_live-true (now + 1) e (stays q e is (expiry e) refl)
+    at q o is = grind (arith, if_live-true, stays)
 
 -- an advance of the table t that has come to the map m and the order ds
 pub record AdvancesTo (t : Table) (first next : ℕ) (m : FinMap nat_cmp Entry) (ds : List (ℕ × ℕ)) : Type 0 where
@@ -125,11 +107,7 @@ module _ (t : Table) (first next : ℕ) (m : FinMap nat_cmp Entry) (ds : List (�
 still_right : (next : ℕ) (m : FinMap nat_cmp Entry) (ds : List (ℕ × ℕ)) (e : Entry)
     → IsTied next m ds → All
     (λ (d : ℕ × ℕ). (f : Entry) → get (insert m next e) d.1 ≡ Some f → expiry f ≡ Some d.0) ds
-still_right next m ds e t k d lt f is =
-    elim (put_cases m next e _ f is) [
-      | inl new ↦ absurd (let b = t.below k d lt in omega (arith, b, new.0))
-      | inr old ↦ t.right k d lt f old.1
-    ]
+still_right next m ds e t k d lt f is = grind (arith, put_cases)
 
 first : (x : ℕ × ℕ) (ds : List (ℕ × ℕ)) → Contains (x ∷ ds) x
 first x ds = (0, omega arith, refl)
@@ -137,15 +115,7 @@ first x ds = (0, omega arith, refl)
 -- an entry that never expires
 IsTied-kept : (next : ℕ) (m : FinMap nat_cmp Entry) (ds : List (ℕ × ℕ)) (e : Entry)
     → IsTied next m ds → expiry e ≡ None → IsTied (next + 1) (insert m next e) ds
-IsTied-kept next m ds e t never = record {
-  below = All-weaker (λ d. d.1 < next) (λ d. d.1 < next + 1) (λ d h. omega arith) ds t.below;
-  right = still_right next m ds e t;
-  listed = λ j l f is expires.
-      elim (put_cases m next e j f is) [
-        | inl new ↦ absurd (cc (never, expires, new.1))
-        | inr old ↦ t.listed j l f old.1 expires
-      ];
-}
+IsTied-kept next m ds e t never = grind (arith, still_right, put_cases)
 
 -- an entry that expires
 IsTied-added : (next : ℕ) (m : FinMap nat_cmp Entry) (ds es : List (ℕ × ℕ)) (e : Entry) (last : ℕ)
@@ -178,8 +148,4 @@ IsTied-put next m ds es e t notes = by (expiry e) refl notes
 
 -- nothing is in the table yet
 pub IsTied-empty : (next : ℕ) → IsTied next empty []
-IsTied-empty next = record {
-  below = λ k d lt. absurd (omega arith);
-  right = λ k d lt. absurd (omega arith);
-  listed = λ i last e is. absurd (let none = get-empty {X = Entry} nat_cmp i in cc (none, is));
-}
+IsTied-empty next = grind (arith, get-empty)

@@ -1,8 +1,7 @@
 -- The table of a certificate, one derivation after another.
 use Rattle.std.proofs.Common.{◌≡◌, ℕ, suc, ◌+◌, ◌-◌, ◌<◌, ◌≤◌, Bool, true, false, cond, ◌&&◌, ◌||◌}
 use Rattle.std.proofs.Common.{nat_eq, nat_lt, nat_le, Option, Some, None, is_some, List, [], ◌∷◌}
-use Rattle.std.proofs.Common.{length, refl, sym, ap, ap₂, ◌∙◌, subst, arith, length-append, ◌⊎◌}
-use Rattle.std.proofs.Common.{inl, inr}
+use Rattle.std.proofs.Common.{length, refl, sym, ap, ap₂, ◌∙◌, arith, length-append, ◌⊎◌, inl, inr}
 use Rattle.std.proofs.{lemmas.Bool.cases_lt, lemmas.Bool.Decides.nat_tests}
 use Rattle.std.specs.FinMap.{get, get-empty, contains_key}
 use Rattle.std.specs.{List.range_with_len, List.count_by, Ordering.nat_cmp}
@@ -13,7 +12,7 @@ use Rattle.vipr_spec.specs.Steps.{RefersBack}
 use Rattle.vipr_spec.proofs.Laws.{with_more, constraint_before, reason_before, last_before}
 use Rattle.vipr_spec.proofs.Laws.{rests_more}
 use Rattle.vipr_table.specs.declared.rows.Entry.{Entry}
-use Rattle.vipr_table.specs.Table.{Table, is_live_before, if_live, live_part, empty_table, step}
+use Rattle.vipr_table.specs.Table.{Table, is_live_before, if_live, empty_table, step}
 use Rattle.vipr_table.specs.Table.{entry_at, held_count}
 use Rattle.vipr_table.specs.History.{IsEntryOf, is_derived, is_held, IsTableOf, FindsLive}
 use Rattle.vipr_table.proofs.TableLemmas.{get-insert_at, get-live_part}
@@ -22,12 +21,7 @@ use Rattle.vipr_table.proofs.CountLemmas.{count_same, count_more, len_counts}
 -- later derivations change no entry
 entry_later : (c : Certificate) (ds : List Derivation) (i : ℕ) (e : Entry) → RefersBack c
     → i < count c → IsEntryOf c i e → IsEntryOf (with_more c ds) i e
-entry_later c ds i e back h x = record {
-  says = constraint_before c ds i h ∙ x.says;
-  rests = λ a. (λ t. (rests_more c ds back i a h).1 ((x.rests a).0 t), λ r. (x.rests a).1 ((rests_more c ds back i a h).0 r));
-  is_assumed = x.is_assumed ∙ sym (ap is_assumption (reason_before c ds i h));
-  last = x.last ∙ sym (last_before c ds i h);
-}
+entry_later c ds i e back h x = grind (arith, constraint_before, rests_more, reason_before, last_before)
 
 -- constraint i lasts to k
 abbrev lasts : Certificate → ℕ → ℕ → Bool
@@ -40,17 +34,6 @@ entry_lasts c i e k x = by e.is_assumption ∙ ap₂ (λ b l. b || lasts_to k l)
     by : (b : Bool) → lasts_to k (cond b None e.last) ≡ (b || lasts_to k e.last)
     by true = refl
     by false = refl
-
-lasts_less : (c : Certificate) (k i : ℕ) → lasts c (k + 1) i ≡ true → lasts c k i ≡ true
-lasts_less c k i h = by (is_assumption (reason_at c i)) (last_at c i) h
-  where
-    less : (last : ℕ) → nat_le (k + 1) last ≡ true → nat_le k last ≡ true
-    less last h = grind (arith, nat_tests)
-
-    by : (b : Bool) (l : Option ℕ) → (b || lasts_to (k + 1) l) ≡ true → (b || lasts_to k l) ≡ true
-    by true l h = refl
-    by false None h = refl
-    by false (Some last) h = less last h
 
 -- what the tests say
 held_within : (m n q : ℕ) (s : Bool)
@@ -66,8 +49,7 @@ last_is_held m n s h = grind (arith, nat_tests)
 
 before_next : (m n q : ℕ) (s : Bool) → q < n → m ≤ q
     → (nat_le m q && (nat_eq (q + 1) (n + 1) || (nat_lt q (n + 1) && s))) ≡ s
-before_next m n q true h g = grind (arith, nat_tests)
-before_next m n q false h g = grind (arith, nat_tests)
+before_next m n q s h g = grind arith
 
 not_next : (m n q : ℕ) (s t : Bool) → (q ≡ n → ⊥) → (q < n → t ≡ true → s ≡ true)
     → (nat_le m q && (nat_eq (q + 1) n || (nat_lt q n && s))) ≡ false
@@ -84,18 +66,15 @@ not_next m n q false true apart less h =
     beyond apart past = grind (arith, nat_tests)
 
 live_within : (m n q : ℕ) (s : Bool) → m ≤ q → q < n → s ≡ (nat_le m q && (nat_lt q n && s))
-live_within m n q true h g = grind (arith, nat_tests)
-live_within m n q false h g = grind (arith, nat_tests)
+live_within m n q s h g = grind arith
 
 not_live : (m n q : ℕ) (s : Bool) → (nat_le m q && (nat_eq (q + 1) n || (nat_lt q n && s))) ≡ false
     → (nat_le m q && (nat_lt q n && s)) ≡ false
-not_live m n q true h = grind (arith, nat_tests)
-not_live m n q false h = grind (arith, nat_tests)
+not_live m n q s h = grind arith
 
 not_last : (m k q : ℕ) (s : Bool) → m ≤ q → q < k
     → (nat_le m q && (nat_eq (q + 1) (k + 1) || s)) ≡ s
-not_last m k q true h g = grind (arith, nat_tests)
-not_last m k q false h g = grind (arith, nat_tests)
+not_last m k q s h g = grind arith
 
 eq_cases : (i j : ℕ) → ((i ≡ j) × (nat_eq i j ≡ true)) ⊎ ((i ≡ j → ⊥) × (nat_eq i j ≡ false))
 eq_cases i j = grind (arith, nat_tests)
@@ -141,10 +120,7 @@ module _ (c : Certificate) (d : Derivation) (e : Entry) (t : Table)
   one_more = let l = length-append c.derivations (d ∷ []) in omega (arith, l)
 
   get-step : (q : ℕ) → get (step t e).entries q ≡ cond (nat_eq q (count c)) (Some e) (if_live (count c + 1) (get t.entries q))
-  get-step q =
-      get-insert_at (live_part (t.next + 1) t.entries) t.next e q
-      ∙ ap (cond (nat_eq q t.next) (Some e)) (get-live_part (t.next + 1) t.entries q)
-      ∙ ap (λ n. cond (nat_eq q n) (Some e) (if_live (n + 1) (get t.entries q))) is.next
+  get-step q = grind (arith, get-insert_at, get-live_part)
 
   held_after : (q : ℕ) → is_held after q ≡ (nat_le given q && (nat_eq (q + 1) (count c + 1) || (nat_lt q (count c + 1) && lasts after (count c + 1) q)))
   held_after q = ap (λ n. nat_le given q && (nat_eq (q + 1) n || is_live after n q)) one_more
@@ -153,14 +129,7 @@ module _ (c : Certificate) (d : Derivation) (e : Entry) (t : Table)
   same_lasts q h = ap₂ (λ r l. is_assumption r || lasts_to (count c + 1) l) (reason_before c (d ∷ []) q h) (last_before c (d ∷ []) q h)
 
   held_other : (q : ℕ) → (q ≡ count c → ⊥) → (o : Option Entry) → get t.entries q ≡ o → is_some (if_live (count c + 1) o) ≡ is_held after q
-  held_other q apart (Some x) at =
-      let h : is_held c q ≡ true = sym (is.held q) ∙ ap is_some at in
-      let r = held_range c q h in
-      is_some_live (count c + 1) x ∙ entry_lasts c q x (count c + 1) (is.entry q x at) ∙ sym (same_lasts q r.1)
-      ∙ sym (before_next given (count c) q (lasts after (count c + 1) q) r.1 r.0) ∙ sym (held_after q)
-  held_other q apart None at =
-      let h : is_held c q ≡ false = sym (is.held q) ∙ ap is_some at in
-      sym (held_after q ∙ not_next given (count c) q (lasts c (count c) q) (lasts after (count c + 1) q) apart (λ lt t. lasts_less c (count c) q (sym (same_lasts q lt) ∙ t)) h)
+  held_other q apart o at = grind (arith, held_range, entry_lasts, same_lasts, before_next, held_after, not_next)
 
   pub IsTableOf-step : IsTableOf after (step t e)
   IsTableOf-step = record {
@@ -181,10 +150,7 @@ module _ (c : Certificate) (d : Derivation) (e : Entry) (t : Table)
 
       entry_at_step : (q : ℕ) (x : Entry) → ((q ≡ count c) × (nat_eq q (count c) ≡ true)) ⊎ ((q ≡ count c → ⊥) × (nat_eq q (count c) ≡ false))
           → cond (nat_eq q (count c)) (Some e) (if_live (count c + 1) (get t.entries q)) ≡ Some x → IsEntryOf after q x
-      entry_at_step q x (inl here) h =
-          let same : Some e ≡ Some x = ap (λ b. cond b (Some e) (if_live (count c + 1) (get t.entries q))) (sym here.1) ∙ h in
-          let is_x : e ≡ x = cc in
-          subst (λ i. IsEntryOf after i x) (sym here.0) (subst (IsEntryOf after (count c)) is_x new)
+      entry_at_step q x (inl here) h = grind arith
       entry_at_step q x (inr apart) h =
           let was : get t.entries q ≡ Some x = if_live_of (count c + 1) (get t.entries q) x (ap (λ b. cond b (Some e) (if_live (count c + 1) (get t.entries q))) (sym apart.1) ∙ h) in
           let r = held_range c q (sym (is.held q) ∙ ap is_some was) in

@@ -19,16 +19,10 @@ use Rattle.vipr_table.proofs.ExpiryOrderLemmas.{IsTied-put, IsTied-removed, IsTi
 
 swapped : {A : Type 0} (a b : Bool) (x y z : A) → (a ≡ true → b ≡ true → ⊥)
     → cond a x (cond b y z) ≡ cond b y (cond a x z)
-swapped true true x y z apart = absurd (apart refl refl)
-swapped true false x y z apart = refl
-swapped false b x y z apart = refl
+swapped a b x y z apart = grind arith
 
 not_both : (q a b : ℕ) → (a ≡ b → ⊥) → nat_eq q a ≡ true → nat_eq q b ≡ true → ⊥
 not_both q a b apart h g = grind (arith, nat_tests)
-
-shadowed : {A : Type 0} (a : Bool) (x y z : A) → (a ≡ true → z ≡ x) → cond a x (cond a y z) ≡ z
-shadowed true x y z h = sym (h refl)
-shadowed false x y z h = refl
 
 same_key : (q k : ℕ) → nat_eq q k ≡ true → q ≡ k
 same_key q k h = grind (arith, nat_tests)
@@ -41,45 +35,33 @@ other q k h = grind (arith, nat_tests)
 
 module _ (m : FinMap nat_cmp Entry) (a b : ℕ) (v w : Entry) (apart : a ≡ b → ⊥) where
   insert_insert : insert (insert m a v) b w ≡ insert (insert m b w) a v
-  insert_insert = same_numbers _ _ (λ q.
-      get-insert_at (insert m a v) b w q ∙ ap (cond (nat_eq q b) (Some w)) (get-insert_at m a v q)
-      ∙ swapped (nat_eq q b) (nat_eq q a) (Some w) (Some v) (get m q) (λ h g. not_both q a b apart g h)
-      ∙ ap (cond (nat_eq q a) (Some v)) (sym (get-insert_at m b w q)) ∙ sym (get-insert_at (insert m b w) a v q))
+  insert_insert = grind (arith, same_numbers, get-insert_at)
 
   insert_remove : insert (remove m b) a v ≡ remove (insert m a v) b
-  insert_remove = same_numbers _ _ (λ q.
-      get-insert_at (remove m b) a v q ∙ ap (cond (nat_eq q a) (Some v)) (get-remove_at m b q)
-      ∙ swapped (nat_eq q a) (nat_eq q b) (Some v) None (get m q) (not_both q a b apart)
-      ∙ ap (cond (nat_eq q b) None) (sym (get-insert_at m a v q)) ∙ sym (get-remove_at (insert m a v) b q))
+  insert_remove = grind (arith, same_numbers, get-insert_at, get-remove_at)
 
 module _ (m : FinMap nat_cmp Entry) (k : ℕ) (none : get m k ≡ None) where
   absent_here : (q : ℕ) → nat_eq q k ≡ true → get m q ≡ None
   absent_here q h = ap (get m) (same_key q k h) ∙ none
 
   plain : (b : Bool) (o : Option Entry) → (b ≡ true → o ≡ None) → cond b None o ≡ o
-  plain true o h = sym (h refl)
-  plain false o h = refl
+  plain b o h = grind arith
 
   remove_absent : remove m k ≡ m
   remove_absent = same_numbers _ _ (λ q. get-remove_at m k q ∙ plain (nat_eq q k) (get m q) (absent_here q))
 
   remove_new : (v : Entry) → remove (insert m k v) k ≡ m
-  remove_new v = same_numbers _ _ (λ q.
-      get-remove_at (insert m k v) k q ∙ ap (cond (nat_eq q k) None) (get-insert_at m k v q)
-      ∙ shadowed (nat_eq q k) None (Some v) (get m q) (absent_here q))
+  remove_new v = grind (arith, same_numbers, get-remove_at, get-insert_at)
 
   remove_one : (b : Bool) (v : Entry) → remove (cond b m (insert m k v)) k ≡ m
-  remove_one true v = remove_absent
-  remove_one false v = remove_new v
+  remove_one b v = grind (arith, remove_absent, remove_new)
 
   get_one : (b : Bool) (v : Entry) → get (cond b m (insert m k v)) k ≡ cond b None (Some v)
-  get_one true v = none
-  get_one false v = get-insert_at m k v k ∙ ap (λ c. cond c (Some v) (get m k)) (itself k)
+  get_one b v = grind (arith, get-insert_at)
 
 get_past : (m : FinMap nat_cmp Entry) (k q : ℕ) (v : Entry) (b : Bool) → (q ≡ k → ⊥)
     → get (cond b m (insert m k v)) q ≡ get m q
-get_past m k q v true apart = refl
-get_past m k q v false apart = get-insert_at m k v q ∙ ap (λ c. cond c (Some v) (get m q)) (other q k apart)
+get_past m k q v b apart = grind (arith, get-insert_at)
 
 -- nothing stands before the first index
 pub get-kept_before : (first : ℕ) (ks : List Kept) (q : ℕ) → q < first
@@ -92,28 +74,21 @@ pub get-kept_at : (first : ℕ) (ks : List Kept) (i : ℕ)
     → get (entries_not_forgotten first ks) (first + i) ≡ entry_if_kept (slice_get ks i)
 get-kept_at first [] i = get-empty nat_cmp (first + i)
 get-kept_at first (k ∷ ks) zero = rw add-zero (get_one (entries_not_forgotten (first + 1) ks) first (get-kept_before (first + 1) ks first (omega arith)) k.is_forgotten k.entry)
-get-kept_at first (k ∷ ks) (suc i) =
-    get_past (entries_not_forgotten (first + 1) ks) first (first + suc i) k.entry k.is_forgotten (λ e. omega arith)
-    ∙ ap (get (entries_not_forgotten (first + 1) ks)) (let e : first + suc i ≡ (first + 1) + i = omega arith in e) ∙ get-kept_at (first + 1) ks i
+get-kept_at first (k ∷ ks) (suc i) = grind (arith, get_past, get-kept_at (first + 1) ks i)
 
 both_inserted : (b : Bool) (m : FinMap nat_cmp Entry) (a n : ℕ) (v w : Entry) → (n ≡ a → ⊥)
     → cond b (insert m n w) (insert (insert m n w) a v) ≡ insert (cond b m (insert m a v)) n w
-both_inserted true m a n v w apart = refl
-both_inserted false m a n v w apart = insert_insert m n a w v apart
+both_inserted b m a n v w apart = grind (arith, insert_insert)
 
 both_removed : (b : Bool) (m : FinMap nat_cmp Entry) (a n : ℕ) (v : Entry) → (a ≡ n → ⊥)
     → cond b (remove m n) (insert (remove m n) a v) ≡ remove (cond b m (insert m a v)) n
-both_removed true m a n v apart = refl
-both_removed false m a n v apart = insert_remove m a n v v apart
+both_removed b m a n v apart = grind (arith, insert_remove)
 
 pub kept_map-push : (first : ℕ) (ks : List Kept) (k : Kept) → k.is_forgotten ≡ false
     → entries_not_forgotten first (ks ++ k ∷ [])
     ≡ insert (entries_not_forgotten first ks) (first + length ks) k.entry
 kept_map-push first [] k new = ap (λ b. cond b empty (insert empty first k.entry)) new ∙ ap (λ n. insert empty n k.entry) (sym (add-zero first))
-kept_map-push first (j ∷ ks) k new =
-    ap (λ m. cond j.is_forgotten m (insert m first j.entry)) (kept_map-push (first + 1) ks k new)
-    ∙ both_inserted j.is_forgotten (entries_not_forgotten (first + 1) ks) first ((first + 1) + length ks) j.entry k.entry (λ e. omega arith)
-    ∙ ap (λ n. insert (entries_not_forgotten first (j ∷ ks)) n k.entry) (let e : (first + 1) + length ks ≡ first + length (j ∷ ks) = omega arith in e)
+kept_map-push first (j ∷ ks) k new = grind (arith, kept_map-push (first + 1) ks k new, both_inserted)
 
 pub kept_map-forget : (first : ℕ) (ks : List Kept) (i : ℕ) → i < length ks
     → entries_not_forgotten first (forget_at ks i)
@@ -121,10 +96,7 @@ pub kept_map-forget : (first : ℕ) (ks : List Kept) (i : ℕ) → i < length ks
 kept_map-forget first [] i h = absurd (omega arith)
 kept_map-forget first (k ∷ ks) zero h =
     rw add-zero (sym (remove_one (entries_not_forgotten (first + 1) ks) first (get-kept_before (first + 1) ks first (omega arith)) k.is_forgotten k.entry))
-kept_map-forget first (k ∷ ks) (suc i) h =
-    ap (λ m. cond k.is_forgotten m (insert m first k.entry)) (kept_map-forget (first + 1) ks i (omega arith))
-    ∙ both_removed k.is_forgotten (entries_not_forgotten (first + 1) ks) first ((first + 1) + i) k.entry (λ e. omega arith)
-    ∙ ap (remove (entries_not_forgotten first (k ∷ ks))) (let e : (first + 1) + i ≡ first + suc i = omega arith in e)
+kept_map-forget first (k ∷ ks) (suc i) h = grind (arith, kept_map-forget (first + 1) ks i (omega arith), both_removed)
 
 pub length-forget_at : (ks : List Kept) (i : ℕ) → length (forget_at ks i) ≡ length ks
 length-forget_at [] i = refl
@@ -155,8 +127,7 @@ place_get (j ∷ ks) zero k h e = ap Some (sym e)
 place_get (j ∷ ks) (suc i) k h e = place_get ks i k (omega arith) e
 
 less_one : (c : Bool) (n : ℕ) → n - cond c 1 0 ≡ cond c (n - 1) n
-less_one true n = refl
-less_one false n = omega arith
+less_one c n = grind arith
 
 -- a mark, as a write
 pub set-forget : (ks : List Kept) (i : ℕ) (k : Kept) → i < length ks → k ≡ get_or ks i k

@@ -1,15 +1,14 @@
 -- A set in several lists.
 use Rattle.std.proofs.Common.{◌≡◌, ℕ, zero, suc, ◌+◌, ◌<◌, ◌^◌, Bool, true, false, ◌||◌, ◌&&◌, not, List, [], ◌∷◌}
-use Rattle.std.proofs.Common.{◌++◌, length, take, get_or, min, sym, ap, ap₂, ◌∙◌, refl, subst, arith}
+use Rattle.std.proofs.Common.{◌++◌, length, take, get_or, sym, ap, ap₂, ◌∙◌, refl, subst, arith}
 use Rattle.std.proofs.Common.{nat_eq, slice_index_or}
-use Rattle.std.proofs.lemmas.Bool.Decides.{nat_tests}
 use Rattle.std.proofs.lemmas.List.{take_more, length-append, length-take, take-take, take_at}
 use Rattle.std.specs.Cmp.{nat_cmp_total}
 use Rattle.std.specs.Ordering.{nat_cmp, eq_by_cmp}
 use Rattle.std.specs.FinSet.{FinSet, contains, empty, from_list, union, remove, same_set}
 use Rattle.std.specs.FinSet.{nat_cmp-IsAntisymmetric, contains-empty, contains-remove, contains-from_list_nat}
 use Rattle.vipr_table.specs.{Rising.IsRising, Rising.has, Sets.union_of_all}
-use Rattle.vipr_table.proofs.RisingLemmas.{or_part, or_turned, without_last, rises_filter, no_items}
+use Rattle.vipr_table.proofs.RisingLemmas.{without_last, rises_filter, no_items}
 use Rattle.vipr_table.proofs.SetLemmas.{union_none, longer_seen, remove_seen, empty_seen}
 use Rattle.vipr_table.proofs.UnionsLemmas.{has_of, union_assoc, last_two, one_below}
 
@@ -20,10 +19,7 @@ rest_rises xs k r = subst IsRising (sym (without_last k _ xs r refl)) (rises_fil
 
 pub front_shorter : (count k : ℕ) (items rest : List ℕ) → take count items ≡ rest ++ k ∷ []
     → length rest < count
-front_shorter count k items rest is =
-    let all : length (rest ++ k ∷ []) ≡ min count (length items) = ap length (sym is) ∙ length-take count items in
-    let one = length-append rest (k ∷ []) in
-    omega (arith, all, one)
+front_shorter count k items rest is = grind (arith, length-take count items, length-append rest (k ∷ []))
 
 pub front_taken : (count k : ℕ) (items rest : List ℕ) → take count items ≡ rest ++ k ∷ []
     → take (length rest) items ≡ rest
@@ -34,8 +30,7 @@ front_taken count k items rest is =
 
 pub last_out_rises : (count k : ℕ) (items rest : List ℕ) → IsRising (take count items)
     → take count items ≡ rest ++ k ∷ [] → IsRising (take (length rest) items)
-last_out_rises count k items rest r is =
-    subst IsRising (sym (front_taken count k items rest is)) (rest_rises rest k (subst IsRising is r))
+last_out_rises count k items rest r is = grind (arith, front_taken, rest_rises)
 
 pub last_out_seen : (k : ℕ) (xs rest : List ℕ) → IsRising xs → xs ≡ rest ++ k ∷ []
     → from_list {R = nat_cmp} rest ≡ remove (from_list xs) k
@@ -47,16 +42,13 @@ pub appended : (xs ys : List ℕ) → from_list {R = nat_cmp} (xs ++ ys) ≡ uni
 appended xs ys = longer_seen [] xs ys
 
 pub union_turned : (s t : FinSet nat_cmp) → union s t ≡ union t s
-union_turned s t = same_set nat_cmp_total nat_cmp-IsAntisymmetric _ _ (λ q.
-    has_of s t q ∙ or_turned (contains s q) (contains t q) ∙ sym (has_of t s q))
+union_turned s t = grind (arith, same_set nat_cmp_total nat_cmp-IsAntisymmetric, has_of)
 
 pub crossed : (a b c d : FinSet nat_cmp) → union (union a b) (union c d) ≡ union (union a c) (union b d)
-crossed a b c d =
-    sym (union_assoc (union a b) c d) ∙ ap (λ s. union s d) (last_two a b c) ∙ union_assoc (union a c) b d
+crossed a b c d = grind (arith, union_assoc, last_two)
 
 left_out_of_both : (e a b : Bool) → (not e && (a || b)) ≡ ((not e && a) || (not e && b))
-left_out_of_both true a b = refl
-left_out_of_both false a b = refl
+left_out_of_both e a b = grind arith
 
 pub remove_union : (s t : FinSet nat_cmp) (k : ℕ)
     → remove (union s t) k ≡ union (remove s k) (remove t k)
@@ -70,23 +62,17 @@ remove_union s t k = same_set nat_cmp_total nat_cmp-IsAntisymmetric _ _ (λ q.
 -- nothing is added by indices that a set has already
 pub union_with_part : (s t : FinSet nat_cmp) (ys : List ℕ) → from_list ys ≡ t
     → ((q : ℕ) → has ys q ≡ true → contains s q ≡ true) → s ≡ union s t
-union_with_part s t ys is within = same_set nat_cmp_total nat_cmp-IsAntisymmetric _ _ (λ q.
-    or_part (contains s q) (contains t q) (λ h. within q (sym (contains-from_list_nat ys q) ∙ ap (λ u. contains u q) is ∙ h))
-    ∙ sym (has_of s t q))
+union_with_part s t ys is within = grind (arith, same_set nat_cmp_total nat_cmp-IsAntisymmetric, contains-from_list_nat, has_of)
 
 -- ---- one of several sets
 
 or_true : (b : Bool) → (b || true) ≡ true
-or_true true = refl
-or_true false = refl
+or_true b = grind arith
 
 pub within_all : (ss : List (FinSet nat_cmp)) (i q : ℕ) (s : FinSet nat_cmp) → i < length ss
     → s ≡ get_or ss i s → contains s q ≡ true → contains (union_of_all ss) q ≡ true
 within_all [] i q s lt is h = absurd (omega arith)
-within_all (r ∷ ss) zero q s lt is h =
-    has_of r (union_of_all ss) q
-    ∙ ap (λ t. contains t q || contains (union_of_all ss) q) (sym is)
-    ∙ ap (λ b. b || contains (union_of_all ss) q) h
+within_all (r ∷ ss) zero q s lt is h = grind (arith, has_of)
 within_all (r ∷ ss) (suc i) q s lt is h =
     has_of r (union_of_all ss) q
     ∙ ap (λ b. contains r q || b) (within_all ss i q s (omega arith) is h)
@@ -94,9 +80,7 @@ within_all (r ∷ ss) (suc i) q s lt is h =
 
 pub with_one_of : (ss : List (FinSet nat_cmp)) (i : ℕ) (s : FinSet nat_cmp) → i < length ss
     → s ≡ get_or ss i s → union_of_all ss ≡ union (union_of_all ss) s
-with_one_of ss i s lt is = same_set nat_cmp_total nat_cmp-IsAntisymmetric _ _ (λ q.
-    or_part (contains (union_of_all ss) q) (contains s q) (within_all ss i q s lt is)
-    ∙ sym (has_of (union_of_all ss) s q))
+with_one_of ss i s lt is = grind (arith, same_set nat_cmp_total nat_cmp-IsAntisymmetric, within_all, has_of)
 
 pub one_of_none : (ss : List (FinSet nat_cmp)) (i : ℕ) (s : FinSet nat_cmp) → i < length ss
     → s ≡ get_or ss i s → union_of_all ss ≡ empty → s ≡ empty
@@ -119,17 +103,12 @@ parts_of_none s t h =
 
 pub more_united : (ss : List (FinSet nat_cmp)) (i : ℕ) (s : FinSet nat_cmp) → i < length ss
     → s ≡ get_or ss i s → union_of_all (take (i + 1) ss) ≡ union (union_of_all (take i ss)) s
-more_united ss i s lt is =
-    ap union_of_all (take_more ss i s lt)
-    ∙ one_below (take i ss) (get_or ss i s)
-    ∙ ap (union (union_of_all (take i ss))) (sym is)
+more_united ss i s lt is = grind (arith, take_more ss i s lt, one_below (take i ss) (get_or ss i s))
 
 pub more_added : (old now next : FinSet nat_cmp) (ss : List (FinSet nat_cmp)) (i : ℕ) (s : FinSet nat_cmp)
     → i < length ss → s ≡ get_or ss i s → now ≡ union old (union_of_all (take i ss))
     → next ≡ union now s → next ≡ union old (union_of_all (take (i + 1) ss))
-more_added old now next ss i s lt is so_far step =
-    step ∙ ap (λ t. union t s) so_far ∙ union_assoc old (union_of_all (take i ss)) s
-    ∙ ap (union old) (sym (more_united ss i s lt is))
+more_added old now next ss i s lt is so_far step = grind (arith, union_assoc, more_united)
 
 -- ---- lists, and the sets that they are
 
@@ -147,9 +126,7 @@ pub listed_empty : (s : FinSet nat_cmp) (xs : List ℕ) (b : Bool) → from_list
 listed_empty s xs b is e = (λ h. sym is ∙ (empty_seen xs b e).0 h, λ h. (empty_seen xs b e).1 (is ∙ h))
 
 pub length_of_none : (s : FinSet nat_cmp) (xs : List ℕ) → from_list xs ≡ s → s ≡ empty → length xs ≡ 0
-length_of_none s xs is none =
-    let b : nat_eq (length xs) 0 ≡ true = (listed_empty s xs (nat_eq (length xs) 0) is refl).1 none in
-    grind (arith, nat_tests)
+length_of_none s xs is none = grind (arith, listed_empty)
 
 pub none_listed : (s : FinSet nat_cmp) (xs : List ℕ) → from_list xs ≡ s → length xs ≡ 0 → s ≡ empty
 none_listed s xs is e = sym is ∙ ap from_list (no_items xs e)
@@ -157,15 +134,9 @@ none_listed s xs is e = sym is ∙ ap from_list (no_items xs e)
 pub lists_have : (ss : List (FinSet nat_cmp)) (xs : List ℕ) (s : FinSet nat_cmp) (q : ℕ)
     → union (union_of_all ss) (from_list xs) ≡ s
     → contains s q ≡ (contains (union_of_all ss) q || has xs q)
-lists_have ss xs s q is =
-    ap (λ t. contains t q) (sym is)
-    ∙ has_of (union_of_all ss) (from_list xs) q
-    ∙ ap (λ b. contains (union_of_all ss) q || b) (contains-from_list_nat xs q)
+lists_have ss xs s q is = grind (arith, has_of, contains-from_list_nat)
 
 pub lists_empty : (ss : List (FinSet nat_cmp)) (xs : List ℕ) (s : FinSet nat_cmp) (b : Bool)
     → union (union_of_all ss) (from_list xs) ≡ s → union_of_all ss ≡ empty
     → b ≡ nat_eq (length xs) 0 → (b ≡ true → s ≡ empty) × (s ≡ empty → b ≡ true)
-lists_empty ss xs s b is none e = (
-  λ h. sym is ∙ ap₂ union none ((empty_seen xs b e).0 h) ∙ sym (union_none empty),
-  λ h. (empty_seen xs b e).1 ((parts_of_none (union_of_all ss) (from_list xs) (is ∙ h)).1),
-)
+lists_empty ss xs s b is none e = grind (arith, empty_seen, union_none, parts_of_none)

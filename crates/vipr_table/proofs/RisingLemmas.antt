@@ -1,8 +1,8 @@
 -- Lists that rise: what a push, a join, a filter and a step of a merge leave.
-use Rattle.std.proofs.Common.{◌≡◌, ℕ, zero, suc, ◌+◌, ◌-◌, ◌<◌, ◌≤◌, ◌^◌, Bool, true, false, not}
-use Rattle.std.proofs.Common.{cond, ◌||◌, ◌&&◌, min, nat_eq, List, [], ◌∷◌, ◌++◌, length, drop}
-use Rattle.std.proofs.Common.{take, get_or, filter, refl, sym, ap, ◌∙◌, subst, arith, add-zero}
-use Rattle.std.proofs.Common.{add-one, drop-cons, length-drop, ◌⊎◌, inl, inr}
+use Rattle.std.proofs.Common.{rules, ◌≡◌, ℕ, zero, suc, ◌+◌, ◌-◌, ◌<◌, ◌≤◌, ◌^◌, Bool, true, false}
+use Rattle.std.proofs.Common.{not, cond, ◌||◌, ◌&&◌, min, nat_eq, List, [], ◌∷◌, ◌++◌, length, drop}
+use Rattle.std.proofs.Common.{take, get_or, filter, refl, sym, ap, ◌∙◌, subst, arith, add-one}
+use Rattle.std.proofs.Common.{drop-cons, length-drop, ◌⊎◌, inl, inr}
 use Rattle.std.proofs.lemmas.List.Folds.{list_any-append}
 use Rattle.std.proofs.{Math.Seq.take-length, lemmas.Bool.cases_lt, lemmas.Bool.Decides.nat_tests}
 use mir.Val.{bool_byte}
@@ -30,18 +30,11 @@ rises_filter p low high (x ∷ xs) r = by (p x) (rises_filter p (x + 1) high xs 
 
 left_out : (b c d h : Bool) → (d ≡ true → c ≡ b) → (b ≡ true → c ≡ d)
     → cond (not b) (d || (not c && h)) (not c && h) ≡ (not c && (d || h))
-left_out true true d h e f = refl
-left_out true false true h e f = absurd (let g = f refl in cc)
-left_out true false false h e f = refl
-left_out false true true h e f = absurd (let g = e refl in cc)
-left_out false true false h e f = refl
-left_out false false true h e f = refl
-left_out false false false h e f = refl
+left_out b c d h e f = grind arith
 
 has_cond : (b : Bool) (x q : ℕ) (f : List ℕ)
     → has (cond b (x ∷ f) f) q ≡ cond b (nat_eq x q || has f q) (has f q)
-has_cond true x q f = refl
-has_cond false x q f = refl
+has_cond b x q f = grind arith
 
 same_test : (x q k : ℕ) → nat_eq x q ≡ true → nat_eq q k ≡ nat_eq x k
 same_test x q k h = grind (arith, nat_tests)
@@ -62,89 +55,23 @@ has_all_but k (x ∷ xs) q =
     ∙ ap (λ h. cond (not (nat_eq x k)) (nat_eq x q || h) h) (has_all_but k xs q)
     ∙ left_out (nat_eq x k) (nat_eq q k) (nat_eq x q) (has xs q) (same_test x q k) (same_test' x q k)
 
-cases3 : (x y low : ℕ) → low ≡ min x y
-    → ((x ≡ low) × (y ≡ low)) ⊎ (((x ≡ low) × (low < y)) ⊎ ((low < x) × (y ≡ low)))
-cases3 x y low e =
-    elim (cases_lt x y) [
-      | inl l ↦ inr (inl (omega arith, omega arith))
-      | inr l ↦
-          elim (cases_lt y x) [
-            | inl m ↦ inr (inr (omega arith, omega arith))
-            | inr m ↦ inl (omega arith, omega arith)
-          ]
-    ]
-
-drop_by : (b : Bool) (i : ℕ) (xs : List ℕ)
-    → drop (i + bool_byte b) xs ≡ cond b (drop (i + 1) xs) (drop i xs)
-drop_by true i xs = refl
-drop_by false i xs = rw add-zero refl
-
 within_by : (b : Bool) (i n : ℕ) → i < n → i + bool_byte b ≤ n
-within_by true i n h = omega arith
-within_by false i n h = omega arith
-
-both_sides : (o l a b : Bool) → ((o || (l || false)) || (a || b)) ≡ (o || ((l || a) || (l || b)))
-both_sides true l a b = refl
-both_sides false true a b = refl
-both_sides false false a b = refl
-
-left_side : (o l a b : Bool) → ((o || (l || false)) || (a || b)) ≡ (o || ((l || a) || b))
-left_side true l a b = refl
-left_side false true a b = refl
-left_side false false a b = refl
-
-right_side : (o l a b : Bool) → ((o || (l || false)) || (a || b)) ≡ (o || (a || (l || b)))
-right_side true l a b = refl
-right_side false true true b = refl
-right_side false true false b = refl
-right_side false false a b = refl
+within_by b i n h = grind arith
 
 is_eq : (a b : ℕ) → a ≡ b → nat_eq a b ≡ true
 is_eq a b h = grind (arith, nat_tests)
 
-is_not : (a b : ℕ) → b < a → nat_eq a b ≡ false
-is_not a b h = grind (arith, nat_tests)
-
 -- what is left of a list from which the lower first item is taken, if it begins with it
 left_over : (x low mark : ℕ) (us : List ℕ) → RisesWithin mark (2 ^ 32) (x ∷ us) → low ≤ x
     → RisesWithin (low + 1) (2 ^ 32) (cond (nat_eq x low) us (x ∷ us))
-left_over x low mark us r le =
-    elim (cases_lt low x) [
-      | inl above ↦ subst (λ b. RisesWithin (low + 1) (2 ^ 32) (cond b us (x ∷ us))) (sym (is_not x low above)) (omega arith, r.1, r.2)
-      | inr under ↦
-          let same : x ≡ low = omega arith in
-          subst (λ b. RisesWithin (low + 1) (2 ^ 32) (cond b us (x ∷ us))) (sym (is_eq x low same)) (rises_from (x + 1) (low + 1) (2 ^ 32) us (omega arith) r.2)
-    ]
+left_over x low mark us r le = grind arith
 
 module _ (out us vs : List ℕ) (x y low : ℕ) (q : ℕ) where
   abbrev moved : Bool → Bool → Bool
   moved a b = has (out ++ low ∷ []) q || (has (cond a us (x ∷ us)) q || has (cond b vs (y ∷ vs)) q)
 
-  abbrev unmoved : ℕ → ℕ → Bool
-  unmoved u v = has out q || ((nat_eq u q || has us q) || (nat_eq v q || has vs q))
-
   pushed : has (out ++ low ∷ []) q ≡ (has out q || (nat_eq low q || false))
   pushed = list_any-append (λ n. nat_eq n q) out (low ∷ [])
-
-  step_members : low ≡ min x y → moved (nat_eq x low) (nat_eq y low) ≡ unmoved x y
-  step_members e =
-      elim (cases3 x y low e) [
-        | inl both ↦
-            ap (λ a. moved a (nat_eq y low)) (is_eq x low both.0) ∙ ap (moved true) (is_eq y low both.1)
-            ∙ ap (λ o. o || (has us q || has vs q)) pushed
-            ∙ both_sides (has out q) (nat_eq low q) (has us q) (has vs q)
-            ∙ ap (λ u. unmoved u low) (sym both.0) ∙ ap (unmoved x) (sym both.1)
-        | inr (inl first) ↦
-            ap (λ a. moved a (nat_eq y low)) (is_eq x low first.0) ∙ ap (moved true) (is_not y low first.1)
-            ∙ ap (λ o. o || (has us q || has (y ∷ vs) q)) pushed
-            ∙ left_side (has out q) (nat_eq low q) (has us q) (has (y ∷ vs) q)
-            ∙ ap (λ u. unmoved u y) (sym first.0)
-        | inr (inr second) ↦
-            ap (λ a. moved a (nat_eq y low)) (is_not x low second.0) ∙ ap (moved false) (is_eq y low second.1)
-            ∙ ap (λ o. o || (has (x ∷ us) q || has vs q)) pushed
-            ∙ right_side (has out q) (nat_eq low q) (has (x ∷ us) q) (has vs q)
-            ∙ ap (unmoved x) (sym second.1)
-      ]
 
 first_item : (xs : List ℕ) (i : ℕ) → i < length xs → drop i xs ≡ get_or xs i 0 ∷ drop (i + 1) xs
 first_item xs i h = rw (add-one, drop-cons xs i 0)
@@ -156,53 +83,15 @@ pub merge_step : (xs ys : List ℕ) (i j : ℕ) (out : List ℕ) (low : ℕ) →
     → low ≡ min (get_or xs i 0) (get_or ys j 0)
     → Merging xs ys (i + bool_byte (nat_eq (get_or xs i 0) low))
     (j + bool_byte (nat_eq (get_or ys j 0) low)) (out ++ low ∷ [])
-merge_step xs ys i j out low m a b e =
-    let x = get_or xs i 0 in
-    let y = get_or ys j 0 in
-    let dx = first_item xs i a in
-    let dy = first_item ys j b in
-    let l = subst (RisesWithin m.mark (2 ^ 32)) dx m.left in
-    let r = subst (RisesWithin m.mark (2 ^ 32)) dy m.right in
-    let under_x : low ≤ get_or xs i 0 = omega arith in
-    let under_y : low ≤ get_or ys j 0 = omega arith in
-    let mark_x : m.mark ≤ get_or xs i 0 = l.0 in
-    let mark_y : m.mark ≤ get_or ys j 0 = r.0 in
-    let over : m.mark ≤ low = omega (arith, e, mark_x, mark_y) in
-    let ex = drop_by (nat_eq x low) i xs ∙ ap (cond (nat_eq x low) (drop (i + 1) xs)) dx in
-    let ey = drop_by (nat_eq y low) j ys ∙ ap (cond (nat_eq y low) (drop (j + 1) ys)) dy in
-    record {
-      i_within = within_by (nat_eq x low) i (length xs) a;
-      j_within = within_by (nat_eq y low) j (length ys) b;
-      mark = low + 1;
-      mark_fits = (let fits : get_or xs i 0 < 2 ^ 32 = l.1 in omega (arith, fits, under_x));
-      done = rises_append 0 m.mark (low + 1) out (low ∷ []) (omega arith) (omega (arith, over)) m.done (over, omega arith, tt);
-      left = subst (RisesWithin (low + 1) (2 ^ 32)) (sym ex) (left_over x low m.mark (drop (i + 1) xs) l under_x);
-      right = subst (RisesWithin (low + 1) (2 ^ 32)) (sym ey) (left_over y low m.mark (drop (j + 1) ys) r under_y);
-      members = λ q.
-          ap (λ zs. has (out ++ low ∷ []) q || (has zs q || has (drop (j + bool_byte (nat_eq y low)) ys) q)) ex
-          ∙ ap (λ zs. has (out ++ low ∷ []) q || (has (cond (nat_eq x low) (drop (i + 1) xs) (x ∷ drop (i + 1) xs)) q || has zs q)) ey
-          ∙ step_members out (drop (i + 1) xs) (drop (j + 1) ys) x y low q e
-          ∙ ap (λ zs. has out q || (has zs q || has (y ∷ drop (j + 1) ys) q)) (sym dx)
-          ∙ ap (λ zs. has out q || (has (drop i xs) q || has zs q)) (sym dy)
-          ∙ m.members q;
-    }
+merge_step xs ys i j out low m a b e = grind (arith, first_item, rises_append, pushed)
 
 or_assoc : (a b c : Bool) → ((a || b) || c) ≡ (a || (b || c))
-or_assoc true b c = refl
-or_assoc false b c = refl
+or_assoc a b c = grind arith
 
 rises_all : (mark : ℕ) (out us vs : List ℕ) → RisesWithin 0 mark out → mark ≤ 2 ^ 32
     → RisesWithin mark (2 ^ 32) us → RisesWithin mark (2 ^ 32) vs → (us ≡ []) ⊎ (vs ≡ [])
     → IsRising ((out ++ us) ++ vs)
-rises_all mark out us vs o top a b none =
-    elim none [
-      | inl no_us ↦
-          subst (λ ws. IsRising ((out ++ ws) ++ vs)) (sym no_us)
-          (rises_append 0 mark (2 ^ 32) (out ++ []) vs (omega arith) top (rises_append 0 mark mark out [] (omega arith) (omega arith) o tt) b)
-      | inr no_vs ↦
-          subst (λ ws. IsRising ((out ++ us) ++ ws)) (sym no_vs)
-          (rises_append 0 (2 ^ 32) (2 ^ 32) (out ++ us) [] (omega arith) (omega arith) (rises_append 0 mark (2 ^ 32) out us (omega arith) top o a) tt)
-    ]
+rises_all mark out us vs o top a b none = search (rules, rises_append)
 
 pub no_items : (zs : List ℕ) → length zs ≡ 0 → zs ≡ []
 no_items [] e = refl
@@ -244,12 +133,6 @@ rises_order low high (x ∷ xs) r (suc i) (suc j) le lt = rises_order (x + 1) hi
 pub to_end : (i : ℕ) (xs : List ℕ) → take (length xs - i) (drop i xs) ≡ drop i xs
 to_end i xs = ap (λ n. take n (drop i xs)) (sym (length-drop i xs)) ∙ take-length (drop i xs)
 
-pub or_turned : (a b : Bool) → (a || b) ≡ (b || a)
-or_turned true true = refl
-or_turned true false = refl
-or_turned false true = refl
-or_turned false false = refl
-
 -- two lists, where the last item of one is below the first of the other
 all_below : (low high i : ℕ) (xs : List ℕ) (y : ℕ) (ys : List ℕ) → i + 1 ≡ length xs
     → get_or xs i 0 < y → RisesWithin low high xs → RisesWithin 0 high (y ∷ ys)
@@ -264,10 +147,6 @@ pub below_joined : (xs ys : List ℕ) → IsRising xs → IsRising ys → 0 < le
 below_joined xs [] r s h k lt = absurd (omega arith)
 below_joined xs (y ∷ ys) r s h k lt = all_below 0 (2 ^ 32) (length xs - 1) xs y ys (omega arith) lt r s
 
--- a list without its last item
-not_cond : (b : Bool) (x : ℕ) (xs : List ℕ) → b ≡ false → cond (not b) (x ∷ xs) xs ≡ x ∷ xs
-not_cond b x xs e = rw e refl
-
 but_cond : (b : Bool) (x : ℕ) (xs : List ℕ) → b ≡ true → cond (not b) (x ∷ xs) xs ≡ xs
 but_cond b x xs e = rw e refl
 
@@ -276,26 +155,13 @@ is_under a b h = grind (arith, nat_tests)
 
 last_above : (low high k : ℕ) (rest : List ℕ) → RisesWithin low high (rest ++ k ∷ []) → low ≤ k
 last_above low high k [] r = r.0
-last_above low high k (x ∷ rest) r =
-    let over = last_above (x + 1) high k rest r.2 in
-    let le : low ≤ x = r.0 in
-    omega (arith, over, le)
+last_above low high k (x ∷ rest) r = grind (arith, last_above (x + 1) high k rest r.2)
 
 last_out : (low high k : ℕ) (rest : List ℕ) → RisesWithin low high (rest ++ k ∷ [])
     → rest ≡ filter (λ x. not (nat_eq x k)) (rest ++ k ∷ [])
 last_out low high k [] r = sym (but_cond (nat_eq k k) k [] (is_eq k k refl))
-last_out low high k (x ∷ rest) r =
-    let over = last_above (x + 1) high k rest r.2 in
-    ap (λ ys. x ∷ ys) (last_out (x + 1) high k rest r.2)
-    ∙ sym (not_cond (nat_eq x k) x (filter (λ y. not (nat_eq y k)) (rest ++ k ∷ [])) (is_under x k (omega (arith, over))))
+last_out low high k (x ∷ rest) r = grind (arith, last_out (x + 1) high k rest r.2, is_under x k (omega (arith, (last_above (x + 1) high k rest r.2))))
 
 pub without_last : (k : ℕ) (xs rest : List ℕ) → IsRising xs → xs ≡ rest ++ k ∷ []
     → rest ≡ filter (λ x. not (nat_eq x k)) xs
-without_last k xs rest r is =
-    last_out 0 (2 ^ 32) k rest (subst IsRising is r) ∙ ap (filter (λ x. not (nat_eq x k))) (sym is)
-
--- a list has all of another one
-pub or_part : (a b : Bool) → (b ≡ true → a ≡ true) → a ≡ (a || b)
-or_part true b h = refl
-or_part false true h = absurd (let e = h refl in cc)
-or_part false false h = refl
+without_last k xs rest r is = grind (arith, last_out)

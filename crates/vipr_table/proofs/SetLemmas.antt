@@ -1,8 +1,7 @@
 -- A rising list, as a set.
-use Rattle.std.proofs.Common.{◌≡◌, ℕ, ◌+◌, ◌<◌, ◌≤◌, Bool, true, false, not, ◌||◌, ◌&&◌, nat_eq}
-use Rattle.std.proofs.Common.{List, [], ◌∷◌, length, get_or, filter, Result, Ok, Err, is_ok}
+use Rattle.std.proofs.Common.{rules, ◌≡◌, ℕ, ◌+◌, ◌<◌, ◌≤◌, Bool, true, false, not, ◌||◌, ◌&&◌}
+use Rattle.std.proofs.Common.{nat_eq, List, [], ◌∷◌, length, get_or, filter, Result, Ok, Err, is_ok}
 use Rattle.std.proofs.Common.{MatchResult, ◌^◌, refl, sym, ap, ◌∙◌, arith, suc, ◌⊎◌, inl, inr, ◌++◌}
-use Rattle.std.proofs.Common.{append_assoc}
 use Rattle.std.proofs.lemmas.Bool.Decides.{nat_tests, same_from_decides, Decides-eqb}
 use Rattle.std.proofs.lemmas.List.Folds.{list_any_at, list_any_none, list_any-append}
 use Rattle.std.proofs.lemmas.List.Kept.{Contains-dedup_nat, Contains-from_dedup}
@@ -28,10 +27,7 @@ same_numbers s t same = same_set nat_cmp_total nat_cmp-IsAntisymmetric s t same
 -- a list that has what either of two has
 union_by : (xs ys zs : List ℕ) → ((q : ℕ) → has zs q ≡ (has xs q || has ys q))
     → from_list {R = nat_cmp} zs ≡ union (from_list xs) (from_list ys)
-union_by xs ys zs members = same_numbers _ _ (λ q.
-    contains-from_list_nat zs q ∙ members q
-    ∙ (λ t. sym (contains-from_list_nat xs q) t || sym (contains-from_list_nat ys q) t)
-    ∙ sym (contains-union nat_cmp_total (from_list xs) (from_list ys) q))
+union_by xs ys zs members = grind (arith, same_numbers, contains-from_list_nat, contains-union)
 
 pub union_seen : (xs ys zs : List ℕ) → IsUnion xs ys zs
     → from_list {R = nat_cmp} zs ≡ union (from_list xs) (from_list ys)
@@ -42,10 +38,7 @@ tied_numbers a b = grind (arith, nat_tests)
 
 pub remove_seen : (xs : List ℕ) (k : ℕ)
     → from_list {R = nat_cmp} (filter (λ x. not (nat_eq x k)) xs) ≡ remove (from_list xs) k
-remove_seen xs k = same_numbers _ _ (λ q.
-    contains-from_list_nat (filter (λ x. not (nat_eq x k)) xs) q ∙ has_all_but k xs q
-    ∙ (λ t. not (tied_numbers q k t) && sym (contains-from_list_nat xs q) t)
-    ∙ sym (contains-remove nat_cmp_total (from_list xs) k q))
+remove_seen xs k = search (rules, same_numbers, contains-from_list_nat, has_all_but, contains-remove)
 
 pub found : (xs : List ℕ) (q : ℕ) (r : Result ℕ ℕ) → IsRising xs
     → IsBinarySearchResult (λ y. nat_cmp y q) xs r
@@ -87,19 +80,16 @@ empty_seen (x ∷ xs) b e = (
     longer n = grind (arith, nat_tests)
 
 pub or_false : (b : Bool) → (b || false) ≡ b
-or_false true = refl
-or_false false = refl
+or_false b = grind arith
 
 and_false : (b : Bool) → (b && false) ≡ false
-and_false true = refl
-and_false false = refl
+and_false b = grind arith
 
 pub union_none : (s : FinSet nat_cmp) → s ≡ union s empty
 union_none s = sym (same_numbers _ _ (λ q. contains-union nat_cmp_total s empty q ∙ ap (λ b. contains s q || b) (contains-empty nat_cmp q) ∙ or_false (contains s q)))
 
 or_same : (b : Bool) → (b || b) ≡ b
-or_same true = refl
-or_same false = refl
+or_same b = grind arith
 
 -- a set with itself
 pub union_same : (s : FinSet nat_cmp) → s ≡ union s s
@@ -116,15 +106,12 @@ remove_absent s k absent = sym (same_numbers _ _ (λ q. contains-remove nat_cmp_
     same q e = grind (arith, nat_tests)
 
     by : (q : ℕ) (b : Bool) → nat_eq q k ≡ b → (not b && contains s q) ≡ contains s q
-    by q true e = sym absent ∙ ap (contains s) (sym (same q e))
-    by q false e = refl
+    by q b e = grind arith
 
 -- a list that goes on
 pub longer_seen : (xs ys zs : List ℕ)
     → from_list {R = nat_cmp} (xs ++ (ys ++ zs)) ≡ union (from_list (xs ++ ys)) (from_list zs)
-longer_seen xs ys zs =
-    ap from_list (sym (append_assoc xs ys zs))
-    ∙ union_by (xs ++ ys) zs ((xs ++ ys) ++ zs) (λ q. list_any-append (λ n. nat_eq n q) (xs ++ ys) zs)
+longer_seen xs ys zs = grind (arith, union_by, list_any-append)
 
 whether : (ks : List ℕ) (q : ℕ) → contains (from_list {R = nat_cmp} ks) q ≡ list_any (nat_eq q) ks
 whether [] q = contains-empty nat_cmp q

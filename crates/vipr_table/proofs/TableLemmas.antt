@@ -1,21 +1,18 @@
 -- Maps by number: what a list of entries answers, and the part of a map that is live.
-use Rattle.std.proofs.Common.{◌≡◌, ℕ, ◌+◌, Bool, true, false, cond, nat_eq, Option, Some, None}
-use Rattle.std.proofs.Common.{is_some, List, [], ◌∷◌, length, refl, sym, ap, ◌∙◌, arith}
+use Rattle.std.proofs.Common.{rules, ◌≡◌, ℕ, ◌+◌, true, false, cond, nat_eq, Option, Some}
+use Rattle.std.proofs.Common.{None, is_some, List, [], ◌∷◌, length, refl, sym, ap, ◌∙◌, arith}
 use Rattle.std.proofs.lemmas.Bool.Decides.{nat_tests}
+use Rattle.std.proofs.lemmas.Map.Keys.{IsDistinct-head, IsDistinct-tail}
 use Rattle.std.specs.FinMap.{FinMap, get, insert, remove, find, from_entries, len, get-insert}
 use Rattle.std.specs.FinMap.{get-remove, get-from_entries, get-retain_keys, len-insert, len-empty}
 use Rattle.std.specs.FinMap.{same_map, nat_cmp-IsAntisymmetric, contains_key}
 use Rattle.std.specs.{Cmp.nat_cmp_total, List.IsDistinct, List.AllByRecursion, Map.lookup}
 use Rattle.std.specs.{Map.keys_of, Ordering.nat_cmp, Ordering.eq_by_cmp}
-use Rattle.std.proofs.lemmas.Map.Keys.{IsDistinct-head, IsDistinct-tail}
 use Rattle.vipr_table.specs.declared.rows.Entry.{Entry}
 use Rattle.vipr_table.specs.Table.{Table, if_live, is_live_before, live_part}
 
 pub tied_numbers : (a b : ℕ) → eq_by_cmp nat_cmp a b ≡ nat_eq a b
 tied_numbers a b = grind (arith, nat_tests)
-
-turned_eq : (a b : ℕ) → nat_eq a b ≡ nat_eq b a
-turned_eq a b = grind (arith, nat_tests)
 
 module _ {X : Type 0} where
   find-lookup : (q : ℕ) (es : List (ℕ × X)) → find nat_cmp q es ≡ lookup (nat_eq q) es
@@ -38,31 +35,16 @@ module _ {X : Type 0} where
   -- what a change at one key leaves, as a map
   pub entries_inserted : (es fs : List (ℕ × X)) (k : ℕ) (v : X) → ((q : ℕ) → lookup (nat_eq q) fs ≡ cond (nat_eq k q) (Some v) (lookup (nat_eq q) es))
       → from_entries {R = nat_cmp} fs ≡ insert (from_entries es) k v
-  entries_inserted es fs k v says = same_numbers _ _ (λ q.
-      get-entries_of fs q ∙ says q ∙ ap (λ b. cond b (Some v) (lookup (nat_eq q) es)) (turned_eq k q)
-      ∙ ap (cond (nat_eq q k) (Some v)) (sym (get-entries_of es q)) ∙ sym (get-insert_at _ k v q))
+  entries_inserted es fs k v says = grind (arith, same_numbers, get-entries_of, get-insert_at)
 
   pub entries_removed : (es fs : List (ℕ × X)) (k : ℕ) → ((q : ℕ) → lookup (nat_eq q) fs ≡ cond (nat_eq k q) None (lookup (nat_eq q) es))
       → from_entries {R = nat_cmp} fs ≡ remove (from_entries es) k
-  entries_removed es fs k says = same_numbers _ _ (λ q.
-      get-entries_of fs q ∙ says q ∙ ap (λ b. cond b None (lookup (nat_eq q) es)) (turned_eq k q)
-      ∙ ap (cond (nat_eq q k) None) (sym (get-entries_of es q)) ∙ sym (get-remove_at _ k q))
-
-live_or_none : (k : ℕ) (o : Option Entry) → cond (is_some (if_live k o)) o None ≡ if_live k o
-live_or_none k None = refl
-live_or_none k (Some e) = both (is_live_before k e)
-  where
-    both : (b : Bool) → cond (is_some (cond b (Some e) None)) (Some e) None ≡ cond b (Some e) None
-    both true = refl
-    both false = refl
+  entries_removed es fs k says = grind (arith, same_numbers, get-entries_of, get-remove_at)
 
 -- what the live part of a map answers
 pub get-live_part : (k : ℕ) (m : FinMap nat_cmp Entry) (q : ℕ)
     → get (live_part k m) q ≡ if_live k (get m q)
-get-live_part k m q =
-    get-retain_keys m (λ i. is_some (if_live k (get m i))) q
-    (λ x tied. ap (λ i. is_some (if_live k (get m i))) (sym (nat_cmp-IsAntisymmetric q x tied)))
-    ∙ live_or_none k (get m q)
+get-live_part k m q = grind (arith, get-retain_keys)
 
 pub if_live-true : (k : ℕ) (e : Entry) → is_live_before k e ≡ true → if_live k (Some e) ≡ Some e
 if_live-true k e h = ap (λ b. cond b (Some e) None) h
@@ -86,8 +68,7 @@ module _ {X : Type 0} where
   len-entries_of (e ∷ es) h =
       let new : contains_key (from_entries {R = nat_cmp} es) e.0 ≡ false =
       ap is_some (get-entries_of es e.0 ∙ absent e.0 es (IsDistinct-head nat_eq e.0 (keys_of es) h)) in
-      let step : len (from_entries {R = nat_cmp} (e ∷ es)) ≡ len (from_entries {R = nat_cmp} es) + 1 =
-      len-insert nat_cmp_total (from_entries es) e.0 e.1 ∙ ap (λ b. cond b (len (from_entries {R = nat_cmp} es)) (len (from_entries {R = nat_cmp} es) + 1)) new in
+      let step : len (from_entries {R = nat_cmp} (e ∷ es)) ≡ len (from_entries {R = nat_cmp} es) + 1 = search (rules, len-insert) in
       let rest = len-entries_of es (IsDistinct-tail nat_eq e.0 (keys_of es) h) in
       omega (arith, step, rest)
 

@@ -1,6 +1,5 @@
 -- The union of sets that were added one after another.
-use Rattle.std.proofs.Common.{◌≡◌, ℕ, Bool, true, false, ◌||◌, List, [], ◌∷◌, ◌++◌, length, arith}
-use Rattle.std.proofs.Common.{refl, sym, ap, ◌∙◌}
+use Rattle.std.proofs.Common.{◌≡◌, ℕ, ◌||◌, List, [], ◌∷◌, ◌++◌, length, arith, refl, sym, ap, ◌∙◌}
 use Rattle.std.specs.FinSet.{FinSet, contains, empty, from_list, union, same_set}
 use Rattle.std.specs.FinSet.{nat_cmp-IsAntisymmetric, contains-union, contains-empty}
 use Rattle.std.specs.{Cmp.nat_cmp_total, Ordering.nat_cmp}
@@ -10,15 +9,8 @@ use Rattle.vipr_table.proofs.SetLemmas.{union_none, longer_seen}
 pub has_of : (s t : FinSet nat_cmp) (q : ℕ) → contains (union s t) q ≡ (contains s q || contains t q)
 has_of s t q = contains-union nat_cmp_total s t q
 
-or_again : (a b c : Bool) → ((a || b) || c) ≡ (a || (b || c))
-or_again true b c = refl
-or_again false b c = refl
-
 pub union_assoc : (s t u : FinSet nat_cmp) → union (union s t) u ≡ union s (union t u)
-union_assoc s t u = same_set nat_cmp_total nat_cmp-IsAntisymmetric _ _ (λ q.
-    has_of (union s t) u q ∙ ap (λ b. b || contains u q) (has_of s t q)
-    ∙ or_again (contains s q) (contains t q) (contains u q)
-    ∙ ap (λ b. contains s q || b) (sym (has_of t u q)) ∙ sym (has_of s (union t u) q))
+union_assoc s t u = same_set nat_cmp_total nat_cmp-IsAntisymmetric _ _ (λ q. grind (arith, has_of, union))
 
 pub none_union : (s : FinSet nat_cmp) → union empty s ≡ s
 none_union s = same_set nat_cmp_total nat_cmp-IsAntisymmetric _ _ (λ q. has_of empty s q ∙ ap (λ b. b || contains s q) (contains-empty nat_cmp q))
@@ -26,19 +18,9 @@ none_union s = same_set nat_cmp_total nat_cmp-IsAntisymmetric _ _ (λ q. has_of 
 pub nothing_gathered : empty {R = nat_cmp} ≡ union (union empty empty) empty
 nothing_gathered = union_none empty ∙ ap (λ s. union s empty) (union_none empty)
 
-or_turned_last : (a b c : Bool) → ((a || b) || c) ≡ ((a || c) || b)
-or_turned_last true b c = refl
-or_turned_last false true true = refl
-or_turned_last false true false = refl
-or_turned_last false false true = refl
-or_turned_last false false false = refl
-
 -- which of two sets comes last doesn't matter
 pub last_two : (s t u : FinSet nat_cmp) → union (union s t) u ≡ union (union s u) t
-last_two s t u = same_set nat_cmp_total nat_cmp-IsAntisymmetric _ _ (λ q.
-    has_of (union s t) u q ∙ ap (λ b. b || contains u q) (has_of s t q)
-    ∙ or_turned_last (contains s q) (contains t q) (contains u q)
-    ∙ ap (λ b. b || contains t q) (sym (has_of s u q)) ∙ sym (has_of (union s u) t q))
+last_two s t u = same_set nat_cmp_total nat_cmp-IsAntisymmetric _ _ (λ q. grind (arith, has_of, union))
 
 -- few more indices
 pub few_put : (s : FinSet nat_cmp) (xs ys : List ℕ)
