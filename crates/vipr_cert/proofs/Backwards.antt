@@ -1,8 +1,8 @@
 -- Derivations that name earlier constraints alone, one after the other and all at once
 use Rattle.std.proofs.Common.{◌≡◌, ℕ, ◌+◌, ◌-◌, ◌<◌, ◌≤◌, List, [], ◌∷◌, ◌++◌, map, length, get_or}
-use Rattle.std.proofs.Common.{Option, Some, None, arith, refl, sym, ap, subst, ◌∙◌, inl, inr}
+use Rattle.std.proofs.Common.{Option, Some, None, arith, refl, sym, ap, subst, ◌∙◌}
 use Rattle.std.proofs.lemmas.List.{get_or-map, length-map, get_or_past}
-use Rattle.std.proofs.{Math.ListN.get_or-append, Math.Seq.get_or-append_right, lemmas.Bool.cases_lt}
+use Rattle.std.proofs.{Math.ListN.get_or-append, Math.Seq.get_or-append_right}
 use Rattle.std.specs.{FinMap.empty, Prelude.◌↔◌}
 use Rattle.vipr_spec.specs.Certificate as is
 use Rattle.vipr_spec.specs.{Certificate.NamesEarlier, Fraction.zero_ℚ, Steps.RefersBack}
@@ -20,10 +20,7 @@ none_yet from ds k l = absurd (omega (arith, l))
 
 module _ (from : ℕ) (ds : List Derivation) (i : ℕ) (d : Derivation) (l : i < length ds) (is : d ≡ get_or ds i d) where
   pub one_earlier : NameEarlierFrom from ds i → NamesEarlier (from + i) (Some (reason_of d.reason)) → NameEarlierFrom from ds (i + 1)
-  one_earlier before this k less = elim (cases_lt k i) [
-    | inl h ↦ before k h
-    | inr h ↦ let e : i ≡ k = omega (arith, h, less) in subst (λ j. NamesEarlier (from + j) (reason_in ds j)) e (subst (NamesEarlier (from + i)) (sym (reason_is ds i d l is)) this)
-  ]
+  one_earlier before this k less = grind (arith, reason_is)
 
   pub this_one : NameEarlierFrom from ds (length ds) → NamesEarlier (from + i) (Some (reason_of d.reason))
   this_one all = subst (NamesEarlier (from + i)) (reason_is ds i d l is) (all i l)
@@ -69,24 +66,13 @@ module _ (c : is.Certificate) (ds : List Derivation) (seen : c.derivations ≡ m
       reason_behind k (omega (arith, h)) ∙ same_in (k - length given) ∙ get_or_past (map (λ d. Some (reason_of d.reason)) ds) (k - length given) None (omega (arith, h, n))
 
   from_here : (k : ℕ) → length given ≤ k → NamesEarlier (length given + (k - length given)) (reason_in ds (k - length given)) → NamesEarlier k (is.reason_at c k)
-  from_here k h n =
-      let there : length given + (k - length given) ≡ k = omega (arith, h) in
-      subst (NamesEarlier k) (sym (reason_behind k h ∙ same_in (k - length given))) (subst (λ j. NamesEarlier j (reason_in ds (k - length given))) there n)
+  from_here k h n = grind (arith, reason_behind, same_in)
 
   earlier_all : NameEarlierFrom (length given) ds (length ds) → RefersBack c
-  earlier_all all k = elim (cases_lt k (length given)) [
-    | inl h ↦ subst (NamesEarlier k) (sym (given_none k h)) tt
-    | inr h ↦ elim (cases_lt k (length given + length ds)) [
-      | inl l ↦ from_here k h (all (k - length given) (omega (arith, h, l)))
-      | inr l ↦ subst (NamesEarlier k) (sym (past k l)) tt
-    ]
-  ]
+  earlier_all all k = grind (arith, given_none, from_here, past)
 
   earlier_each : RefersBack c → NameEarlierFrom (length given) ds (length ds)
-  earlier_each refers k l =
-      let there : length given + k - length given ≡ k = omega arith in
-      let is = reason_behind (length given + k) (omega arith) ∙ ap derived_in there ∙ same_in k in
-      subst (NamesEarlier (length given + k)) is (refers (length given + k))
+  earlier_each refers k l = grind (arith, reason_behind (length given + k) (omega arith), same_in k)
 
   pub back : NameEarlierFrom (length c.problem.constraints) ds (length ds) ↔ RefersBack c
   back = subst (λ n. NameEarlierFrom n ds (length ds) ↔ RefersBack c) size (earlier_all, earlier_each)

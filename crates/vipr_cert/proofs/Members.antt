@@ -69,8 +69,7 @@ rising_kept low (suc n) high (k ∷ ks) e r = elim (cases_lt low k) [
     rest = filter (λ j. list_any (nat_eq j) (k ∷ ks)) (range_with_len (low + 1) n)
 
 begins : (ks : List ℕ) → BeginsFrom 0 ks
-begins [] = tt
-begins (k ∷ ks) = omega arith
+begins ks = grind arith
 
 pub members_are : (ks : List ℕ) (ints : Ints) (n : ℕ) → from_list ks ≡ ints
     → IsStrictlyIncreasing ks → ((j : ℕ) → IsInteger ints j → j < n)
