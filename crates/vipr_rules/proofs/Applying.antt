@@ -1,9 +1,8 @@
 -- What is answered of a derivation, by what the rule of its reason says
-use Rattle.std.proofs.Common.{◌≡◌, ℕ, Some, Ok, Err, Result, Option, refl, sym, ◌∙◌, ap, subst}
+use Rattle.std.proofs.Common.{arith, ◌≡◌, ℕ, Some, Ok, Err, Result, Option, refl, sym, ap, subst}
 use Rattle.std.proofs.Common.{rules}
-use Rattle.std.specs.FinSet.{FinSet, contains}
-use Rattle.std.specs.{Ordering.nat_cmp, Prelude.IsTrue, Prelude.IfOk}
-use Rattle.vipr_spec.specs.Constraint.{Profile, Condition, Point, IsTrueAt}
+use Rattle.std.specs.{FinSet.FinSet, Ordering.nat_cmp, Prelude.IfOk}
+use Rattle.vipr_spec.specs.Constraint.{Profile, Condition, Point}
 use Rattle.vipr_spec.specs.Certificate.{Problem, variables, Certificate, is_assumption}
 use Rattle.vipr_spec.specs.{Fraction.ℚ, Soundness.IsAdmittedBy, Soundness.IsBestValue}
 use Rattle.vipr_linear.specs.Constraint.{condition_of}
@@ -42,9 +41,7 @@ module _ (P : Profile) (p : Problem) (best : Option ℚ) (table : Table) (step :
             (r.0, kept_entry P c (derivation_of step) e back r.0 copy (subst (IsSetByReason c (reason_of step.reason)) (sym rests) r.1) assumed last);
         memory = λ c is of value. tt;
         sound = λ c is of back value. keeps_sound P c (derivation_of step) back (ruled c is of value).0;
-        sound_rows = λ says rows next x admitted h.
-            subst (λ d. IsTrueAt (variables p) d x) (sym copy)
-            (follows says x rows admitted (next ∙ copy) (λ a t. h a (subst (λ z. IsTrue (contains z a)) (sym rests) t)));
+        sound_rows = grind arith;
         stated = states;
       }
 

@@ -3,7 +3,6 @@ use Rattle.std.proofs.Common.{◌≡◌, ℕ, ◌+◌, Bool, true, false, cond, 
 use Rattle.std.proofs.Common.{subst, inl, inr, arith, rules}
 use Rattle.std.proofs.{lemmas.Bool.cases_lt, lemmas.Int.ints}
 use Rattle.std.specs.Prelude.{◌↔◌, ◌*ℤ◌, ◌<ℤ◌}
-use Rattle.std.specs.declared.cmp.Ordering.TheVariants.{Less, Equal, Greater}
 use Rattle.std.specs.Ordering.{MatchOrdering, is_lt, ord_max, ord_min}
 use Rattle.std.specs.{Cmp.int_ranks, declared.cmp.Ordering.Ordering}
 use Rattle.vipr_spec.specs.Constraint.{Constraint, Row, Compares}
@@ -18,9 +17,7 @@ ranked : (a b : ℚ) (r : Ordering) → MatchOrdering r
     (b.numer *ℤ pos a.denom ≡ a.numer *ℤ pos b.denom)
     ((a.numer *ℤ pos b.denom) <ℤ (b.numer *ℤ pos a.denom))
     → MatchBool (is_lt r) (b ≤ℚ a) (a ≤ℚ b)
-ranked a b Less h = record { cross = omega (arith, ints) }
-ranked a b Equal h = record { cross = omega (arith, ints) }
-ranked a b Greater h = record { cross = omega (arith, ints) }
+ranked a b r h = grind arith
 
 is_below : (a b : ℚ) → MatchBool (is_lt (cmp_ℚ b a)) (b ≤ℚ a) (a ≤ℚ b)
 is_below a b = ranked a b _ (int_ranks (b.numer *ℤ pos a.denom) (a.numer *ℤ pos b.denom))

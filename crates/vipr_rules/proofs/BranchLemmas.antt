@@ -1,14 +1,14 @@
 -- What the parts of the tests of two joined branches say of all of them, and what the joined
 -- constraint rests on.
 use Rattle.std.proofs.Common.{◌≡◌, ◌≢◌, ℕ, Bool, true, false, not, ◌&&◌, nat_eq, List, [], ◌∷◌}
-use Rattle.std.proofs.Common.{◌++◌, Option, Some, None, refl, sym, ap, ap₂, ◌∙◌, subst, inl, inr}
+use Rattle.std.proofs.Common.{◌++◌, Option, Some, refl, sym, ap, ap₂, ◌∙◌, subst, inl, inr}
 use Rattle.std.proofs.Common.{arith, rules}
 use Rattle.std.specs.Prelude.{◌↔◌, ◌⊎◌, IsTrue, Result, Ok, Err, IfOk, OnOk, MatchResult}
 use Rattle.std.specs.FinSet.{FinSet, contains, union, remove, contains-remove}
 use Rattle.std.specs.{Cmp.nat_cmp_total, Ordering.nat_cmp, Result.result_and}
 use Rattle.std.proofs.lemmas.Bool.Decides.{nat_tests}
 use Rattle.vipr_spec.specs.Constraint.{Profile, Condition, condition, Ints, IsSplit, Dominates}
-use Rattle.vipr_spec.specs.Certificate.{Certificate, Derivation, Reason, asm, lin, rnd, uns, sol}
+use Rattle.vipr_spec.specs.Certificate.{Certificate, Derivation, Reason, asm, uns}
 use Rattle.vipr_spec.specs.Certificate.{constraint_at, reason_at, is_assumption}
 use Rattle.vipr_spec.specs.Causes as cause
 use Rattle.vipr_spec.specs.Steps.{StepTest, assumed, split, by_constraint, step_tests, index, both}
@@ -16,7 +16,7 @@ use Rattle.vipr_spec.specs.Steps.{compared}
 use Rattle.vipr_linear.specs.{Constraint.condition_of, declared.constraint.Constraint.Constraint}
 use Rattle.vipr_rules.specs.declared.error.RuleError.{RuleError}
 use Rattle.vipr_rules.specs.declared.error.RuleError.TheVariants.{NotAssumption, Memory}
-use Rattle.vipr_rules.specs.Context.{IsKnownAs, IsSetWithout, IsSetByReason, set_of, is_assumed}
+use Rattle.vipr_rules.specs.Context.{IsKnownAs, IsSetByReason, set_of, is_assumed}
 use Rattle.vipr_rules.specs.Apply.{index_tests, free_tests, PassesTestsIn, StopsIn, IsNotDominated}
 use Rattle.vipr_rules.specs.Apply.{IsRuledBy, shown_by}
 use Rattle.vipr_rules.specs.{declared.branches.Branch.Branch, declared.context.Known.Known}
@@ -34,30 +34,20 @@ in_remove s l a = (λ h. out a l (contains s a) (sym same ∙ h), λ h. same ∙
     same = contains-remove nat_cmp_total s l a ∙ ap (λ b. not b && contains s a) (sym (tied_numbers a l))
 
     out : (a l : ℕ) (b : Bool) → (not (nat_eq a l) && b) ≡ true → (b ≡ true) × (a ≢ l)
-    out a l true h = (refl, λ e. grind (arith, nat_tests))
-    out a l false h = absurd (grind (arith, nat_tests))
+    out a l b h = grind arith
 
     back : (a l : ℕ) (b : Bool) → b ≡ true → a ≢ l → (not (nat_eq a l) && b) ≡ true
     back a l b h other = grind (arith, nat_tests)
-
-set_without : (c : Certificate) (i l : ℕ) (k : Known) (s : FinSet nat_cmp) → IsKnownAs c i k
-    → s ≡ remove (set_of k) l → IsSetWithout c i l s
-set_without c i l k s is same = search (rules, in_remove)
 
 pub joined_set : (c : Certificate) (i1 l1 i2 l2 : ℕ) (k1 k2 : Known) (s t u : FinSet nat_cmp)
     → IsKnownAs c i1 k1 → IsKnownAs c i2 k2
     → s ≡ remove (set_of k1) l1 → t ≡ remove (set_of k2) l2 → u ≡ union s t
     → IsSetByReason c (uns i1 l1 i2 l2) u
-joined_set c i1 l1 i2 l2 k1 k2 s t u is1 is2 e1 e2 e = search (rules, in_union, set_without)
+joined_set c i1 l1 i2 l2 k1 k2 s t u is1 is2 e1 e2 e = search (rules, in_union, in_remove)
 
 -- ---- one test
 assumed_by : (o : Option Reason) → is_assumption o ≡ true → o ≡ Some asm
-assumed_by None h = absurd (cc)
-assumed_by (Some asm) h = refl
-assumed_by (Some (lin es)) h = absurd (cc)
-assumed_by (Some (rnd es)) h = absurd (cc)
-assumed_by (Some (uns i1 l1 i2 l2)) h = absurd (cc)
-assumed_by (Some sol) h = absurd (cc)
+assumed_by o h = grind arith
 
 module _ (P : Profile) (c : Certificate) (d : Derivation) where
   module _ (l : ℕ) (k : Known) (is : IsKnownAs c l k) where
@@ -90,9 +80,7 @@ module _ (P : Profile) (c : Certificate) (d : Derivation) where
 
     pub constraint_tested : (r : Result (Unit {0}) RuleError) → MatchResult r (λ _. Dominates (condition_of x) (condition_of y)) (λ e. (e ≡ Memory) ⊎ IsNotDominated x y e)
         → MatchResult r (λ _. PassesTestsIn P c d (by_constraint i ∷ [])) (λ e. (e ≡ Memory) ⊎ StopsIn P c d (by_constraint i ∷ []) e)
-    constraint_tested (Ok u) h = constraint_passes h
-    constraint_tested (Err e) (inl memory) = inl memory
-    constraint_tested (Err e) (inr known) = inr (constraint_stops e known)
+    constraint_tested r h = grind (arith, constraint_passes, constraint_stops)
 
 -- ---- all tests
 module _ (P : Profile) (c : Certificate) (d : Derivation) (first second : Branch) where
@@ -194,9 +182,4 @@ pub follows_if_all : {S : Type 0} (r1 r2 r3 r4 r5 : Result (Unit {0}) RuleError)
     → OnOk r1 A1 → OnOk r2 A2 → OnOk r3 A3 → MatchResult r4 (λ _. A4) B4
     → MatchResult r5 (λ _. A5) B5 → (A1 → A2 → A3 → A4 → A5 → IfOk j Q)
     → IfOk (result_and (result_and (result_and (result_and (result_and r1 r2) r3) r4) r5) j) Q
-follows_if_all (Err e) r2 r3 r4 r5 j A1 A2 A3 A4 A5 B4 B5 Q h1 h2 h3 h4 h5 f = tt
-follows_if_all (Ok u1) (Err e) r3 r4 r5 j A1 A2 A3 A4 A5 B4 B5 Q h1 h2 h3 h4 h5 f = tt
-follows_if_all (Ok u1) (Ok u2) (Err e) r4 r5 j A1 A2 A3 A4 A5 B4 B5 Q h1 h2 h3 h4 h5 f = tt
-follows_if_all (Ok u1) (Ok u2) (Ok u3) (Err e) r5 j A1 A2 A3 A4 A5 B4 B5 Q h1 h2 h3 h4 h5 f = tt
-follows_if_all (Ok u1) (Ok u2) (Ok u3) (Ok u4) (Err e) j A1 A2 A3 A4 A5 B4 B5 Q h1 h2 h3 h4 h5 f = tt
-follows_if_all (Ok u1) (Ok u2) (Ok u3) (Ok u4) (Ok u5) j A1 A2 A3 A4 A5 B4 B5 Q h1 h2 h3 h4 h5 f = f h1 h2 h3 h4 h5
+follows_if_all r1 r2 r3 r4 r5 j A1 A2 A3 A4 A5 B4 B5 Q h1 h2 h3 h4 h5 f = grind arith

@@ -1,9 +1,9 @@
 -- What finite bounds ask of a constraint and of the best value.
-use Rattle.std.proofs.Common.{◌≡◌, ◌≢◌, List, [], ◌∷◌, ◌++◌, Option, Some, None, IfSome, Contains}
-use Rattle.std.proofs.Common.{option_map, refl, sym, ap, subst, inl, inr, rules}
+use Rattle.std.proofs.Common.{arith, ◌≡◌, ◌≢◌, List, [], ◌∷◌, ◌++◌, Option, Some, None, IfSome}
+use Rattle.std.proofs.Common.{Contains, option_map, sym, ap, subst, inl, inr, rules}
 use Rattle.std.proofs.lemmas.List.Elements.{All-contains}
 use Rattle.std.specs.Prelude.{◌↔◌}
-use Rattle.vipr_spec.specs.Constraint.{Profile, one, two, Condition, Row, at, Dominates, IsWholeRow}
+use Rattle.vipr_spec.specs.Constraint.{Profile, two, Condition, Row, at, Dominates, IsWholeRow}
 use Rattle.vipr_spec.specs.Certificate.{Named, Problem, Claim, infeasible, range, objective_at}
 use Rattle.vipr_spec.specs.Certificate.{objective_constraint, stays, IsAsGood, dual_bound}
 use Rattle.vipr_spec.specs.Certificate.{MeetsBound, MeetsPrimal}
@@ -23,8 +23,7 @@ module _ (p : Problem) (lower upper : Option ℚ) (bound : ℚ) (is : range lowe
   goal = objective_constraint p (stays p.direction) bound
 
   plain : (P : Profile) → ¬ ((P ≡ two) × IsWholeRow p.integers (at p.objective)) → (d : Condition) → Dominates d goal ↔ MeetsBound P p d bound
-  plain one apart d = (λ h. h, λ h. h)
-  plain two apart d = (λ h. inl h, λ h. elim h [ inl k ↦ k | inr k ↦ absurd (apart (refl, k.0)) ])
+  plain P apart d = grind arith
 
   target_in : (P : Profile) (t : Target) → Some bound ≡ dual_bound p.direction lower upper → t ≢ Nothing → target_bound t ≡ Some goal → ((d : Condition) → IsMetBy t d ↔ MeetsBound P p d bound) → IsTargetIn P p t
   target_in P t dual some says met = search (rules, option_map)

@@ -7,12 +7,12 @@ use Rattle.std.proofs.lemmas.List.{get_or_append_left, get_or_push, length_push,
 use Rattle.std.proofs.lemmas.List.{length-map, map-set, get_or_past, get_or-replicate}
 use Rattle.std.proofs.lemmas.List.{length-replicate}
 use Rattle.std.proofs.{lemmas.Bool.cases_eq, lemmas.Bool.cases_lt, lemmas.Simd.map-map}
-use Rattle.std.specs.Prelude.{slice_set, Result, Ok, Err, IsOk, IsErr, OnOk}
+use Rattle.std.specs.Prelude.{slice_set, Result, IsOk, IsErr, OnOk}
 use Rattle.std.specs.FinMap.{empty, entries, len-entries, len-empty}
 use Rattle.std.specs.{Global.Global, Result.is_ok}
 use Rattle.vipr_spec.specs.Fraction.{ℚ, zero_ℚ, ◌+ℚ◌, ◌*ℚ◌, IsBounded}
 use Rattle.vipr_spec.specs.Constraint.{Constraint, Row, Point, at, value, ValueFits, NamesBelow}
-use Rattle.vipr_spec.specs.Constraint.{Compares, equal}
+use Rattle.vipr_spec.specs.Constraint.{Compares}
 use Rattle.vipr_spec.specs.Certificate.{Problem, variables}
 use Rattle.vipr_spec.specs.{MoreEntries.TermFits, Shape.CanWriteProblem}
 use Rattle.vipr_spec.proofs.Laws.{nothing_more, sum_bounded, value_gap, zero_bounded, add-zero_ℚ}
@@ -187,8 +187,7 @@ module _ (row : Row) (x : Point) where
   fits_next n h t j l = search (rules, cases_eq)
 
   no_product : (n : ℕ) → (at row n ≡ zero_ℚ) ⊎ (x n ≡ zero_ℚ) → at row n *ℚ x n ≡ zero_ℚ
-  no_product n (inl e) = ap (λ a. a *ℚ x n) e ∙ zero-mul_ℚ (x n)
-  no_product n (inr e) = ap (λ a. at row n *ℚ a) e ∙ mul-zero_ℚ (at row n)
+  no_product n h = grind (arith, zero-mul_ℚ, mul-zero_ℚ)
 
   sum_same_suc : (n : ℕ) (sum : ℚ) → (at row n ≡ zero_ℚ) ⊎ (x n ≡ zero_ℚ) → IsSummed row x n sum → IsSummed row x (suc n) sum
   sum_same_suc n sum none h = search (rules, fits_next, nothing_more, value_bounded, no_product, add-zero_ℚ)
@@ -232,16 +231,7 @@ pub record AreHalfSums (o : Row) (cs : List Constraint) (x : Point) (j : ℕ) (p
 
 module _ (o : Row) (cs : List Constraint) (x : Point) (j n : ℕ) (places : List (ℕ × ℕ)) (is : ArePlaces o cs n j places) where
   pub half_sums_start : (sums : List ℚ) → length sums ≡ n → AreSums o cs x j sums → AreHalfSums o cs x j places 0 sums
-  half_sums_start sums many all = record {
-    before = λ k a l. all (get_or places k (0, 0)).0 (let b = (is.found k l).0 in omega (arith, b, many));
-    after = λ i l. elim (is.rest i (omega (arith, l, many))) [
-      | inl same ↦ inl (inl same)
-      | inr some ↦ elim some [
-        | inl z ↦ inl (counted_by o cs x j (j + 1) i sums sums (sum_same (nth cs i).row x j (get_or sums i zero_ℚ) (inl z)) (all i l))
-        | inr s ↦ inr s
-      ]
-    ];
-  }
+  half_sums_start sums many all = grind (arith, sum_same)
 
   pub half_sums_end : (sums : List ℚ) (c : ℕ) → length places ≤ c → AreHalfSums o cs x j places c sums → AreSums o cs x (j + 1) sums
   half_sums_end sums c past half i l = search (rules, none_occur)
@@ -317,10 +307,7 @@ module _ (s : Row) (es : List (ℕ × ℚ)) (list : es ≡ entries s) (r : Rises
       pub reached_next : IsReached s es (c + 1) (p.0 + 1)
       reached_next = record {
         above = λ k a b. let less = rising_from 0 es c k (0, zero_ℚ) r (omega (arith, a)) b in let q = first_here in omega (arith, q, less);
-        rest = λ j a. elim (h.rest j (let b = reached_low in omega (arith, a, b))) [
-          | inl z ↦ inl z
-          | inr t ↦ inr (occurs_later (λ (e : ℕ × ℚ). e.0) (0, zero_ℚ) es c j (λ q. absurd (let f = first_here in omega (arith, q, f, a))) t)
-        ];
+        rest = grind (arith, first_here);
       }
 
 -- the sums over the variables below some number up to n, from which on the others are listed
@@ -414,31 +401,13 @@ as_many cons = length-map cons (λ (m : Named Item). constraint_of m.item)
 -- a constraint that has an entry is one of the list
 pub has_entries : (cs : List Constraint) (i k : ℕ) → k < length (entries (nth cs i).row)
     → i < length cs
-has_entries cs i k l = elim (cases_lt i (length cs)) [
-  | inl below ↦ below
-  | inr past ↦
-      let none : nth cs i ≡ record { row = empty; sense = equal; bound = zero_ℚ } = get_or_past cs i _ past in
-      let m = ap (λ (d : Constraint). length (entries d.row)) none ∙ sym (len-entries (empty {K = ℕ} {X = ℚ} {R = nat_cmp})) ∙ len-empty nat_cmp ℚ in
-      absurd (omega (arith, l, m))
-]
+has_entries cs i k l = grind (arith, get_or_past cs i, len-entries (empty {K = ℕ} {X = ℚ} {R = nat_cmp}), len-empty nat_cmp ℚ)
 
 -- ---- all constraints
 module _ (o : Row) (cs : List Constraint) (n : ℕ) (x : Point) (sums : List ℚ) (indices : List ℕ) where
   pub met : length sums ≡ length cs → AreSums o cs x n sums → AreFalseAtZero o cs (length cs) indices → All (λ i. get_or sums i zero_ℚ ≢ zero_ℚ) indices
       → ((i : ℕ) → get_or sums i zero_ℚ ≢ zero_ℚ → Compares (nth cs i).sense (get_or sums i zero_ℚ) (nth cs i).bound) → AreMet o cs n x
-  met many all at_zero nonzero true_there i l = elim (all i (omega (arith, many, l))) [
-    | inl same ↦ inl same
-    | inr sum ↦ elim (zero_or_not (get_or sums i zero_ℚ)) [
-      | inl none ↦ elim (at_zero.listed i l) [
-        | inl same ↦ inl same
-        | inr some ↦ elim some [
-          | inl t ↦ inr (sum.0, subst (λ v. Compares (nth cs i).sense v (nth cs i).bound) (sym none ∙ sum.1) t)
-          | inr s ↦ absurd (nonzero s.0 0 s.2 (ap (λ k. get_or sums k zero_ℚ) s.3 ∙ none))
-        ]
-      ]
-      | inr some ↦ inr (sum.0, subst (λ v. Compares (nth cs i).sense v (nth cs i).bound) sum.1 (true_there i some))
-    ]
-  ]
+  met many all at_zero nonzero true_there i l = grind (arith, zero_or_not (get_or sums i zero_ℚ))
 
 pub all_within : (o : Row) (cs : List Constraint) (n : ℕ) (indices : List ℕ)
     → AreFalseAtZero o cs n indices → All (λ i. i < n) indices
@@ -446,12 +415,10 @@ all_within o cs n indices is k d l = subst (λ i. i < n) (get_or_default indices
 
 pub known_ok : {A E : Type 0} → (r : Result A E) (P : Type 0) (b : Bool) → b ≡ is_ok r → b ≡ true
     → OnOk r P → P
-known_ok (Ok x) P b e t h = h
-known_ok (Err x) P b e t h = absurd (cc)
+known_ok r P b e t h = grind arith
 
 pub refused_or_ok : {A E : Type 0} → (r : Result A E) → IsErr r → IsOk r → ⊥
-refused_or_ok (Ok x) e o = absurd (cc)
-refused_or_ok (Err x) e o = absurd (cc)
+refused_or_ok r e o = grind arith
 
 -- ---- a problem and its constraints
 module _ (p : Problem) (cons : List (Named Item)) (same : map (named_of constraint_of) cons ≡ p.constraints) where

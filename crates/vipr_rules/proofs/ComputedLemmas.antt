@@ -1,6 +1,6 @@
 -- What is computed of a sum: the sum itself, or its rounding, and the tests of it.
-use Rattle.std.proofs.Common.{◌≡◌, ℕ, List, [], ◌∷◌, refl, inl, inr}
-use Rattle.std.specs.Prelude.{◌⊎◌, Result, Ok, Err, MatchResult}
+use Rattle.std.proofs.Common.{arith, ◌≡◌, ℕ, List, [], ◌∷◌}
+use Rattle.std.specs.Prelude.{◌⊎◌, Result, MatchResult}
 use Rattle.std.specs.{FinSet.FinSet, Ordering.nat_cmp, Result.result_and}
 use Rattle.vipr_spec.specs.Constraint.{Condition, Profile, Point, Ints, condition, IsTrueAt}
 use Rattle.vipr_spec.specs.Steps.{sum_tests, step_tests, by_sum, roundable, by_rounding, IsSum}
@@ -25,14 +25,9 @@ module _ (P : Profile) (c : Certificate) (d : Derivation) (es : List (ℕ × ℚ
   computing_stops Sum e p h = stops_second P c d (sum_tests es) (by_sum es ∷ []) e p h
   computing_stops Rounding e p h = stops_second P c d (sum_tests es) (roundable es ∷ by_rounding es ∷ []) e p h
 
-  pub all_computed : (k : Computed) → PassesTestsIn P c d (sum_tests es) → PassesTestsIn P c d (computed_tests k es) → PassesTestsIn P c d (step_tests (reason_by k es))
-  all_computed Sum p q = passes_both P c d (sum_tests es) (by_sum es ∷ []) p q
-  all_computed Rounding p q = passes_both P c d (sum_tests es) (roundable es ∷ by_rounding es ∷ []) p q
-
   -- no test comes before the sum
   pub none_free : (k : Computed) → PassesTestsIn P c d (free_tests (reason_by k es))
-  none_free Sum = refl
-  none_free Rounding = refl
+  none_free k = grind arith
 
   pub computed_passes : (k : Computed) (x : Condition) (stated : Constraint) (ints : Ints) → IsSum c es x → c.problem.integers ≡ ints → condition_of stated ≡ condition d.stated
       → DominatesBy k ints x (condition_of stated) → PassesTestsIn P c d (computed_tests k es)
@@ -43,15 +38,11 @@ module _ (P : Profile) (c : Certificate) (d : Derivation) (es : List (ℕ × ℚ
   pub computed_ruled : (k : Computed) → PassesTestsIn P c d (sum_tests es) → (r : Result (Unit {0}) RuleError) (s : Result (FinSet nat_cmp) RuleError)
       → MatchResult r (λ _. PassesTestsIn P c d (computed_tests k es)) (λ e. (e ≡ Memory) ⊎ StopsIn P c d (computed_tests k es) e)
       → MatchResult s (IsSetByReason c (reason_by k es)) (λ e. e ≡ Memory) → IsRuledBy P c d (reason_by k es) (result_and r s)
-  computed_ruled k p (Err e) s (inl memory) h = inl (memory, none_free k)
-  computed_ruled k p (Err e) s (inr stops) h = inr (computing_stops k e p stops)
-  computed_ruled k p (Ok u) (Err e) q h = inl (h, none_free k)
-  computed_ruled k p (Ok u) (Ok s) q h = (all_computed k p q, h)
+  computed_ruled k p r s q h = grind (arith, computing_stops, passes_both)
 
 pub set_computed : (c : Certificate) (es : List (ℕ × ℚ)) (s : FinSet nat_cmp) (k : Computed)
     → IsSetOfAll c es s → IsSetByReason c (reason_by k es) s
-set_computed c es s Sum h = h
-set_computed c es s Rounding h = h
+set_computed c es s k h = grind arith
 
 pub follows_true : (n : ℕ) (x : Point) (ints : Ints) (k : Computed) (held stated : Condition)
     → IsWholePoint ints x → DominatesBy k ints held stated → IsTrueAt n held x → IsTrueAt n stated x

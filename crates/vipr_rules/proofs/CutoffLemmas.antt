@@ -1,10 +1,10 @@
 -- What the tests of the reason `sol` say of the best value.
-use Rattle.std.proofs.Common.{◌≡◌, ◌<◌, length, List, [], ◌∷◌, Some, None, All, refl, sym, ap, ap₂}
+use Rattle.std.proofs.Common.{◌≡◌, ◌<◌, length, List, [], Some, None, All, refl, sym, ap, ap₂}
 use Rattle.std.proofs.Common.{◌∙◌, subst, inl, inr, arith}
-use Rattle.std.specs.Prelude.{◌⊎◌, Result, Ok, Err, MatchResult}
+use Rattle.std.specs.Prelude.{◌⊎◌, Result, Ok, MatchResult}
 use Rattle.std.specs.{FinSet.FinSet, Ordering.nat_cmp, Result.result_and}
 use Rattle.vipr_spec.specs.Constraint.{Profile, Row, at, Condition, condition, Dominates, Compares}
-use Rattle.vipr_spec.specs.Certificate.{Named, Certificate, Derivation, Direction, minimum, maximum}
+use Rattle.vipr_spec.specs.Certificate.{Named, Certificate, Derivation, Direction}
 use Rattle.vipr_spec.specs.Certificate.{objective_at, objective_constraint, reaches, IsAsGood, sol}
 use Rattle.vipr_spec.specs.Steps.{listed, by_cutoff, step_tests, nothing, compared}
 use Rattle.vipr_spec.specs.{Fraction.ℚ, Soundness.IsBestValue}
@@ -24,9 +24,6 @@ none_listed P c d none = (listed, inr (none_below c.solutions none, refl), (noth
 module _ (P : Profile) (c : Certificate) (d : Derivation) (best : ℚ) (is : IsBestValue c.problem c.solutions (Some best)) where
   some_listed : 0 < length c.solutions
   some_listed = let h = is.0.1.1 in omega arith
-
-  pub listed_passes : PassesTestsIn P c d (listed ∷ [])
-  listed_passes = inl (some_listed, refl)
 
   abbrev bound : Condition
   bound = objective_constraint c.problem (reaches c.problem.direction) best
@@ -52,11 +49,8 @@ module _ (P : Profile) (c : Certificate) (d : Derivation) (best : ℚ) (is : IsB
 
     pub cut_ruled : (r : Result (Unit {0}) RuleError) (s : FinSet nat_cmp) → MatchResult r (λ _. Dominates (condition_of computed) (condition_of stated)) (λ e. (e ≡ Memory) ⊎ IsNotDominated computed stated e)
         → IsSetByReason c sol s → IsRuledBy P c d sol (result_and r (Ok s))
-    cut_ruled (Ok u) s h rests = (cut_passes h, rests)
-    cut_ruled (Err e) s (inl memory) rests = inl (memory, listed_passes)
-    cut_ruled (Err e) s (inr known) rests = inr (cut_not_dominated e known)
+    cut_ruled r s h rests = grind (arith, cut_passes, cut_not_dominated)
 
 -- a value as good as the bound
 pub reached : (d : Direction) (v w : ℚ) → IsAsGood d v w → Compares (reaches d) v w
-reached minimum v w h = h
-reached maximum v w h = h
+reached d v w h = grind arith

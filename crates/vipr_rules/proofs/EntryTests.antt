@@ -12,7 +12,7 @@ use Rattle.vipr_spec.specs.Steps.{FirstFailing, reference_tests, entry_tests, po
 use Rattle.vipr_spec.specs.{Fraction.ℚ, Reading.is_nonzero}
 use Rattle.vipr_rules.specs.declared.error.RuleError.{RuleError}
 use Rattle.vipr_rules.specs.Apply.{PassesTestsIn, StopsIn, SumStops, shown_by}
-use Rattle.vipr_spec.proofs.Laws.{failing_first, failing_second, failing_parts}
+use Rattle.vipr_spec.proofs.Laws.{failing_first, failing_second}
 
 pub entry_tests-append : (before xs ys : List (ℕ × ℚ))
     → entry_tests before (xs ++ ys) ≡ entry_tests before xs ++ entry_tests (before ++ xs) ys
@@ -29,11 +29,6 @@ take_all [] zero h = refl
 take_all [] (suc n) h = refl
 take_all (x ∷ es) zero h = absurd (omega arith)
 take_all (x ∷ es) (suc n) h = ap (λ l. x ∷ l) (take_all es n (omega arith))
-
--- where all tests of two lists pass, those of each do
-pub passing_parts : (P : StepTest → Type 0) (xs ys : List StepTest) → FirstFailing P (xs ++ ys) None
-    → FirstFailing P xs None × FirstFailing P ys None
-passing_parts P xs ys h = elim (failing_parts P xs ys None h) [ inl k ↦ k | inr k ↦ absurd (let e = k.1 in cc) ]
 
 module _ (P : StepTest → Type 0) (es : List (ℕ × ℚ)) (n : ℕ) (e : ℕ × ℚ) (within : n < length es) (is : e ≡ get_or es n e) where
   abbrev so_far : List (ℕ × ℚ)

@@ -1,6 +1,5 @@
 -- Which assumptions a sum has brought so far.
-use Rattle.std.proofs.Common.{◌≡◌, ℕ, ◌⊎◌, Bool, true, false, ◌||◌, refl, sym, ◌∙◌, ap, subst}
-use Rattle.std.proofs.Common.{inl, inr}
+use Rattle.std.proofs.Common.{arith, ◌≡◌, ℕ, ◌⊎◌, Bool, true, ◌||◌, sym, ◌∙◌, ap, subst, inl, inr}
 use Rattle.std.specs.FinSet.{FinSet, contains, union, empty, same_set, contains-union}
 use Rattle.std.specs.FinSet.{contains-empty, nat_cmp-IsAntisymmetric}
 use Rattle.std.specs.{Cmp.nat_cmp_total, Ordering.nat_cmp, Prelude.IsTrue}
@@ -10,9 +9,7 @@ use Rattle.vipr_rules.specs.Context.{AreJoined}
 use Rattle.vipr_rules.proofs.UnionLemmas.{in_union}
 
 both : (s t : Bool) → (t ≡ true → s ≡ true) → s ≡ (s || t)
-both true t h = refl
-both false true h = h refl
-both false false h = refl
+both s t h = grind arith
 
 -- a set to which one is added that it has
 pub union_within : (s t : FinSet nat_cmp)

@@ -31,8 +31,7 @@ module _ (n : ℕ) (says : ℕ → Condition) (x : Point) where
       apart h e = grind (arith, nat_tests)
 
       by : (b : Bool) → nat_eq i j ≡ b → (i ≡ j) ⊎ (i ≢ j)
-      by true h = inl (same h)
-      by false h = inr (apart h)
+      by b h = grind arith
 
   -- what follows in a branch, where what the branch assumes is true
   branch_true : (s r : FinSet nat_cmp) (l : ℕ) (a from : Condition) → says l ≡ a → r ≡ remove s l → IsTrueUnder n says s from x → AreTrue n says r x → IsTrueAt n a x → IsTrueAt n from x

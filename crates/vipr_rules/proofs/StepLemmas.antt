@@ -8,11 +8,10 @@ use Rattle.std.specs.Result.{result_and, result_unwrap_or}
 use Rattle.std.specs.FinSet.{FinSet, contains, empty, insert, contains-insert, contains-empty}
 use Rattle.std.specs.{Cmp.nat_cmp_total, Cmp.unsigned_tied, Ordering.nat_cmp}
 use Rattle.vipr_spec.specs.Constraint.{Condition, Profile, condition, sum_of, Dominates, Combines}
-use Rattle.vipr_spec.specs.Certificate.{Certificate, Derivation, Reason, asm, lin, rnd, uns, sol}
-use Rattle.vipr_spec.specs.Certificate.{entries, count, is_assumption, is_live}
-use Rattle.vipr_spec.specs.Steps.{PassesStep, with_next, RefersBack, StepTest, by_sum, split}
-use Rattle.vipr_spec.specs.Steps.{listed, by_constraint, by_cutoff, step_tests, step_cause}
-use Rattle.vipr_spec.specs.Steps.{compared, IsSum}
+use Rattle.vipr_spec.specs.Certificate.{Certificate, Derivation, Reason, asm, sol, entries, count}
+use Rattle.vipr_spec.specs.Certificate.{is_assumption, is_live}
+use Rattle.vipr_spec.specs.Steps.{PassesStep, with_next, RefersBack, StepTest, by_sum, step_tests}
+use Rattle.vipr_spec.specs.Steps.{step_cause, compared, IsSum}
 use Rattle.vipr_spec.specs.{Fraction.ℚ, Soundness.IsSound}
 use Rattle.vipr_spec.proofs.Laws.{failing_first, failing_second, one_sense, constraint_next}
 use Rattle.vipr_spec.proofs.Laws.{reason_next, last_next, rests_next, sound_given, sound_next}
@@ -23,7 +22,6 @@ use Rattle.vipr_rules.specs.Apply.{StopsIn, PassesTestsIn, ReportsTest, KeepsSou
 use Rattle.vipr_rules.specs.Apply.{IsNotDominated, IsRuledBy, shown_by, free_tests}
 use Rattle.vipr_rules.specs.{Context.IsSetByReason, declared.error.RuleError.RuleError}
 use Rattle.vipr_table.specs.{History.IsEntryOf, declared.rows.Entry.Entry}
-use Rattle.vipr_rules.proofs.EntryTests.{passing_parts}
 
 -- ---- one list of tests after another
 pub stops_first : (P : Profile) (c : Certificate) (d : Derivation) (xs ys : List StepTest)
@@ -57,11 +55,7 @@ known_is_not_memory P c d ts e (t, f, known) is = let none = sym (ap shown_by is
 -- where all tests pass, those that take no memory do
 pub free_of_all : (P : Profile) (c : Certificate) (d : Derivation) (r : Reason)
     → PassesTestsIn P c d (step_tests r) → PassesTestsIn P c d (free_tests r)
-free_of_all P c d asm p = refl
-free_of_all P c d (lin es) p = refl
-free_of_all P c d (rnd es) p = refl
-free_of_all P c d (uns i1 l1 i2 l2) p = (passing_parts (PassesStep P c (condition d.stated)) (free_tests (uns i1 l1 i2 l2)) (split l1 l2 ∷ by_constraint i1 ∷ by_constraint i2 ∷ []) p).0
-free_of_all P c d sol p = (passing_parts (PassesStep P c (condition d.stated)) (listed ∷ []) (by_cutoff ∷ []) p).0
+free_of_all P c d r p = grind arith
 
 -- ---- by `lin`
 module _ (P : Profile) (c : Certificate) (d : Derivation) (es : List (ℕ × ℚ)) (computed : Condition) (stated : Constraint) (summed : IsSum c es computed) (says : condition_of stated ≡ condition d.stated) where
@@ -97,8 +91,7 @@ laid_out_known (Err e) sum stated computed same (inr known) = inr (sum, same, kn
 pub follows_if_ok : {S : Type 0} (r : Result (Unit {0}) RuleError) (s : Result S RuleError)
     (A : Type 0) (B : RuleError → Type 0) (Q : S → Type 0)
     → MatchResult r (λ _. A) B → (A → IfOk s Q) → IfOk (result_and r s) Q
-follows_if_ok (Ok u) s A B Q h f = f h
-follows_if_ok (Err e) s A B Q h f = tt
+follows_if_ok r s A B Q h f = grind arith
 
 -- a set that is found, unless a growth was refused
 module _ {E : Type 0} (found : Result (FinSet nat_cmp) E) (r : Result (FinSet nat_cmp) RuleError) (Q : FinSet nat_cmp → Type 0) where
@@ -120,14 +113,12 @@ module _ {E : Type 0} (found : Result (FinSet nat_cmp) E) (r : Result (FinSet na
 pub error_or_memory : {E : Type 0} (made : Result RuleError E) (e : RuleError)
     (Q : RuleError → Type 0) → e ≡ result_unwrap_or made Memory → IfOk made Q
     → (e ≡ Memory) ⊎ Q e
-error_or_memory (Ok x) e Q is h = inr (subst Q (sym is) h)
-error_or_memory (Err x) e Q is h = inl is
+error_or_memory made e Q is h = grind arith
 
 pub assumption_ruled : (P : Profile) (c : Certificate) (d : Derivation)
     (r : Result (FinSet nat_cmp) RuleError)
     → MatchResult r (IsSetByReason c asm) (λ e. e ≡ Memory) → IsRuledBy P c d asm r
-assumption_ruled P c d (Ok s) h = (refl, h)
-assumption_ruled P c d (Err e) h = inl (h, refl)
+assumption_ruled P c d r h = grind arith
 
 -- ---- what an assumption rests on
 pub own_set : (n a : ℕ) → IsTrue (contains (insert {R = nat_cmp} empty n) a) ↔ (n ≡ a)
@@ -151,12 +142,7 @@ pub kept_entry : (P : Profile) (c : Certificate) (d : Derivation) (e : Entry) �
     → condition_of e.constraint ≡ condition d.stated → IsSetByReason c d.reason e.assumptions
     → e.is_assumption ≡ is_assumption (Some d.reason) → e.last ≡ d.last
     → IsEntryOf (with_next c d) (count c) e
-kept_entry P c d e back passes says rests assumed last = record {
-  says = constraint_next c d ∙ sym says;
-  rests = λ a. let next = rests_next c d a back (next_good P c d passes).earlier in (λ t. next.1 ((rests a).0 t), λ r. (rests a).1 (next.0 r));
-  is_assumed = assumed ∙ sym (ap is_assumption (reason_next c d));
-  last = last ∙ sym (last_next c d);
-}
+kept_entry P c d e back passes says rests assumed last = grind (arith, constraint_next, rests_next, next_good, reason_next, last_next)
 
 -- ---- the induction over the derivations
 pub keeps_sound : (P : Profile) (c : Certificate) (d : Derivation) → RefersBack c

@@ -28,9 +28,7 @@ in_union s t a = (λ h. out (contains s a) (contains t a) (sym (contains-union n
     out false d h = inr h
 
     back : (b d : Bool) → (b ≡ true) ⊎ (d ≡ true) → (b || d) ≡ true
-    back true d h = refl
-    back false d (inl h) = absurd (cc)
-    back false d (inr h) = h
+    back b d h = grind arith
 
 module _ (c : Certificate) (before : List (ℕ × ℚ)) (e : ℕ × ℚ) (s : FinSet nat_cmp) (so_far : IsSetOfAll c before s) where
   earlier : (a : ℕ) → SomeRestsOn c before a → SomeRestsOn c (before ++ e ∷ []) a

@@ -60,10 +60,6 @@ pub record IsKnownAs (c : Certificate) (i : ℕ) (k : Known) : Type 0 where
 abbrev pub IsSetOfAll : Certificate → List (ℕ × ℚ) → set.FinSet nat_cmp → Type 0
 IsSetOfAll c es s = (a : ℕ) → IsTrue (set.contains s a) ↔ SomeRestsOn c es a
 
--- the set has what constraint i rests on without l
-abbrev pub IsSetWithout : Certificate → ℕ → ℕ → set.FinSet nat_cmp → Type 0
-IsSetWithout c i l s = (a : ℕ) → IsTrue (set.contains s a) ↔ (RestsOn c i a × (a ≢ l))
-
 -- the set has what a derivation by this reason rests on, that comes after the certificate c
 abbrev pub IsSetByReason : Certificate → Reason → set.FinSet nat_cmp → Type 0
 IsSetByReason c r s = (a : ℕ) → IsTrue (set.contains s a) ↔ RestsBy c (count c) (Some r) a
