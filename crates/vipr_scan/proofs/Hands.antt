@@ -25,10 +25,7 @@ pub gone : (place : Position) (buf : List ℕ) (start end offset m n : ℕ) (sou
     → m ≡ n → start + n ≤ end →
     left_at place (min (offset + (start + m)) (2 ^ 64 - 1)) (slice_range buf (start + m) end) source
     ≡ left_at place (min (offset + start + n) (2 ^ 64 - 1)) (drop n (slice_range buf start end)) source
-gone place buf start end offset m n source e within =
-    let cut : slice_range buf (start + n) end ≡ drop n (slice_range buf start end) = narrowed buf start end n within in
-    let at : offset + (start + n) ≡ offset + start + n = omega arith in
-    rw (e, cut, at) refl
+gone place buf start end offset m n source e within = grind (arith, narrowed)
 
 -- if bytes are at hand, a token may begin with any that is unread
 past : {R : Type 0} (t : Window R) → 0 < length (at_hand t) → t.place ≡ Past
@@ -40,9 +37,7 @@ past t some = go t.place refl
         absurd (omega arith)
 
     go : (p : Position) → t.place ≡ p → t.place ≡ Past
-    go Past e = e
-    go Front e = none (t.closed (λ h. (cc)))
-    go Comment e = none (t.closed (λ h. (cc)))
+    go p e = grind arith
 
 -- a token at hand is taken, with the white space around it
 pub passed_on : {R : Type 0} (input : R → Option Input) (t : Window R) (bytes bytes' : List ℕ)
@@ -68,8 +63,7 @@ passed_on input t bytes bytes' gap len part is front left =
     let whole : at_hand t ≡ unread t = ap (λ (e : ℕ). slice_range t.buf.value t.start e) (t.opened place) in
     let now : drop n (unread t) ≡ bytes = ap (drop n) (sym whole) ∙ sym part in
     let to : length (at_hand t) - length bytes' ≡ m = omega arith in
-    let cut : drop m (unread t) ≡ drop (len + 1) (drop gap bytes) =
-    ap (drop m) (sym whole) ∙ sym (drop-drop (gap + (len + 1)) n (at_hand t)) ∙ ap (drop (gap + (len + 1))) (sym part) ∙ sym (drop-drop (len + 1) gap bytes) in
+    let cut : drop m (unread t) ≡ drop (len + 1) (drop gap bytes) = grind (arith, drop-drop) in
     let s : TokenView = record { bytes = take len (drop gap bytes); offset = offset_behind h (n + gap); long = false } in
     let o : ℕ = offset_behind h n in
     rw (place, to, now) (short_known _ _ s

@@ -1,17 +1,17 @@
 -- What is left, through a step of the reader.
 use Rattle.std.proofs.Common.{◌≡◌, ℕ, ◌+◌, ◌-◌, ◌^◌, ◌<◌, ◌≤◌, min, Bool, true, List, [], ◌∷◌, ◌++◌}
-use Rattle.std.proofs.Common.{length, take, drop, get_or, Option, Some, None, Result, Ok, Err}
+use Rattle.std.proofs.Common.{length, take, drop, get_or, Option, Some, None, Result, Ok}
 use Rattle.std.proofs.Common.{OnErr, IfSome, refl, sym, ap, ◌∙◌, arith, slice_range, nat_lt}
 use Rattle.std.proofs.Common.{if◌then◌else◌, option_and_then, inl, inr, false, nat_eq}
 use Rattle.std.proofs.lemmas.List.{get_or-take, get_or_append_left, take-append-le, length-take-le}
 use Rattle.std.proofs.lemmas.List.{take_all, length-append, length-take, take-take, length-drop}
 use Rattle.std.proofs.lemmas.List.{drop-append-le, nil_from_length, drop-drop, drop-take, drop_more}
-use Rattle.std.proofs.lemmas.Bool.{ltb-true, lt-ltb, le-ltb, cases_lt, cases_eq, eq-eqb, ne_eqb}
+use Rattle.std.proofs.lemmas.Bool.{lt-ltb, le-ltb, cases_lt, cases_eq, eq-eqb, ne_eqb}
 use Rattle.std.specs.Option.{option_map}
 use Rattle.vipr_spec.specs.Tokens.{IsToken, is_white, tokens_from, tokens_after_front, run}
 use Rattle.vipr_spec.specs.{Input.Input, Reading.Rest}
 use Rattle.vipr_scan.specs.View.{prepend, left_of, Keeps, IsOver, next_answer, next_left}
-use Rattle.vipr_scan.specs.declared.place.Position.TheVariants.{Front, Comment, Past}
+use Rattle.vipr_scan.specs.declared.place.Position.TheVariants.{Past}
 use Rattle.vipr_scan.specs.{Meaning.IsInFront, Places.tokens_in, declared.place.Position.Position}
 use Rattle.vipr_spec.proofs.Laws.{token_cut, token_whole, token_long, run_from}
 
@@ -24,8 +24,7 @@ left_is place offset un r = record { tokens = tokens_in place r.fails offset (un
 
 if_known : (b : Bool) (l : Rest) (Q : Rest → Type 0) → (b ≡ true → Q l)
     → IfSome (if b then Some l else None) Q
-if_known true l Q h = h refl
-if_known false l Q h = tt
+if_known b l Q h = grind arith
 
 -- to show a fact of what is left, show it of each input that may be
 pub known : (place : Position) (offset : ℕ) (un : List ℕ) (source : Option Input)
@@ -34,8 +33,7 @@ pub known : (place : Position) (offset : ℕ) (un : List ℕ) (source : Option I
     → Q (left_is place offset un r)) →
     IfSome (left_at place offset un source) Q
 known place offset un None Q h = tt
-known place offset un (Some r) Q h =
-    if_known (nat_lt (offset + length (un ++ r.bytes)) (2 ^ 64)) (left_is place offset un r) Q (λ b. h r refl (ltb-true _ _ b))
+known place offset un (Some r) Q h = grind arith
 
 pub answers : (place : Position) (offset : ℕ) (un : List ℕ) (r : Input)
     → offset + length (un ++ r.bytes) < 2 ^ 64 →
@@ -48,18 +46,7 @@ pub gap_left : (source : Option Input) (p p' : Position) (o o' : ℕ) (un un' : 
     ((fails : Bool) (offset : ℕ) (rest : List ℕ) → tokens_in p fails offset (un ++ rest)
     ≡ tokens_in p' fails (offset + n) (drop n un ++ rest)) →
     Keeps (left_at p o un source) (left_at p' o' un' source)
-gap_left source p p' o o' un un' n within cut at same =
-    known p o un source (λ l. left_at p' o' un' source ≡ Some l) (λ r is short.
-    let a : length (un ++ r.bytes) ≡ length un + length r.bytes = length-append un r.bytes in
-    let b : length (un' ++ r.bytes) ≡ length un' + length r.bytes = length-append un' r.bytes in
-    let d : length un' ≡ length un - n = ap length cut ∙ length-drop n un in
-    let e : o' ≡ o + n = omega arith in
-    let t : left_at p' o' un' (Some r) ≡ Some (left_is p' o' un' r) = answers p' o' un' r (omega arith) in
-    let s : left_is p' o' un' r ≡ left_is p o un r =
-    let z : o' + length (un' ++ r.bytes) ≡ o + length (un ++ r.bytes) = omega arith in
-    let v : tokens_in p' r.fails o' (un' ++ r.bytes) ≡ tokens_in p r.fails o (un ++ r.bytes) = rw (cut, e) (sym (same r.fails o r.bytes)) in
-    rw (z, v) refl in
-    rw is (t ∙ ap (λ (l : Rest). Some l) s))
+gap_left source p p' o o' un un' n within cut at same = grind (arith, length-append, length-drop)
 
 -- the part of a list from n further on
 pub narrowed : (xs : List ℕ) (start end n : ℕ) → start + n ≤ end
@@ -70,48 +57,34 @@ narrowed xs start end n within =
 
 nothing : (fails : Bool) (p : Position) (o : ℕ) → tokens_in p fails o [] ≡ []
 unfolding tokens_from tokens_after_front
-nothing fails Front o = refl
-nothing fails Comment o = refl
-nothing fails Past o = refl
+nothing fails p o = grind arith
 
 -- no byte is left before a failure
 pub over_gap : (source : Option Input) (p : Position) (o : ℕ) (un : List ℕ) → length un ≡ 0 →
     IfSome (option_map (prepend un) source) (λ i. (i.bytes ≡ un) × (i.fails ≡ true))
     → IsOver (left_at p o un source) true
-over_gap source p o un none h =
-    known p o un source (λ l. (l.tokens ≡ []) × (l.fails ≡ true)) (λ r is short.
-    let i : (un ++ r.bytes ≡ un) × (r.fails ≡ true) = rw is at h in
-    rw (i.0, i.1, nil_from_length un none, nothing true p o) (refl, refl))
+over_gap source p o un none h = grind (arith, nil_from_length, nothing)
 
 -- a run that no byte follows before a failure
 pub over_cut : (source : Option Input) (o : ℕ) (un : List ℕ) → 0 < length un → length un ≤ 65535 →
     ((k : ℕ) → k < length un → is_white (get_or un k 0) ≡ false) →
     IfSome (option_map (prepend un) source) (λ i. (i.bytes ≡ un) × (i.fails ≡ true))
     → IsOver (left_at Past o un source) true
-over_cut source o un some short solid h =
-    known Past o un source (λ l. (l.tokens ≡ []) × (l.fails ≡ true)) (λ r is _.
-    let i : (un ++ r.bytes ≡ un) × (r.fails ≡ true) = rw is at h in
-    rw (i.0, i.1, token_cut o un some short solid) (refl, refl))
+over_cut source o un some short solid h = grind (arith, token_cut)
 
 -- at the end nothing is left
 pub over_end : (source : Option Input) (p : Position) (o : ℕ) (un : List ℕ) → length un ≡ 0
     → source ≡ Some (record { bytes = []; fails = false }) →
     IsOver (left_at p o un source) false
-over_end source p o un none end =
-    known p o un source (λ l. (l.tokens ≡ []) × (l.fails ≡ false)) (λ r is _.
-    let over : Input = record { bytes = []; fails = false } in
-    let e : r ≡ over = (cc) in
-    rw (e, nil_from_length un none, nothing false p o) (refl, refl))
+over_end source p o un none end = grind (arith, nil_from_length, nothing)
 
 -- what is over was so before
 pub over_kept : (old new : Option Rest) (fails : Bool) → Keeps old new → IsOver new fails
     → IsOver old fails
-over_kept None new fails kept over = tt
-over_kept (Some l) new fails kept over = rw kept at over
+over_kept old new fails kept over = grind arith
 
 pub on_err : {A E : Type 0} (r : Result A E) (P : Type 0) → P → OnErr r P
-on_err (Ok x) P p = tt
-on_err (Err e) P p = p
+on_err r P p = grind arith
 
 -- bytes in front are where they were
 pub in_front : (old new : List ℕ) (k : ℕ) → take (length old) new ≡ old → k < length old
@@ -123,10 +96,7 @@ pub input_keeps : (p : Position) (o o' : ℕ) (un un' : List ℕ) (source source
     → o' ≡ o →
     IfSome (option_map (prepend un) source) (λ i. option_map (prepend un') source' ≡ Some i) →
     Keeps (left_at p o un source) (left_at p o' un' source')
-input_keeps p o o' un un' source source' same h =
-    rw same (known p o un source (λ l. left_at p o un' source' ≡ Some l) (λ r is short.
-    let e : option_map (prepend un') source' ≡ Some (prepend un r) = rw is at h in
-    rw e (answers p o un r short)))
+input_keeps p o o' un un' source source' same h = grind arith
 
 -- a part is no longer than its bounds say
 pub part_short : (xs : List ℕ) (start end : ℕ) → length (slice_range xs start end) ≤ end - start
@@ -194,9 +164,7 @@ some_weaker (Some l) P Q f p = f l p
 -- the first n of a part
 pub part_front : (xs : List ℕ) (start end n : ℕ) → n ≤ end - start
     → slice_range xs start (start + n) ≡ take n (slice_range xs start end)
-part_front xs start end n within =
-    let e : start + n - start ≡ n = omega arith in
-    rw (e, take-take n (end - start) (drop start xs) within) refl
+part_front xs start end n within = grind (arith, take-take)
 
 -- the answer where n bytes are taken, or 65,536 for more
 pub read_answer : (source : Option Input) (o : ℕ) (buf : List ℕ) (start end n len : ℕ)
@@ -241,19 +209,11 @@ pub token_part : (buf : List ℕ) (start end n len : ℕ) → len ≡ min n 6553
     → n ≤ length (slice_range buf start end) →
     ((k : ℕ) → k < n → is_white (get_or (slice_range buf start end) k 0) ≡ false) →
     IsToken (slice_range buf start (start + len))
-token_part buf start end n len shown some within solid =
-    let short : length (slice_range buf start end) ≤ end - start = part_short buf start end in
-    let front : slice_range buf start (start + len) ≡ take len (slice_range buf start end) = part_front buf start end len (omega arith) in
-    let size : length (take len (slice_range buf start end)) ≡ len = length-take-le len (slice_range buf start end) (omega arith) in
-    rw front (record {
-      run = record { some = omega arith; solid = λ k h. let lt : k < len = omega arith in rw (get_or-take len (slice_range buf start end) k 0 lt) (solid k (omega arith)) };
-      short = omega arith;
-    })
+token_part buf start end n len shown some within solid = grind (arith, part_short, length-take-le, get_or-take)
 
 -- what holds of what is left later held of it before
 pub kept : (old new : Option Rest) (P : Rest → Type 0) → Keeps old new → IfSome new P → IfSome old P
-kept None new P keeps h = tt
-kept (Some l) new P keeps h = rw keeps at h
+kept old new P keeps h = grind arith
 
 -- white space and a token behind it are taken
 passed : (source : Option Input) (o o' o'' : ℕ) (un un' : List ℕ) (gap len : ℕ) → gap ≤ length un →
@@ -264,11 +224,7 @@ passed : (source : Option Input) (o o' o'' : ℕ) (un un' : List ℕ) (gap len :
     IfSome (left_at Past o un source) (λ l.
     (Ok (Some (record { bytes = take len (drop gap un); offset = o'; long = false }))
     ≡ next_answer l) × (left_at Past o'' un' source ≡ Some (next_left l)))
-passed source o o' o'' un un' gap len within same front short at behind cut =
-    let more : len < length (drop gap un) = front.within in
-    let size : length (drop gap un) ≡ length un - gap = length-drop gap un in
-    kept _ _ _ (gap_left source Past Past o o' un (drop gap un) gap within refl at same)
-    (token_left source o' o'' (drop gap un) un' len front.some (omega arith) (omega arith) front.solid (λ h. front.white) (λ e. absurd (omega arith)) cut behind)
+passed source o o' o'' un un' gap len within same front short at behind cut = grind (arith, length-drop gap un, gap_left source Past Past o o' un (drop gap un) gap within, token_left)
 
 pub passed_answer : (source : Option Input) (o o' : ℕ) (un : List ℕ) (gap len : ℕ)
     → gap ≤ length un →
@@ -308,8 +264,7 @@ passed_left source o o' o'' un un' gap len within same front short at behind cut
     let more : len < length token = front.within in
     let size : length (drop len token) ≡ length token - len = length-drop len token in
     let one : un' ≡ drop 1 (drop len token) = cut ∙ sym (drop-drop 1 len token) in
-    let keeps : Keeps (left_at Past mid (drop len token) source) (left_at Past o'' un' source) =
-    gap_left source Past Past mid o'' (drop len token) un' 1 (omega arith) one (omega arith) (white_taken token len more front.white) in
+    let keeps : Keeps (left_at Past mid (drop len token) source) (left_at Past o'' un' source) = grind (arith, white_taken) in
     some_weaker _ _ _ (λ (l : Rest) (p : (Ok (Some (record { bytes = take len token; offset = o'; long = false })) ≡ next_answer l) × (left_at Past mid (drop len token) source ≡ Some (next_left l))).
     still _ _ _ keeps p.1)
     (passed source o o' mid un (drop len token) gap len within same front short at refl refl)

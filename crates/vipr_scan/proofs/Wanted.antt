@@ -1,4 +1,5 @@
 -- What an answer of the reader of tokens says of the token that is wanted
+use Rattle.std.proofs.Common.{arith}
 use Rattle.std.proofs.Common.{◌≡◌, ◌≤◌, Bool, true, false, List, [], ◌∷◌, length, nat_lt, Option}
 use Rattle.std.proofs.Common.{Some, None, Result, Ok, IfOk, IfSome, IsSome, refl, sym, ap, ◌∙◌}
 use Rattle.std.proofs.{lemmas.Bool.ltb-false, lemmas.List.take_all}
@@ -33,8 +34,7 @@ pub short_known : (old new : Option Rest) (s : TokenView)
     → IfSome old (λ l. Ok (Some s) ≡ next_answer l) → s.long ≡ false
     → IfSome old (λ l. new ≡ Some (next_left l))
     → IsSome old → (token_read (rest_of old) ≡ Ok (token_seen s, rest_of new)) × IsSome new
-short_known (Some l) new s answer short left known = rw left (short_token l s answer short, refl)
-short_known None new s answer short left known = absurd (cc)
+short_known old new s answer short left known = grind (arith, short_token)
 
 -- what an answer leaves, where the next token is whole
 pub behind_of : (old new : Option Rest) (answer : Result (Option TokenView) ScanError)
@@ -51,6 +51,4 @@ behind_of (Some l) new answer is left = go l.tokens l.fails is left
 
     go : (ts : List Token) (fails : Bool) → answer ≡ first_answer ts fails → (stops answer ≡ false → new ≡ Some (next_left (record l { tokens = ts; fails = fails })))
         → IfOk (first_token ts (record l { tokens = ts; fails = fails })) (λ x. new ≡ Some x.1)
-    go [] false is left = tt
-    go [] true is left = tt
-    go (t ∷ ts) fails is left = long (nat_lt 65535 (length t.bytes)) t ts fails refl is left
+    go ts fails is left = grind arith
