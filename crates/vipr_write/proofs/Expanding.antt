@@ -50,8 +50,4 @@ marked_here part (n ∷ ns) text h =
 pub long : (part : List ℕ) (ns : List ℕ) (text : List ℕ) → sum ns ≤ length text
     → length (expanded part ns text) ≡ length ns * length part + length text
 long part [] text h = omega arith
-long part (n ∷ ns) text h =
-    let fits = first_fits n ns text h in
-    let rest = rest_fits n ns text h in
-    let inner = long part ns (drop n text) rest in
-    grind (arith, length-append, length-drop, length-take-le, inner)
+long part (n ∷ ns) text h = grind (arith, first_fits n ns text h, long part ns (drop n text) (rest_fits n ns text h), length-append, length-drop, length-take-le)

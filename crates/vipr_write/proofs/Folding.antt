@@ -1,9 +1,8 @@
 -- A text with marks that grows
-use Rattle.std.proofs.Common.{◌≡◌, ℕ, ◌-◌, false, List, [], ◌∷◌, ◌++◌, length, refl, sym, ap}
-use Rattle.std.proofs.Common.{◌∙◌, append_assoc, length-append, arith, Result, Ok, Err, OnOk, OnErr}
-use Rattle.std.proofs.Common.{rules}
-use Rattle.std.proofs.lemmas.Grind.{common_steps}
-use Rattle.std.proofs.{lemmas.List.append-nil, lemmas.List.Sums.sum_by_push}
+use Rattle.std.proofs.Common.{◌≡◌, ℕ, ◌-◌, false, List, [], ◌∷◌, ◌++◌, length, refl, sym}
+use Rattle.std.proofs.Common.{append_assoc, length-append, arith, Result, OnOk, OnErr, rules}
+use Rattle.std.proofs.lemmas.List.Sums.{sum_by_push}
+use Rattle.std.proofs.{lemmas.Grind.common_steps, lemmas.List.append-nil}
 use Rattle.vipr_bytes.proofs.Laws.{grown}
 use Rattle.vipr_bytes.specs.{Grown.GrowsBy, Puts.Puts}
 use Rattle.vipr_spec.specs.Constraint.{Row}
@@ -18,13 +17,6 @@ longer : (f g : Folded) (more : List ℕ) → IsFolded f → g.gaps.items ≡ f.
     → g.text.bytes.items ≡ f.text.bytes.items ++ more
     → IsFolded g × (full g ≡ full f ++ more)
 longer f g more is gaps marked form objective spelled text = search (rules, length-append, behind)
-
--- by a mark
-marked_one : (f g : Folded) (end : ℕ) → IsFolded f → end ≡ length f.text.bytes.items
-    → g.text.bytes.items ≡ f.text.bytes.items → g.gaps.items ≡ f.gaps.items ++ (end - f.marked) ∷ []
-    → g.marked ≡ end → g.form ≡ f.form → g.objective ≡ f.objective → g.spelled ≡ f.spelled
-    → IsFolded g × (full g ≡ full f ++ f.spelled.items)
-marked_one f g end is whole text gaps marked form objective spelled = search (rules, sum_by_push, marked_here)
 
 -- one step more
 pub folds : (f g : Folded) (more : List ℕ) → g.form ≡ f.form → g.objective ≡ f.objective
@@ -43,8 +35,7 @@ folds_text f g more gaps marked form objective spelled grows = search (rules, fo
 pub folds_mark : (f g : Folded) (end : ℕ) → end ≡ length f.text.bytes.items → g.text ≡ f.text
     → g.gaps.items ≡ f.gaps.items ++ (end - f.marked) ∷ [] → g.marked ≡ end → g.form ≡ f.form
     → g.objective ≡ f.objective → g.spelled ≡ f.spelled → Puts FoldsBy f g f.spelled.items
-folds_mark f g end whole text gaps marked form objective spelled = folds f g f.spelled.items form objective spelled (λ unfailed.
-    (ap (λ t. t.failed) (sym text) ∙ unfailed, λ is. marked_one f g end is whole (ap (λ t. t.bytes.items) text) gaps marked form objective spelled))
+folds_mark f g end whole text gaps marked form objective spelled = grind (arith, folds, sum_by_push, marked_here)
 
 -- ---- what was put
 none_more : (f : Folded) → FoldsBy f [] f
@@ -68,5 +59,4 @@ pub pushed : {A E : Type 0} (f g h : Folded) (objective : Row) (more : List ℕ)
     (r : Result A E) → Puts FoldsBy f g more → IsIntact f → objective ≡ f.objective
     → begun f ≡ b → KeepsOrEmpties g h r → (IsIntact h × (objective ≡ h.objective))
     × OnOk r (begun h ≡ with_more_bytes b more) × OnErr r (begun h ≡ with_no_bytes b)
-pushed f g h objective more b (Ok u) p is same seen kept = search (rules, intact_more, put_folded)
-pushed f g h objective more b (Err e) p is same seen kept = search (rules, put_folded)
+pushed f g h objective more b r p is same seen kept = grind (arith, put_folded)

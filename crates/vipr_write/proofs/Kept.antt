@@ -25,23 +25,13 @@ use Rattle.vipr_write.specs.{declared.form.Form.Form, declared.statements.Step.S
 use Rattle.vipr_write.proofs.Parts.{certificate_parts, derivation_parts_in}
 
 both_true : (a b : Bool) → (a && b) ≡ true → (a ≡ true) × (b ≡ true)
-both_true true b h = (refl, h)
-both_true false b h = absurd (cc)
+both_true a b h = grind arith
 
 at_most : (m n : ℕ) → nat_le m n ≡ true → m ≤ n
 at_most m n e = grind (arith, nat_tests)
 
 tests_true : (m n : ℕ) → m ≤ n → nat_le m n ≡ true
 tests_true m n h = grind (arith, nat_tests)
-
--- a part of a text that grows
-part_same : (text more : List ℕ) (start end : ℕ) → start ≤ end → end ≤ length text
-    → slice_range (text ++ more) start end ≡ slice_range text start end
-part_same text more start end a b = search (rules, length-drop, drop-append-le, take-append-le)
-
-part_new : (text more : List ℕ)
-    → slice_range (text ++ more) (length text) (length (text ++ more)) ≡ more
-part_new text more = grind (arith, common_steps, length-append, drop-append-le, drop-length, take-length)
 
 -- a number of the ends, of which there is one more
 end_same : (xs : List ℕ) (y i : ℕ) → i < length xs → get_or (xs ++ y ∷ []) i 0 ≡ get_or xs i 0
@@ -79,7 +69,7 @@ module _ (t u : Statements) (more : List ℕ) (ends : u.ends ≡ t.ends ++ lengt
     within_more = search (rules, length-append, parts, same_start, same_end, within_by)
 
     own_same : own_bytes u s ≡ own_bytes t s
-    own_same = search (rules, cond, slice_range, within_more, same_start, same_end, part_same, parts)
+    own_same = search (rules, cond, slice_range, within_more, same_start, same_end, parts, length-drop, drop-append-le, take-append-le)
 
   -- the last one
   module _ (s : Statement) (index : s.index ≡ length t.ends) (last : slice_index (0 ∷ t.ends) (length t.ends) ≡ length t.text.bytes.items) where
@@ -93,7 +83,7 @@ module _ (t u : Statements) (more : List ℕ) (ends : u.ends ≡ t.ends ++ lengt
     last_within = search (rules, length-append, last_start, last_end, within_by)
 
     last_own : own_bytes u s ≡ more
-    last_own = search (rules, cond, slice_range, last_within, last_start, last_end, part_new)
+    last_own = search (rules, cond, slice_range, last_within, last_start, last_end, common_steps, length-append, drop-append-le, drop-length, take-length)
 
   steps_same : (steps : List Step) → u.objective ≡ t.objective → u.spelled.items ≡ t.spelled.items
       → All (λ (s : Step). is_within t.ends t.text.bytes.items s.stated ≡ true) steps
@@ -106,8 +96,7 @@ module _ (t u : Statements) (more : List ℕ) (ends : u.ends ≡ t.ends ++ lengt
       let here = All-head P s steps a in
       let name : own_bytes u s.stated ++ row_bytes u.spelled.items s.stated ≡ own_bytes t s.stated ++ row_bytes t.spelled.items s.stated =
       ap₂ (λ x y. x ++ y) (own_same s.stated here) (ap (λ l. row_bytes l s.stated) r) in
-      let one : step_of (statement_in u) s ≡ step_of (statement_in t) s =
-      ap₂ (λ n q. let d : Derivation = record { name = n; stated = record { row = q; sense = equal; bound = zero_ℚ }; reason = kept_reason_of s.reason; last = s.last } in d) name o in
+      let one : step_of (statement_in u) s ≡ step_of (statement_in t) s = grind arith in
       (ap₂ (λ x l. x ∷ l) one rest.0, All-cons (λ (x : Step). is_within u.ends u.text.bytes.items x.stated ≡ true) s steps (within_more s.stated here) rest.1)
 
 pub kept_more : (t u : Statements) (more : List ℕ) (s : Step) (d : Derivation)

@@ -29,8 +29,7 @@ Rises low n [] = Unit {0}
 Rises low n (k ∷ ks) = (low ≤ k) × (k < n) × Rises (k + 1) n ks
 
 both : (a b : Bool) → T (a && b) → T a × T b
-both true b h = (tt, h)
-both false b h = absurd h
+both a b h = grind arith
 
 module _ {X : Type 0} where
   above : (k : ℕ) (es : List (ℕ × X)) → T (below_all nat_cmp k es) → AllByRecursion (λ j. k + 1 ≤ j) (keys_of es)

@@ -1,16 +1,15 @@
 -- Rows that have the same entries
-use Rattle.std.proofs.Common.{◌≡◌, ◌↔◌, Bool, true, false, ◌&&◌, nat_lt, length, refl, sym}
+use Rattle.std.proofs.Common.{arith, ◌≡◌, ◌↔◌, Bool, true, false, ◌&&◌, nat_lt, length, refl, sym}
 use Rattle.std.proofs.Common.{ap, ◌∙◌, IsTrue}
+use Rattle.std.proofs.lemmas.Slice.Eq.{slice_eq-Decides}
 use Rattle.std.specs.FinMap.{entries, find, get-entries, same_map, nat_cmp-IsAntisymmetric}
 use Rattle.std.specs.{Cmp.nat_cmp_total, Ordering.nat_cmp}
-use Rattle.std.proofs.lemmas.Slice.Eq.{slice_eq-Decides}
 use Rattle.vipr_spec.specs.Constraint.{Row}
 use Rattle.vipr_linear.proofs.Laws.{same_entry}
 use Rattle.vipr_write.specs.Forms.{are_same, is_objective}
 
 first_true : (a b : Bool) → (a && b) ≡ true → a ≡ true
-first_true true b h = refl
-first_true false b h = absurd (cc)
+first_true a b h = grind arith
 
 same_entries_row : (r s : Row) → entries r ≡ entries s → r ≡ s
 same_entries_row r s e = same_map nat_cmp_total nat_cmp-IsAntisymmetric r s (λ q. get-entries r q ∙ ap (find nat_cmp q) e ∙ sym (get-entries s q))
@@ -30,8 +29,7 @@ same_entries objective row same is = by same is
     found = slice_eq-Decides same_entry (entries row) (entries objective) (are_same (entries row) (entries objective)) refl
 
     other : (b : Bool) → (b ≡ true → ⊥) → b ≡ false
-    other true h = absurd (h refl)
-    other false h = refl
+    other b h = grind arith
 
     by : (same : Bool) → (IsTrue same ↔ (row ≡ objective)) → are_same (entries row) (entries objective) ≡ same
     by true is = found.1 (ap entries (is.0 refl))

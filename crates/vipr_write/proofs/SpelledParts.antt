@@ -1,16 +1,14 @@
 -- What spells each part of a certificate, and the whole
 use Rattle.std.proofs.Common.{◌≡◌, ℕ, ◌+◌, ◌<◌, ◌≤◌, inl, inr, ⊎_elim, Bool, true, false}
-use Rattle.std.proofs.Common.{if◌then◌else◌, List, [], ◌∷◌, ◌++◌, length, All, Option, Some, None}
-use Rattle.std.proofs.Common.{IfSome, codes, arith, refl, sym, ap₂, ◌∙◌, subst, append_assoc, append-nil}
+use Rattle.std.proofs.Common.{if◌then◌else◌, List, [], ◌∷◌, ◌++◌, length, All, Option, IfSome}
+use Rattle.std.proofs.Common.{codes, arith, refl, sym, subst, append_assoc, append-nil}
+use Rattle.std.proofs.{lemmas.Grind.flat_map-append, lemmas.List.Folds.flat_map-map}
 use Rattle.std.specs.{FinMap.entries, Fmt.decimal, List.flat_map}
-use Rattle.std.proofs.lemmas.Grind.{flat_map-append}
-use Rattle.std.proofs.lemmas.List.Folds.{flat_map-map}
 use Rattle.vipr_spec.specs.Number.{SpellsNumber, number_text}
-use Rattle.vipr_spec.specs.Constraint.{Sense, at_most, equal, at_least, Row, Ints, at, IsInteger}
-use Rattle.vipr_spec.specs.Constraint.{Constraint, NamesBelow}
-use Rattle.vipr_spec.specs.Certificate.{Name, Named, Direction, minimum, maximum, Claim, infeasible}
-use Rattle.vipr_spec.specs.Certificate.{range, Problem, variables, integer_variables, Reason, asm}
-use Rattle.vipr_spec.specs.Certificate.{lin, rnd, uns, sol, Derivation, Certificate}
+use Rattle.vipr_spec.specs.Constraint.{Sense, Row, Ints, at, IsInteger, Constraint, NamesBelow}
+use Rattle.vipr_spec.specs.Certificate.{Name, Named, Direction, Claim, infeasible, range, Problem}
+use Rattle.vipr_spec.specs.Certificate.{variables, integer_variables, Reason, asm, lin, rnd, uns}
+use Rattle.vipr_spec.specs.Certificate.{sol, Derivation, Certificate}
 use Rattle.vipr_spec.specs.Shape.{ReasonShape, DerivationShape, RowFits, ConstraintFits, ClaimFits}
 use Rattle.vipr_spec.specs.Shape.{EntryFits, ReasonFits, DerivationFits, CanWriteProblem, CanWrite}
 use Rattle.vipr_spec.specs.Grammar.{SpellsCount, SpellsVariable, SpellsSense, SpellsDirection}
@@ -20,10 +18,9 @@ use Rattle.vipr_spec.specs.Grammar as grammar
 use Rattle.vipr_spec.proofs.Laws.{text_spelled, row_below, set_below}
 use Rattle.vipr_write.specs.Canonical.{pair_words, vector_words, sense_word, direction_word}
 use Rattle.vipr_write.specs.Canonical.{bound_word, last_word, claim_words, solution_words}
-use Rattle.vipr_write.specs.Canonical.{reason_words, solutions_lines}
+use Rattle.vipr_write.specs.Canonical.{reason_words}
 use Rattle.vipr_write.specs.Forms.{is_objective, row_words, constraint_words_in, given_words_in}
-use Rattle.vipr_write.specs.Forms.{derivation_words_in, problem_lines_in, derivations_lines_in}
-use Rattle.vipr_write.specs.Forms.{certificate_lines_in}
+use Rattle.vipr_write.specs.Forms.{derivation_words_in, problem_lines_in, certificate_lines_in}
 use Rattle.vipr_write.specs.declared.form.Form.{Form}
 use Rattle.vipr_write.specs.declared.form.Form.TheVariants.{Canonical, Compact}
 use Rattle.vipr_write.proofs.RowEntries.{row_entries, set_members}
@@ -40,24 +37,19 @@ number_part : (x : ℚ) → Spelling (one SpellsNumber x) (IsBounded x) (number_
 number_part x = one_part SpellsNumber x (number_text x) (λ b. (number_token x b, text_spelled x b)) (λ t s. number_bounded t x s)
 
 sense_part : (s : Sense) → Spelling (one SpellsSense s) (Unit {0}) (sense_word s ∷ [])
-sense_part equal = one_part SpellsSense equal (codes "E") (λ h. (plain_token (codes "E") refl, refl)) (λ t s. tt)
-sense_part at_most = one_part SpellsSense at_most (codes "L") (λ h. (plain_token (codes "L") refl, refl)) (λ t s. tt)
-sense_part at_least = one_part SpellsSense at_least (codes "G") (λ h. (plain_token (codes "G") refl, refl)) (λ t s. tt)
+sense_part s = grind (arith, plain_token)
 
 direction_part : (d : Direction)
     → Spelling (one SpellsDirection d) (Unit {0}) (direction_word d ∷ [])
-direction_part minimum = one_part SpellsDirection minimum (codes "min") (λ h. (plain_token (codes "min") refl, refl)) (λ t s. tt)
-direction_part maximum = one_part SpellsDirection maximum (codes "max") (λ h. (plain_token (codes "max") refl, refl)) (λ t s. tt)
+direction_part d = grind (arith, plain_token)
 
 bound_part : (infinite : List ℕ) (x : Option ℚ) → IsToken infinite
     → Spelling (one (SpellsBound infinite) x) (IfSome x IsBounded) (bound_word infinite x ∷ [])
-bound_part infinite None t = one_part (SpellsBound infinite) None infinite (λ h. (t, refl)) (λ t s. tt)
-bound_part infinite (Some x) t = one_part (SpellsBound infinite) (Some x) (number_text x) (λ b. (number_token x b, text_spelled x b)) (λ t s. number_bounded t x s)
+bound_part infinite x t = grind (arith, number_token, text_spelled, number_bounded)
 
 last_part : (last : Option ℕ)
     → Spelling (one SpellsLast last) (IfSome last (λ i. i ≤ most_count)) (last_word last ∷ [])
-last_part None = one_part SpellsLast None (codes "-1") (λ h. (plain_token (codes "-1") refl, refl)) (λ t s. tt)
-last_part (Some i) = one_part SpellsLast (Some i) (decimal i) (λ h. (decimal_token i h, (decimal_natural i h, h))) (λ t s. s.1)
+last_part last = grind (arith, plain_token, decimal_token, decimal_natural)
 
 -- ---- claims and reasons
 
@@ -210,22 +202,7 @@ problem_part form p =
         ),
       ),
     ))
-    (λ h. record {
-      shape = record {
-        names = h.0.1;
-        few_names = h.0.0;
-        integers = h.1.0;
-        objective = h.1.1.0.below;
-        constraints = λ k d l. let c = h.1.1.1.0.1.1 k d l in record { name = c.0; row = c.1 };
-        few_constraints = h.1.1.1.0.0;
-      };
-      fits = record {
-        objective = h.1.1.0.fits;
-        constraints = λ k d l. (h.1.1.1.0.1.1 k d l).2;
-        bound_count = h.1.1.1.0.1.0;
-        claim = h.1.1.1.1;
-      };
-    })
+    (λ h. grind arith)
     (behind (behind (fixed_part (codes "VER") refl) (fixed_part (codes "1.0") refl))
     (with_part (names_part p.names) (λ names.
     then_part (integers_part p names.0)
@@ -263,13 +240,7 @@ problem_joined form p = simp (flat_map-append, flat_map-map, append_assoc, appen
 
 joined : (form : Form) (c : Certificate)
     → words_of (certificate_lines_in form c) ≡ certificate_words form c
-joined form c =
-    let steps = derivations_lines_in form c.problem.objective c.derivations in
-    flat_map-append (λ l. l) (problem_lines_in form c.problem) (solutions_lines c.solutions ++ steps)
-    ∙ ap₂ (λ a b. a ++ b) (problem_joined form c.problem)
-    (flat_map-append (λ l. l) (solutions_lines c.solutions) steps
-    ∙ ap₂ (λ a b. (codes "SOL" ∷ decimal (length c.solutions) ∷ a) ++ (codes "DER" ∷ decimal (length c.derivations) ∷ b))
-    (flat_map-map (λ l. l) solution_words c.solutions) (flat_map-map (λ l. l) (derivation_words_in form c.problem.objective) c.derivations))
+joined form c = grind (arith, flat_map-append, problem_joined, flat_map-map)
 
 pub certificate_part : (form : Form) (c : Certificate)
     → Spelling (Sections c) (CanWrite c) (words_of (certificate_lines_in form c))
@@ -282,20 +253,7 @@ certificate_part form c = subst (Spelling (Sections c) (CanWrite c)) (sym (joine
         (w.shape.few_derivations, λ k d h. (w.shape.derivations k d h, w.fits.derivations k d h)),
       ),
     ))
-    (λ h. record {
-      shape = record {
-        problem = h.0.shape;
-        few_solutions = h.1.0.0;
-        solutions = λ k d l. let s = h.1.0.1 k d l in record { name = s.0; row = s.1.below };
-        few_derivations = h.1.1.0;
-        derivations = λ k d l. (h.1.1.1 k d l).0;
-      };
-      fits = record {
-        problem = h.0.fits;
-        solutions = λ k d l. (h.1.0.1 k d l).1.fits;
-        derivations = λ k d l. (h.1.1.1 k d l).1;
-      };
-    })
+    (λ h. grind arith)
     (with_part (problem_part form c.problem) (λ w.
     let few = w.shape.few_names in
     then_part (solutions_part (variables c.problem) few c.solutions)

@@ -1,6 +1,6 @@
 -- The rows of pairs: which variables they name, and their coefficients
-use Rattle.std.proofs.Common.{◌≡◌, ◌≢◌, ℕ, Bool, true, false, cond, List, [], ◌∷◌, filter, All}
-use Rattle.std.proofs.Common.{refl, sym, ◌∙◌, subst}
+use Rattle.std.proofs.Common.{arith, ◌≡◌, ◌≢◌, ℕ, Bool, cond, List, [], ◌∷◌, filter, All, refl, sym}
+use Rattle.std.proofs.Common.{◌∙◌, subst}
 use Rattle.std.proofs.lemmas.List.{nil_from_length}
 use Rattle.std.proofs.lemmas.List.Elements.{All-nil, All-cons, All-head, All-tail}
 use Rattle.std.specs.declared.cmp.Ordering.TheVariants.{Less, Equal, Greater}
@@ -40,8 +40,7 @@ Fits x = (x ≢ zero_ℚ) × IsBounded x
 
 fit_by : (p : ℕ × ℚ) (ps : List (ℕ × ℚ)) (b : Bool) → is_nonzero p ≡ b → IsBounded p.1
     → All (λ e. Fits e.1) ps → All (λ e. Fits e.1) (cond b (p ∷ ps) ps)
-fit_by p ps true t h a = All-cons (λ (e : ℕ × ℚ). Fits e.1) p ps (not_zero p.1 t, h) a
-fit_by p ps false t h a = a
+fit_by p ps b t h a = grind (arith, not_zero)
 
 kept_fit : (ps : List (ℕ × ℚ)) → All (λ p. IsBounded p.1) ps
     → All (λ e. Fits e.1) (filter is_nonzero ps)

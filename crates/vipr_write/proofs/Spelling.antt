@@ -1,7 +1,7 @@
 -- What spells a part of a certificate: its words, within its limits, and nothing beyond them
-use Rattle.std.proofs.Common.{ℕ, ◌≤◌, List, [], ◌∷◌, ◌++◌, length, All, refl, subst, rules}
-use Rattle.std.specs.{Fmt.decimal, List.flat_map}
+use Rattle.std.proofs.Common.{arith, ℕ, ◌≤◌, List, [], ◌∷◌, ◌++◌, length, All, refl, rules}
 use Rattle.std.proofs.lemmas.List.Elements.{All-nil, All-cons, All-append, All-head, All-tail}
+use Rattle.std.specs.{Fmt.decimal, List.flat_map}
 use Rattle.vipr_spec.specs.Grammar.{SpellsCount, word, one, ◌then◌, each}
 use Rattle.vipr_spec.specs.{Reading.most_count, Tokens.IsToken}
 use Rattle.vipr_spec.proofs.Laws.{all_parts}
@@ -48,10 +48,7 @@ with_part {a = a} {b = b} first second = record {
       let p = first.written h.0 in
       let q = (second h.0).written h.1 in
       record { tokens = All-append IsToken a b p.tokens q.tokens; shape = (a, b, refl, p.shape, q.shape) };
-  limits = λ ts t s.
-      let parts = all_parts IsToken s.0 s.1 (subst (All IsToken) s.2 t) in
-      let h = first.limits s.0 parts.0 s.3 in
-      (h, (second h).limits s.1 parts.1 s.4);
+  limits = grind (arith, all_parts);
 }
 
 pub then_part : {P Q : List (List ℕ) → Type 0} {A B : Type 0} {a b : List (List ℕ)}

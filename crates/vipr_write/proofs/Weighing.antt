@@ -4,8 +4,7 @@ use Rattle.std.proofs.Common.{map, take, get_or, All, refl, sym, ap, ◌∙◌, 
 use Rattle.std.proofs.lemmas.List.Sums.{sum_by-append, sum_by-cons}
 use Rattle.std.proofs.lemmas.List.Elements.{All-head, All-tail}
 use Rattle.std.proofs.{lemmas.Grind.common_steps, lemmas.List.length-append, lemmas.List.take_more}
-use Rattle.std.specs.Prelude.{codes, Bool, true, false, if◌then◌else◌}
-use Rattle.std.specs.{FinMap.entries, Fmt.decimal, List.flat_map, List.sum_by}
+use Rattle.std.specs.{FinMap.entries, Fmt.decimal, List.flat_map, List.sum_by, Prelude.codes}
 use Rattle.vipr_spec.specs.Constraint.{Row, Constraint}
 use Rattle.vipr_spec.specs.Certificate.{Name, Named, Claim, Derivation, Certificate, Problem}
 use Rattle.vipr_spec.specs.Certificate.{integer_variables}
@@ -14,12 +13,9 @@ use Rattle.vipr_spec.proofs.Laws.{all_parts}
 use Rattle.vipr_write.specs.Canonical.{pair_words, constraint_words, given_words, claim_words}
 use Rattle.vipr_write.specs.Canonical.{solution_words, reason_words, derivation_words, last_word}
 use Rattle.vipr_write.specs.Canonical.{direction_word, vector_words, heading, variables_lines}
-use Rattle.vipr_write.specs.Canonical.{problem_lines, derivations_lines}
-use Rattle.vipr_write.specs.Canonical.{words_after_spaces, line_text, lines_text, certificate_lines}
-use Rattle.vipr_write.specs.Forms.{is_objective, row_words, constraint_words_in}
-use Rattle.vipr_write.specs.Forms.{derivation_words_in, problem_lines_in, derivations_lines_in}
-use Rattle.vipr_write.specs.Forms.{certificate_lines_in, text_in}
-use Rattle.vipr_write.specs.declared.form.Form.TheVariants.{Canonical, Compact}
+use Rattle.vipr_write.specs.Canonical.{problem_lines, words_after_spaces, line_text, lines_text}
+use Rattle.vipr_write.specs.Canonical.{certificate_lines}
+use Rattle.vipr_write.specs.Forms.{problem_lines_in, certificate_lines_in, text_in}
 use Rattle.vipr_write.specs.{Weight.weight, declared.form.Form.Form}
 use Rattle.vipr_bytes.specs.Hands.{counted}
 use Rattle.vipr_write.proofs.{LineTokens.words_of, WholeText.tokens_all}
@@ -109,14 +105,12 @@ weight-cons l ls = sum_by-cons (λ (ws : List (List ℕ)). suc (length ws)) l ls
 front_weight : (v w i : List (List ℕ)) (ns js : List (List (List ℕ)))
     → weight (v ∷ w ∷ (ns ++ i ∷ js)) ≡ suc (length v)
     + (suc (length w) + (weight ns + (suc (length i) + weight js)))
-front_weight v w i ns js =
-    weight-cons v (w ∷ (ns ++ i ∷ js)) ∙ ap (λ n. suc (length v) + n) (weight-cons w (ns ++ i ∷ js) ∙ ap (λ n. suc (length w) + n) (weight-append ns (i ∷ js) ∙ ap (λ n. weight ns + n) (weight-cons i js)))
+front_weight v w i ns js = search (rules, weight-cons, weight-append)
 
 back_weight : (o v c k : List (List ℕ)) (cs : List (List (List ℕ)))
     → weight (o ∷ v ∷ c ∷ (cs ++ k ∷ [])) ≡ suc (length o)
     + (suc (length v) + (suc (length c) + (weight cs + weight (k ∷ []))))
-back_weight o v c k cs =
-    weight-cons o (v ∷ c ∷ (cs ++ k ∷ [])) ∙ ap (λ n. suc (length o) + n) (weight-cons v (c ∷ (cs ++ k ∷ [])) ∙ ap (λ n. suc (length v) + n) (weight-cons c (cs ++ k ∷ []) ∙ ap (λ n. suc (length c) + n) (weight-append cs (k ∷ []))))
+back_weight o v c k cs = search (rules, weight-cons, weight-append)
 
 problem_is : (p : Problem) → weight (problem_lines p) ≡ 18 + weight (claim_words p.claim ∷ [])
     + 2 * length p.names + 2 * length (integer_variables p) + 2 * length (entries p.objective)
@@ -144,23 +138,6 @@ pub problem_counted : (p : Problem) (names : List (List ℕ)) (js : List ℕ) (o
 problem_counted p names js objective es cons claim k first second third total a b c d e f g h i j l = search (rules, problem_is)
 
 -- ---- in the compact form there are no more of them
-row_fewer : (form : Form) (objective row : Row)
-    → length (row_words form objective row) ≤ length (vector_words row)
-row_fewer Canonical objective row = omega arith
-row_fewer Compact objective row = by (is_objective objective row)
-  where
-    by : (b : Bool) → length (if b then codes "OBJ" ∷ [] else vector_words row) ≤ length (vector_words row)
-    by true = omega arith
-    by false = omega arith
-
-constraint_fewer : (form : Form) (objective : Row) (name : Name) (c : Constraint)
-    → length (constraint_words_in form objective name c) ≤ length (constraint_words name c)
-constraint_fewer form objective name c = let row = row_fewer form objective c.row in omega (arith, row)
-
-derivation_fewer : (form : Form) (objective : Row) (d : Derivation)
-    → length (derivation_words_in form objective d) ≤ length (derivation_words d)
-derivation_fewer form objective d = search (rules, constraint_fewer, length-append)
-
 lines_fewer : {X : Type 0} (f g : X → List (List ℕ)) → ((x : X) → length (f x) ≤ length (g x))
     → (xs : List X) → weight (map f xs) ≤ weight (map g xs)
 lines_fewer f g h [] = omega arith
@@ -168,15 +145,11 @@ lines_fewer f g h (x ∷ xs) = omega (arith, h x, lines_fewer f g h xs, weight-c
 
 pub problem_fewer : (form : Form) (p : Problem)
     → weight (problem_lines_in form p) ≤ weight (problem_lines p)
-problem_fewer form p = grind (arith, common_steps, lines_fewer, constraint_fewer, weight-append, back_weight)
-
-steps_fewer : (form : Form) (objective : Row) (ds : List Derivation)
-    → weight (derivations_lines_in form objective ds) ≤ weight (derivations_lines ds)
-steps_fewer form objective ds = grind (arith, common_steps, lines_fewer, derivation_fewer, weight-cons)
+problem_fewer form p = grind (arith, common_steps, lines_fewer, weight-append, back_weight)
 
 certificate_fewer : (form : Form) (c : Certificate)
     → weight (certificate_lines_in form c) ≤ weight (certificate_lines c)
-certificate_fewer form c = search (rules, problem_fewer, steps_fewer, weight-append)
+certificate_fewer form c = search (rules, problem_fewer, weight-append, common_steps, lines_fewer, weight-cons, length-append)
 
 pub text_short : (form : Form) (c : Certificate) → CanWrite c
     → weight (certificate_lines c) < 2 ^ 48 → length (text_in form c) < 2 ^ 64

@@ -1,11 +1,10 @@
 -- Words that are tokens, and are of a shape
-use Rattle.std.proofs.Common.{◌≡◌, ℕ, ◌<◌, ◌≤◌, inl, inr, Bool, true, false, ◌&&◌, nat_lt, nat_le}
-use Rattle.std.proofs.Common.{List, [], ◌∷◌, ◌++◌, length, All, Option, Some, None, IfSome, arith}
-use Rattle.std.proofs.Common.{refl, sym, subst, rules}
-use Rattle.std.proofs.lemmas.Grind.{common_steps}
+use Rattle.std.proofs.Common.{◌≡◌, ℕ, ◌<◌, ◌≤◌, Bool, true, false, ◌&&◌, nat_lt, nat_le, List, []}
+use Rattle.std.proofs.Common.{◌∷◌, ◌++◌, length, All, Option, IfSome, arith, sym, subst, rules}
 use Rattle.std.proofs.lemmas.Fmt.{decimal_is_IsNumeral, length-decimal-le}
 use Rattle.std.proofs.lemmas.List.Elements.{All-nil, All-cons, All-append}
-use Rattle.std.proofs.{lemmas.Bool.Decides.nat_tests, lemmas.List.length-append}
+use Rattle.std.proofs.lemmas.Bool.Decides.{nat_tests}
+use Rattle.std.proofs.{lemmas.Grind.common_steps, lemmas.List.length-append}
 use Rattle.std.specs.Str.Parse.{AllDigits, IsNumeral}
 use Rattle.std.specs.{Char.digit_value, Fmt.decimal, List.list_all}
 use Rattle.vipr_spec.specs.Number.{IsSign, under, SpellsNumber, number_text}
@@ -18,9 +17,6 @@ use Rattle.vipr_spec.proofs.Laws.{text_spelled, text_short}
 abbrev Solid : List ℕ → Type 0
 Solid bs = All (λ b. is_white b ≡ false) bs
 
-solid_token : (bs : List ℕ) → 0 < length bs → length bs ≤ 65535 → Solid bs → IsToken bs
-solid_token bs some short solid = record { run = record { some = some; solid = λ k h. solid k 0 h }; short = short }
-
 -- words of letters, digits and signs, as a test
 abbrev pub IsPlain : List ℕ → Type 0
 IsPlain bs = (nat_lt 0 (length bs) && nat_le (length bs) 65535 && list_all (λ b. nat_lt 32 b) bs) ≡ true
@@ -30,17 +26,14 @@ unfolding is_white
 above_space b h = grind (arith, nat_tests)
 
 both_true : (a b : Bool) → (a && b) ≡ true → (a ≡ true) × (b ≡ true)
-both_true true b h = (refl, h)
-both_true false b h = absurd (cc)
+both_true a b h = grind arith
 
 all_above : (bs : List ℕ) → list_all (λ b. nat_lt 32 b) bs ≡ true → Solid bs
 all_above [] h = All-nil (λ b. is_white b ≡ false)
-all_above (b ∷ bs) h =
-    let k = both_true (nat_lt 32 b) (list_all (λ b. nat_lt 32 b) bs) h in
-    All-cons (λ b. is_white b ≡ false) b bs (above_space b k.0) (all_above bs k.1)
+all_above (b ∷ bs) h = grind (arith, common_steps, above_space)
 
 pub plain_token : (bs : List ℕ) → IsPlain bs → IsToken bs
-plain_token bs h = search (rules, both_true, nat_lt, nat_le, nat_tests, solid_token, all_above)
+plain_token bs h = search (rules, both_true, nat_lt, nat_le, nat_tests, all_above)
 
 digit_solid : (b : ℕ) → digit_value b < 10 → is_white b ≡ false
 unfolding is_white
@@ -56,16 +49,13 @@ pub decimal_natural : (n : ℕ) → n ≤ most_count → SpellsNatural (decimal 
 decimal_natural n h = decimal_is_IsNumeral n (omega arith)
 
 pub decimal_token : (n : ℕ) → n ≤ most_count → IsToken (decimal n)
-decimal_token n h = grind (arith, common_steps, decimal_natural, length-decimal-le, solid_token, digits_solid)
+decimal_token n h = grind (arith, common_steps, decimal_natural, length-decimal-le, digits_solid)
 
 sign_solid : (sign : List ℕ) (is_negative : Bool) → IsSign sign is_negative → Solid sign
-sign_solid sign is_negative (inl h) = subst Solid (sym h.0) (all_above [] refl)
-sign_solid sign is_negative (inr (inl h)) = subst Solid (sym h.0) (all_above (43 ∷ []) refl)
-sign_solid sign is_negative (inr (inr h)) = subst Solid (sym h.0) (all_above (45 ∷ []) refl)
+sign_solid sign is_negative h = grind (arith, all_above)
 
 under_solid : (bottom : Option (List ℕ)) → IfSome bottom (IsNumeral 10) → Solid (under bottom)
-under_solid None h = all_above [] refl
-under_solid (Some digits) h = All-cons (λ b. is_white b ≡ false) 47 digits (above_space 47 refl) (digits_solid digits h.1)
+under_solid bottom h = grind (arith, above_space, digits_solid)
 
 number_solid : (t : List ℕ) (x : ℚ) → SpellsNumber t x → (0 < length t) × Solid t
 number_solid t x s =
@@ -75,7 +65,4 @@ number_solid t x s =
     (subst (λ bs. 0 < length bs) (sym s.joined) some, subst Solid (sym s.joined) all)
 
 pub number_token : (x : ℚ) → IsBounded x → IsToken (number_text x)
-number_token x b =
-    let k = number_solid (number_text x) x (text_spelled x b) in
-    let l = text_short x b in
-    solid_token (number_text x) k.0 (omega arith) k.1
+number_token x b = grind (arith, number_solid (number_text x) x (text_spelled x b), text_short x b)
