@@ -1,11 +1,9 @@
 -- Certificates with the same reasons and last references
-use Rattle.std.proofs.Common.{◌≡◌, ℕ, ◌+◌, ◌-◌, max, ◌&&◌, ◌||◌, nat_lt, List, [], ◌∷◌, ◌++◌, map}
-use Rattle.std.proofs.Common.{length, slice_index_or, Option, Some, None, arith, refl, sym, ◌∙◌, ap}
-use Rattle.std.proofs.Common.{ap₂, subst}
+use Rattle.std.proofs.Common.{◌≡◌, ℕ, ◌-◌, List, [], ◌∷◌, map, length, Option, Some, None, arith}
+use Rattle.std.proofs.Common.{refl, sym, ◌∙◌, ap, ap₂, subst}
 use Rattle.std.proofs.lemmas.List.{length-map}
-use Rattle.std.specs.List.{range_with_len, count_by, fold}
 use Rattle.vipr_spec.specs.Certificate.{Reason, Derivation, Certificate, NamesEarlier}
-use Rattle.vipr_spec.specs.Certificate.{reason_at, last_at, is_assumption, lasts_to, peak}
+use Rattle.vipr_spec.specs.Certificate.{reason_at, peak}
 use Rattle.vipr_spec.specs.Steps.{RefersBack}
 use Rattle.vipr_spec.proofs.Laws.{reasons_listed, lasts_listed}
 
@@ -38,21 +36,11 @@ pub record AreAlike (c d : Certificate) : Type 0 where
 
 -- how many constraints are held, if there are m in the problem
 held_by : ℕ → (ℕ → Option Reason) → (ℕ → Option ℕ) → ℕ → ℕ
-held_by m reasons lasts k =
-    1 + count_by (λ i. nat_lt i (k + 1) && (is_assumption (reasons i) || lasts_to (k + 1) (lasts i))) (range_with_len m (k - m))
+held_by m reasons lasts k = grind arith
 
 module _ (c d : Certificate) (alike : AreAlike c d) where
   reason_alike : (i : ℕ) → reason_at c i ≡ reason_at d i
-  reason_alike i =
-      reasons_listed c i
-      ∙ ap₂ (λ (a b : List (Option Reason)). slice_index_or (a ++ b) i None) (nones c.problem.constraints d.problem.constraints alike.given) alike.reasons
-      ∙ sym (reasons_listed d i)
-
-  last_alike : (i : ℕ) → last_at c i ≡ last_at d i
-  last_alike i =
-      lasts_listed c i
-      ∙ ap₂ (λ (a b : List (Option ℕ)). slice_index_or (a ++ b) i None) (nones c.problem.constraints d.problem.constraints alike.given) alike.lasts
-      ∙ sym (lasts_listed d i)
+  reason_alike i = grind (arith, reasons_listed, nones)
 
   pub back_alike : RefersBack c → RefersBack d
   back_alike back k = subst (NamesEarlier k) (reason_alike k) (back k)
@@ -64,7 +52,4 @@ module _ (c d : Certificate) (alike : AreAlike c d) where
 
   pub peak_alike : peak c ≡ peak d
   unfolding held_by
-  peak_alike =
-      let reasons : reason_at c ≡ reason_at d = λ i. λ k. reason_alike k i in
-      let lasts : last_at c ≡ last_at d = λ i. λ k. last_alike k i in
-      λ i. fold max 0 (map (held_by (alike.given i) (reasons i) (lasts i)) (range_with_len (alike.given i) (count_alike i)))
+  peak_alike = grind (arith, reason_alike, count_alike, lasts_listed, nones)

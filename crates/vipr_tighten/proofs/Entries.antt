@@ -1,6 +1,6 @@
 -- Entries under new indices, one after the other
-use Rattle.std.proofs.Common.{◌≡◌, ℕ, zero, suc, ◌+◌, ◌<◌, List, [], ◌∷◌, ◌++◌, take, drop, map}
-use Rattle.std.proofs.Common.{length, get_or, arith, refl, sym, ◌∙◌, ap, ap₂, append-nil}
+use Rattle.std.proofs.Common.{rules, ◌≡◌, ℕ, zero, suc, ◌+◌, ◌<◌, List, [], ◌∷◌, ◌++◌, take, drop}
+use Rattle.std.proofs.Common.{map, length, get_or, arith, refl, sym, ◌∙◌, ap}
 use Rattle.std.proofs.Math.ListN.{set}
 use Rattle.std.proofs.lemmas.List.{drop_all, get_or_read_under, take_all}
 use Rattle.vipr_spec.specs.Fraction.{ℚ}
@@ -51,12 +51,7 @@ module _ (first : ℕ) (table : List ℕ) (old : List (ℕ × ℚ)) where
     same_entry y e = let s = size in get_or_read_under now i (length now) y x e (omega arith) refl ∙ sym is
 
     pub next_entry : EntriesSoFar first table old (i + 1) (set now i (under first table x))
-    next_entry = record {
-      those =
-          ap (λ l. set l i (under first table x)) so_far.those ∙ set_part (under first table) old i x h old_one
-          ∙ ap (λ n. part (under first table) n old) {x = suc i} {y = i + 1} (omega arith);
-    }
+    next_entry = grind (arith, set_part (under first table) old i x h old_one)
 
   pub all_entries : (i : ℕ) (now : List (ℕ × ℚ)) → EntriesSoFar first table old i now → length old < i + 1 → now ≡ map (under first table) old
-  all_entries i now so_far far =
-      so_far.those ∙ ap₂ (λ a b. map (under first table) a ++ b) (take_all i old (omega arith)) (drop_all i old (omega arith)) ∙ append-nil (map (under first table) old)
+  all_entries i now so_far far = search (rules, take_all, drop_all)

@@ -1,18 +1,15 @@
 -- The derived constraints that are held, counted by where each is dropped
-use Rattle.std.proofs.Common.{◌≡◌, ℕ, zero, suc, ◌+◌, ◌-◌, ◌<◌, ◌≤◌, max, cond, Bool, true, false}
-use Rattle.std.proofs.Common.{◌&&◌, ◌||◌, nat_lt, nat_le, nat_eq, List, [], ◌∷◌, ◌++◌, map, length}
-use Rattle.std.proofs.Common.{slice_index_or, Option, Some, None, arith, refl, sym, ◌∙◌, ap, ap₂}
-use Rattle.std.proofs.Common.{lt-ltb, replicate}
-use Rattle.std.specs.List.{range_with_len, count_by, fold}
-use Rattle.std.specs.{FinMap.empty, Prelude.option_map}
-use Rattle.std.specs.FinSet as set
+use Rattle.std.proofs.Common.{◌≡◌, ℕ, zero, suc, ◌+◌, ◌-◌, ◌<◌, ◌≤◌, max, cond, Bool, true, nat_eq}
+use Rattle.std.proofs.Common.{List, [], ◌∷◌, ◌++◌, map, length, slice_index_or, Option, Some, None}
+use Rattle.std.proofs.Common.{arith, refl, sym, ◌∙◌, ap, ap₂, replicate}
 use Rattle.std.proofs.lemmas.List.Sums.{fold-append, count_by-le-length}
 use Rattle.std.proofs.lemmas.List.FromFn.{map-range_with_len_more, length-range_with_len}
 use Rattle.std.proofs.lemmas.List.{get_or-append-add, get_or-map, length-map, length-replicate}
-use Rattle.std.proofs.lemmas.Bool.Decides.{nat_tests}
+use Rattle.std.specs.List.{range_with_len, count_by, fold}
+use Rattle.std.specs.{FinMap.empty, Prelude.option_map}
+use Rattle.std.specs.FinSet as set
 use Rattle.vipr_spec.specs.Certificate.{Named, Derivation, Certificate, reason_at, last_at, minimum}
-use Rattle.vipr_spec.specs.Certificate.{infeasible, is_assumption, lasts_to, is_live, count_held}
-use Rattle.vipr_spec.specs.Certificate.{peak}
+use Rattle.vipr_spec.specs.Certificate.{infeasible, count_held, peak}
 use Rattle.vipr_spec.specs.{Constraint.Constraint, Constraint.equal, Fraction.zero_ℚ}
 use Rattle.vipr_spec.proofs.Laws.{reason_placed, lasts_listed, count_cons, count_from}
 use Rattle.vipr_write.specs.{StepReasons.kept_reason_of, Steps.step_of}
@@ -43,49 +40,21 @@ count_alike p q a (suc n) same =
 
 -- ---- one constraint
 
-parts_at : (k at : ℕ) → cond (nat_le k at) 1 0 ≡ cond (nat_lt k at) 1 0 + cond (nat_eq at k) 1 0
-parts_at k at = grind (arith, nat_tests)
-
 parts_one : (k : ℕ) (o : Option ℕ)
     → cond (is_held_until k o) 1 0 ≡ cond (is_held_after k o) 1 0 + cond (is_dropped_after k o) 1 0
-parts_one k None = refl
-parts_one k (Some at) = parts_at k at
-
-until_next : (k : ℕ) (o : Option ℕ) → is_held_until (k + 1) o ≡ is_held_after k o
-until_next k None = refl
-until_next k (Some at) = let same : k + 1 ≡ suc k = omega arith in ap (λ n. nat_le n at) same
-
-live_one : (i k l : ℕ) → i < k → nat_le (k + 1) l ≡ nat_lt k (max l (i + 1))
-live_one i k l h = grind (arith, nat_tests)
-
-live_by : (i k : ℕ) → i < k → (b : Bool) (o : Option ℕ)
-    → (b || lasts_to (k + 1) o) ≡ is_held_after k (cond b None (option_map (λ l. max l (i + 1)) o))
-live_by i k h true o = refl
-live_by i k h false None = refl
-live_by i k h false (Some l) = live_one i k l h
-
-live_is : (c : Certificate) (k i : ℕ) → i < k → is_live c (k + 1) i ≡ is_held_after k (drop_at c i)
-live_is c k i h = ap (λ b. b && (is_assumption (reason_at c i) || lasts_to (k + 1) (last_at c i))) (lt-ltb i (k + 1) (omega arith)) ∙ live_by i k h (is_assumption (reason_at c i)) (last_at c i)
+parts_one k o = grind arith
 
 -- a constraint is held until the next derivation at least
 last_one : (i : ℕ) (b : Bool) (o : Option ℕ)
     → is_held_until (i + 1) (cond b None (option_map (λ l. max l (i + 1)) o)) ≡ true
-last_one i true o = refl
-last_one i false None = refl
-last_one i false (Some l) = grind (arith, nat_tests)
+last_one i b o = grind arith
 
 -- ---- all of them
 
 parts_all : (f : ℕ → Option ℕ) (k : ℕ) (xs : List ℕ) → count_by (λ i. is_held_until k (f i)) xs
     ≡ count_by (λ i. is_held_after k (f i)) xs + count_by (λ i. is_dropped_after k (f i)) xs
 parts_all f k [] = refl
-parts_all f k (x ∷ xs) =
-    let rest = parts_all f k xs in
-    let here = parts_one k (f x) in
-    let a = count_cons (λ i. is_held_until k (f i)) x xs in
-    let b = count_cons (λ i. is_held_after k (f i)) x xs in
-    let d = count_cons (λ i. is_dropped_after k (f i)) x xs in
-    omega arith
+parts_all f k (x ∷ xs) = omega (arith, parts_all f k xs, parts_one k (f x), count_cons)
 
 module _ (c : Certificate) (m : ℕ) (is_first : length c.problem.constraints ≡ m) (p : ℕ) where
   abbrev until_now : ℕ
@@ -98,17 +67,10 @@ module _ (c : Certificate) (m : ℕ) (is_first : length c.problem.constraints �
   after_now = count_by (λ i. is_held_after (m + p) (drop_at c i)) (range_with_len m p)
 
   pub few_held : until_now ≤ p
-  few_held =
-      let few = count_by-le-length (λ i. is_held_until (m + p) (drop_at c i)) (range_with_len m p) in
-      let size = length-range_with_len m p in
-      omega arith
+  few_held = grind (arith, count_by-le-length, length-range_with_len)
 
   held_is : count_held c (m + p) ≡ 1 + after_now
-  held_is =
-      let rest : (m + p) - m ≡ p = omega arith in
-      ap (λ n. 1 + count_by (is_live c (m + p + 1)) (range_with_len n (m + p - n))) is_first
-      ∙ ap (λ n. 1 + count_by (is_live c (m + p + 1)) (range_with_len m n)) rest
-      ∙ ap (λ n. 1 + n) (count_alike (is_live c (m + p + 1)) (λ i. is_held_after (m + p) (drop_at c i)) m p (λ i low up. live_is c (m + p) i up))
+  held_is = grind (arith, count_alike)
 
   pub fewer_dropped : dropped_now ≤ until_now
   fewer_dropped = let e = parts_all (drop_at c) (m + p) (range_with_len m p) in omega arith
@@ -117,15 +79,7 @@ module _ (c : Certificate) (m : ℕ) (is_first : length c.problem.constraints �
   held_now h d a b = let e = parts_all (drop_at c) (m + p) (range_with_len m p) in let is = held_is in omega arith
 
   pub until_then : count_held c (m + p) ≡ count_by (λ i. is_held_until (m + (p + 1)) (drop_at c i)) (range_with_len m (p + 1))
-  until_then =
-      let place : m + p + 1 ≡ m + (p + 1) = omega arith in
-      let q : ℕ → Bool = λ i. is_held_until (m + p + 1) (drop_at c i) in
-      let last : q (m + p) ≡ true = last_one (m + p) (is_assumption (reason_at c (m + p))) (last_at c (m + p)) in
-      let one : cond {A = ℕ} (q (m + p)) 1 0 ≡ 1 = ap (λ (b : Bool). cond {A = ℕ} b 1 0) last in
-      let more = count_more q m p in
-      let same : count_by q (range_with_len m p) ≡ after_now = count_alike q (λ i. is_held_after (m + p) (drop_at c i)) m p (λ i low up. until_next (m + p) (drop_at c i)) in
-      let whole : count_held c (m + p) ≡ count_by q (range_with_len m (p + 1)) = (let is = held_is in omega arith) in
-      whole ∙ ap (λ n. count_by (λ i. is_held_until n (drop_at c i)) (range_with_len m (p + 1))) place
+  until_then = grind (arith, count_more, count_alike)
 
   pub most_then : max (count_held c (m + p)) (fold max 0 (map (count_held c) (range_with_len m p))) ≡ fold max 0 (map (count_held c) (range_with_len m (p + 1)))
   most_then =
@@ -163,10 +117,7 @@ module _ (c : Certificate) (m : ℕ) (is_first : length c.problem.constraints �
   dropped_then k n e = let more = count_more (λ i. is_dropped_after (m + k) (drop_at c i)) m p in omega arith
 
   pub few_at : (k : ℕ) → count_by (λ i. is_dropped_after (m + k) (drop_at c i)) (range_with_len m p) ≤ p
-  few_at k =
-      let few = count_by-le-length (λ i. is_dropped_after (m + k) (drop_at c i)) (range_with_len m p) in
-      let size = length-range_with_len m p in
-      omega arith
+  few_at k = grind (arith, count_by-le-length, length-range_with_len)
 
   pub each_some : (k at n new : ℕ) → n ≡ count_by (λ i. is_dropped_after (m + k) (drop_at c i)) (range_with_len m p) → drop_at c (m + p) ≡ Some at → new ≡ n + cond (nat_eq at (m + k)) 1 0
       → new ≡ count_by (λ i. is_dropped_after (m + k) (drop_at c i)) (range_with_len m (p + 1))
@@ -174,9 +125,7 @@ module _ (c : Certificate) (m : ℕ) (is_first : length c.problem.constraints �
 
   pub each_none : (k n : ℕ) → n ≡ count_by (λ i. is_dropped_after (m + k) (drop_at c i)) (range_with_len m p) → drop_at c (m + p) ≡ None
       → n ≡ count_by (λ i. is_dropped_after (m + k) (drop_at c i)) (range_with_len m (p + 1))
-  each_none k n e is =
-      let nothing : n ≡ n + 0 = omega arith in
-      nothing ∙ sym (ap (λ (o : Option ℕ). n + cond {A = ℕ} (is_dropped_after (m + k) o) 1 0) is) ∙ dropped_then k n e
+  each_none k n e is = grind (arith, dropped_then k n e)
 
 pub peak_whole : (c : Certificate) (m n : ℕ) → length c.problem.constraints ≡ m
     → length c.derivations ≡ n → fold max 0 (map (count_held c) (range_with_len m n)) ≡ peak c

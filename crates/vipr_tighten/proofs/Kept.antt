@@ -1,8 +1,8 @@
 -- What is written of the proof that is kept: the steps of its tightened certificate
-use Rattle.std.proofs.Common.{◌≡◌, ℕ, ◌+◌, ◌-◌, ◌<◌, ◌≤◌, List, map, length, Option, Some, None}
-use Rattle.std.proofs.Common.{IfSome, Ok, Err, arith, refl, sym, ap, ◌∙◌, subst}
-use Rattle.std.specs.Prelude.{MatchOption}
+use Rattle.std.proofs.Common.{rules, ◌≡◌, ℕ, ◌+◌, ◌-◌, ◌<◌, ◌≤◌, List, map, length, Option, IfSome}
+use Rattle.std.proofs.Common.{Ok, Err, arith, refl, sym, ap, ◌∙◌, subst}
 use Rattle.std.proofs.lemmas.List.{length-map}
+use Rattle.std.specs.Prelude.{MatchOption}
 use Rattle.vipr_spec.specs.Constraint.{Profile, Constraint}
 use Rattle.vipr_spec.specs.Certificate.{Named, Problem, Derivation, Certificate, IsGoal, NeedsGoal}
 use Rattle.vipr_spec.specs.Certificate.{count, peak}
@@ -29,8 +29,7 @@ use Rattle.vipr_tighten.proofs.Outcomes.{fewer_kept, written_whole, written_part
 goal_before : (P : Profile) (c : Certificate) (goal : Option ℕ)
     → MatchOption goal (¬ NeedsGoal c.problem c.problem.claim) (IsGoal P c)
     → IfSome goal (λ g. g < count c)
-goal_before P c None h = tt
-goal_before P c (Some g) h = h.0.0
+goal_before P c goal h = grind arith
 
 below : (goal : Option ℕ) (m n : ℕ) → m ≡ n → IfSome goal (λ g. g < m) → IfSome goal (λ g. g < n)
 below goal m n e h = subst (λ k. IfSome goal (λ g. g < k)) e h
@@ -60,16 +59,10 @@ module _ (P : Profile) (F : Form) (c : Certificate) (k : KeptProof) (is : IsKept
   counted = sym (texts_count k.statements.form k.statements.objective c) ∙ count_of texts first all_steps stand ∙ ap (λ n. first + n) (length-map k.steps.items (step_of (statement_in k.statements)))
 
   pub few_steps : first + length k.steps.items ≤ most_count
-  few_steps =
-      let n = counted in
-      let few = is.steps.writes.shape.few_derivations in
-      omega arith
+  few_steps = grind (arith, counted)
 
   can : CanTighten texts k.report.goal
-  can = record {
-    back = texts_back k.statements.form k.statements.objective c (back_of_proof P c is.proof);
-    named = below k.report.goal (count c) (count texts) (sym (texts_count k.statements.form k.statements.objective c)) (goal_before P c k.report.goal is.reports.goal);
-  }
+  can = search (rules, texts_back, back_of_proof, texts_count, goal_before)
 
   -- these steps are kept of it for the goal
   module _ (kept : List Step) (all : (view : Statement → Named Constraint) (d : Certificate) → AreDerivationsOf d first (map (step_of view) k.steps.items) → CanTighten d k.report.goal → map (step_of view) kept ≡ (tightened_certificate d k.report.goal).derivations) where
@@ -93,23 +86,13 @@ module _ (P : Profile) (F : Form) (c : Certificate) (k : KeptProof) (is : IsKept
     tight_counted = sym (texts_tightened_count k.statements.form k.statements.objective c k.report.goal) ∙ count_of (tightened_certificate texts k.report.goal) first (map (step_of (statement_in k.statements)) kept) tight_stand ∙ ap (λ n. first + n) (length-map kept (step_of (statement_in k.statements)))
 
     tight_size : length kept ≡ length tightened.derivations
-    tight_size =
-        let n = tight_counted in
-        let m = first_is in
-        omega arith
+    tight_size = grind (arith, tight_counted, first_is)
 
     pub tight_few : first + length kept ≤ most_count
-    tight_few =
-        let n = tight_counted in
-        let few = tight_steps.writes.shape.few_derivations in
-        omega arith
+    tight_few = omega (arith, tight_counted, tight_steps.writes.shape.few_derivations)
 
     pub tight_fewer : length kept ≤ k.report.derived
-    tight_fewer =
-        let n = tight_size in
-        let few = fewer_kept c k.report.goal in
-        let derived = is.reports.derived in
-        omega arith
+    tight_fewer = grind (arith, tight_size, fewer_kept)
 
     module _ (spells : (G : Form) → SpellsOnly (text_in G tightened) tightened) (old new : Option Output) where
       pub tightens_whole : (n after : ℕ) → n ≡ length kept → ((view : Statement → Named Constraint) (d : Certificate) → AreDerivationsOf d first (map (step_of view) kept) → after ≡ peak d)

@@ -1,9 +1,9 @@
 -- A certificate, of whose derivations the words up to their reasons are kept
-use Rattle.std.proofs.Common.{◌≡◌, ℕ, suc, ◌+◌, Bool, true, false, cond, ◌&&◌, ◌||◌, nat_lt, List}
+use Rattle.std.proofs.Common.{arith, ◌≡◌, ℕ, suc, ◌+◌, Bool, true, false, cond, ◌&&◌, ◌||◌, List}
 use Rattle.std.proofs.Common.{[], ◌∷◌, map, length, Option, Some, None, refl, sym, ap, ap₂, ◌∙◌}
 use Rattle.std.proofs.lemmas.List.{length-map}
 use Rattle.vipr_spec.specs.Certificate.{Derivation, Certificate, count, peak}
-use Rattle.vipr_spec.specs.Tightened.{refers_to, is_marked, is_kept, kept_of, new_index, or_else}
+use Rattle.vipr_spec.specs.Tightened.{refers_to, is_marked, is_kept, kept_of, or_else}
 use Rattle.vipr_spec.specs.Tightened.{with_new_indices, last_reference, with_last_references}
 use Rattle.vipr_spec.specs.Tightened.{kept_derivations, tightened_certificate}
 use Rattle.vipr_spec.specs.{Constraint.Row, Steps.RefersBack}
@@ -17,11 +17,7 @@ with_texts form objective c =
 texts_alike : (form : Form) (objective : Row) (c d : Certificate)
     → length d.problem.constraints ≡ length c.problem.constraints
     → d.derivations ≡ map (as_text form objective) c.derivations → AreAlike d c
-texts_alike form objective c d given are = record {
-  given = given;
-  reasons = ap (map (λ (x : Derivation). Some x.reason)) are ∙ map_kept (as_text form objective) (λ (x : Derivation). Some x.reason) (λ x. refl) c.derivations;
-  lasts = ap (map (λ (x : Derivation). x.last)) are ∙ map_kept (as_text form objective) (λ (x : Derivation). x.last) (λ x. refl) c.derivations;
-}
+texts_alike form objective c d given are = grind (arith, map_kept)
 
 module _ (form : Form) (objective : Row) where
   abbrev text : Derivation → Derivation
@@ -55,10 +51,7 @@ module _ (form : Form) (objective : Row) where
   lasts_texts k (d ∷ ds) = ap₂ (λ o l. record (text d) { last = o } ∷ l) (last_texts (suc k) ds k) (lasts_texts (suc k) ds)
 
   kept_texts : (keep : ℕ → Bool) (m : ℕ) (ds : List Derivation) → kept_derivations keep m (map text ds) ≡ map text (kept_derivations keep m ds)
-  kept_texts keep m ds =
-      ap (λ l. with_last_references m (map (with_new_indices (new_index keep)) l)) (kept_of_texts keep m ds)
-      ∙ ap (with_last_references m) (new_texts (new_index keep) (kept_of keep m ds))
-      ∙ lasts_texts m (map (with_new_indices (new_index keep)) (kept_of keep m ds))
+  kept_texts keep m ds = grind (arith, kept_of_texts, new_texts, lasts_texts)
 
   -- ---- the whole
 
@@ -79,8 +72,7 @@ module _ (form : Form) (objective : Row) where
     pub texts_tightened : (goal : Option ℕ) → (tightened_certificate (with_texts form objective c) goal).derivations ≡ map (as_text form objective) (tightened_certificate c goal).derivations
     texts_tightened goal =
         let m = length c.problem.constraints in
-        let same : is_kept (with_texts form objective c) goal ≡ is_kept c goal =
-        λ i. λ k. ap (λ b. nat_lt k m || b) (marked_texts goal m c.derivations k) i in
+        let same : is_kept (with_texts form objective c) goal ≡ is_kept c goal = grind (arith, marked_texts) in
         ap (λ keep. kept_derivations keep m (map text c.derivations)) same ∙ kept_texts (is_kept c goal) m c.derivations
 
     pub texts_tightened_count : (goal : Option ℕ) → count (tightened_certificate (with_texts form objective c) goal) ≡ count (tightened_certificate c goal)

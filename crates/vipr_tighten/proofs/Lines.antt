@@ -24,5 +24,4 @@ lines_more ss s left new fewer =
 
 pub lines_whole : (ss : List (Named Row)) (left : ℕ) → left ≡ 0
     → lines_with ss left ≡ lines_text (solutions_lines ss)
-lines_whole ss left none =
-    ap (λ n. line_text (heading (codes "SOL") n) ++ lines_text (map solution_words ss)) (omega arith)
+lines_whole ss left none = grind arith

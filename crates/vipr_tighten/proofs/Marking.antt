@@ -1,9 +1,9 @@
 -- Marks, from the end to the front
 use Rattle.std.proofs.Common.{◌≡◌, ℕ, ◌+◌, ◌-◌, ◌<◌, ◌≤◌, Bool, true, false, ◌&&◌, ◌||◌, nat_eq, List, []}
 use Rattle.std.proofs.Common.{take, drop, map, replicate, length, slice_index_or, get_or, Option}
-use Rattle.std.proofs.Common.{None, arith, refl, sym, ◌∙◌, ap, ap₂, subst}
+use Rattle.std.proofs.Common.{None, arith, refl, sym, ◌∙◌, ap, subst}
 use Rattle.std.specs.{FinMap.empty, List.list_any}
-use Rattle.std.proofs.Math.Bool.{and-false, and-true, or-false, or_assoc}
+use Rattle.std.proofs.Math.Bool.{and-false, and-true, or-false}
 use Rattle.std.proofs.lemmas.List.{get_or-map, get_or-replicate, get_or_read_under}
 use Rattle.std.proofs.lemmas.List.{length-map, length-replicate}
 use Rattle.std.proofs.lemmas.List.Folds.{list_any_more}
@@ -14,13 +14,6 @@ use Rattle.vipr_spec.proofs.Laws.{marked_down}
 use Rattle.vipr_tighten.specs.Passes.{has_mark, MarksAlso}
 
 -- ---- tests, one after the other
-
-also_both : (first : ℕ) (p q : ℕ → Bool) (old mid new : List Bool) → length mid ≡ length old
-    → MarksAlso first p old mid → MarksAlso first q mid new
-    → MarksAlso first (λ i. p i || q i) old new
-also_both first p q old mid new size a b k h =
-    let inside : k < length mid = omega arith in
-    b k inside ∙ ap (λ m. m || q (first + k)) (a k h) ∙ or_assoc (has_mark old k) (p (first + k)) (q (first + k))
 
 also_alike : (first : ℕ) (p q : ℕ → Bool) (old new : List Bool) → ((i : ℕ) → p i ≡ q i)
     → MarksAlso first p old new → MarksAlso first q old new
@@ -34,9 +27,7 @@ also_none first p marks none k h = sym (or-false (has_mark marks k)) ∙ ap (λ 
 module _ {A : Type 0} (first : ℕ) (p : ℕ → A → Bool) (es : List A) (n : ℕ) (e : A) (h : n < length es) (old mid new : List Bool) (size : length mid ≡ length old) where
   -- one more element
   pub also_more : MarksAlso first (λ i. list_any (p i) (take n es)) old mid → MarksAlso first (λ i. p i (get_or es n e)) mid new → MarksAlso first (λ i. list_any (p i) (take (n + 1) es)) old new
-  also_more a b =
-      also_alike first (λ i. list_any (p i) (take n es) || p i (get_or es n e)) (λ i. list_any (p i) (take (n + 1) es)) old new
-      (λ i. sym (list_any_more (p i) es n e h)) (also_both first (λ i. list_any (p i) (take n es)) (λ i. p i (get_or es n e)) old mid new size a b)
+  also_more a b = grind (arith, list_any_more)
 
 module _ (first : ℕ) (es : List (ℕ × ℚ)) (n : ℕ) (e : ℕ × ℚ) (h : n < length es) (is : e ≡ get_or es n e) (old mid : List Bool) (size : length mid ≡ length old) where
   abbrev names : ℕ → ℕ × ℚ → Bool
@@ -64,18 +55,10 @@ module _ (goal : Option ℕ) (first : ℕ) (ds : List Derivation) where
   -- j is the next one towards the front
   module _ (j : ℕ) (d : Derivation) (h : j < length ds) (marks : List Bool) (so_far : AreMarksFrom goal first ds (j + 1) marks) where
     step : (new : List Bool) → length new ≡ length marks → ((k : ℕ) → k < length ds → has_mark new k ≡ (has_mark marks k || (has_mark marks j && refers_to (slice_index_or ds j d).reason (first + k)))) → AreMarksFrom goal first ds j new
-    step new size marked = record {
-      size = size ∙ so_far.size;
-      each = λ k l.
-          marked k l
-          ∙ ap₂ (λ a b. a || (b && refers_to (slice_index_or ds j d).reason (first + k))) (so_far.each k l) (so_far.each j h)
-          ∙ sym (marked_down goal first j (first + k) ds d h);
-    }
+    step new size marked = grind (arith, marked_down)
 
     pub marks_more : (new : List Bool) → length new ≡ length marks → has_mark marks j ≡ true → MarksAlso first (refers_to (slice_index_or ds j d).reason) marks new → AreMarksFrom goal first ds j new
-    marks_more new size marked also = step new size (λ k l.
-        let s = so_far.size in
-        also k (omega arith) ∙ ap (λ b. has_mark marks k || (b && refers_to (slice_index_or ds j d).reason (first + k))) (sym marked))
+    marks_more new size marked also = grind (arith, step)
 
     pub marks_stay : has_mark marks j ≡ false → AreMarksFrom goal first ds j marks
     marks_stay unmarked = step marks refl (λ k l. sym (or-false (has_mark marks k)) ∙ ap (λ b. has_mark marks k || (b && refers_to (slice_index_or ds j d).reason (first + k))) (sym unmarked))

@@ -11,17 +11,11 @@ use Rattle.vipr_spec.specs.Tightened.{refers_to, referred_by, with_new_indices}
 use Rattle.vipr_tighten.specs.Passes.{index_by, TakesOver}
 
 with_first : {A : Type 0} (moved : A) (l : List A) → 0 < length l → set l 0 moved ≡ moved ∷ drop 1 l
-with_first moved [] h = absurd (omega arith)
-with_first moved (x ∷ l) h = refl
+with_first moved l h = grind arith
 
 module _ {A : Type 0} (old now : List A) (kept place : ℕ) (behind : kept ≤ place) (there : place < length old) (size : length now ≡ length old) (swapped : SwappedAt old now kept place) where
   pub front_same : take kept now ≡ take kept old
-  front_same =
-      let n = length-take-le kept now (omega arith) in
-      let o = length-take-le kept old (omega arith) in
-      same_lists (take kept now) (take kept old) (n ∙ sym o) (λ k d h.
-      let l : k < kept = omega (arith, n, h) in
-      get_or-take kept now k d l ∙ swapped.2 k d (omega arith) (omega arith) ∙ sym (get_or-take kept old k d l))
+  front_same = grind (arith, length-take-le, same_lists, get_or-take)
 
   pub found : (x : A) → x ≡ get_or (drop kept now) 0 x → x ≡ get_or old place x
   found x e = e ∙ get_or-drop kept now 0 x ∙ ap (λ n. get_or now n x) {x = kept + 0} {y = kept} (omega arith) ∙ swapped.0 x
@@ -33,33 +27,11 @@ module _ {A : Type 0} (old now : List A) (kept place : ℕ) (behind : kept ≤ p
     some : 0 < length (drop kept now)
     some = let e = length-drop kept now in omega arith
 
-    pub after_size : length after ≡ length old
-    after_size =
-        let a = length-append changed (set (drop kept now) 0 moved) in
-        let b = length-set (drop kept now) 0 moved in
-        let c = length-drop kept now in
-        omega arith
-
     pub after_front : take (kept + 1) after ≡ changed ++ moved ∷ []
-    after_front =
-        ap (λ l. take (kept + 1) (changed ++ l)) (with_first moved (drop kept now) some)
-        ∙ ap (λ n. take (n + 1) (changed ++ moved ∷ drop 1 (drop kept now))) (sym as_long)
-        ∙ take-append-add changed (moved ∷ drop 1 (drop kept now)) 1
+    after_front = grind (arith, with_first moved (drop kept now) some, take-append-add changed (moved ∷ drop 1 (drop kept now)) 1)
 
     pub after_left : drop (place + 1) after ≡ drop (place + 1) old
-    after_left =
-        let s = after_size in
-        let a = length-drop (place + 1) after in
-        let o = length-drop (place + 1) old in
-        same_lists (drop (place + 1) after) (drop (place + 1) old) (omega arith) (λ k d h.
-        let there : kept + (place + 1 + k - length changed) ≡ place + 1 + k = omega arith in
-        get_or-drop (place + 1) after k d
-        ∙ get_or-append_right changed (set (drop kept now) 0 moved) (place + 1 + k) d (omega arith)
-        ∙ get_or-set_other (drop kept now) 0 (place + 1 + k - length changed) moved d (omega arith)
-        ∙ get_or-drop kept now (place + 1 + k - length changed) d
-        ∙ ap (λ n. get_or now n d) there
-        ∙ swapped.2 (place + 1 + k) d (omega arith) (omega arith)
-        ∙ sym (get_or-drop (place + 1) old k d))
+    after_left = grind (arith, length-drop, same_lists, get_or-drop, get_or-append_right, get_or-set_other, length-append, length-set)
 
 -- what is kept then
 pub taken_over : {D : Type 0} (derived : D → Derivation) (first : ℕ) (table : List ℕ)
@@ -74,7 +46,6 @@ pub taken_over : {D : Type 0} (derived : D → Derivation) (first : ℕ) (table 
     (map derived (take kept old)) (map derived (take (kept + 1) (changed ++ set (drop kept now) 0 moved)))
 taken_over derived first table old now kept place behind there size swapped was moved is_was d changed as_long r x e =
     let same : was ≡ x = found old now kept place behind there size swapped was is_was ∙ sym (get_or_read_under old place (length old) x was e there refl) in
-    let is : derived moved ≡ record (with_new_indices (index_by first table) (derived x)) { last = None } =
-    d ∙ ap (λ y. record (with_new_indices (index_by first table) (derived y)) { last = None }) same in
+    let is : derived moved ≡ record (with_new_indices (index_by first table) (derived x)) { last = None } = grind arith in
     ap (map derived) (after_front old now kept place behind there size swapped changed moved as_long) ∙ map_push derived changed moved
     ∙ ap₂ (λ l y. l ++ y ∷ []) (r ∙ ap₂ (λ (y : Derivation) l. referred_by (refers_to y.reason) (first + kept) first (map derived l)) is (front_same old now kept place behind there size swapped)) is

@@ -11,7 +11,7 @@ use Rattle.vipr_spec.specs.Verdict.{found_in, IsAnswer}
 use Rattle.vipr_spec.specs.{Constraint.Profile, GrammarLaws.whole_text, Input.Input, Tests.none}
 use Rattle.vipr_spec.proofs.Laws.{back_of_proof, claim_shown, found_read, one_certificate}
 use Rattle.vipr_spec.proofs.Laws.{proof_answered, reads_texts, tight_counts, tight_goal}
-use Rattle.vipr_spec.proofs.Laws.{tight_needed, tight_peak, tight_proof, tight_twice, unneeded_goal}
+use Rattle.vipr_spec.proofs.Laws.{tight_needed, tight_peak, tight_proof, tight_twice}
 use Rattle.vipr_spec.proofs.Laws.{verified_read, answer_explained}
 use Rattle.vipr_bytes.specs.Known.{text_of, IfKnown, IfWhole}
 use Rattle.vipr_bytes.specs.{Output.Output, Written.Wrote}
@@ -57,8 +57,7 @@ is_tight P c goal p g s =
 
 goal_by : (P : Profile) (c : Certificate) (goal : Option ℕ)
     → MatchOption goal (¬ NeedsGoal c.problem c.problem.claim) (IsGoal P c) → GoalIs P c goal
-goal_by P c None n = unneeded_goal P c n
-goal_by P c (Some g) is = is
+goal_by P c goal n = grind arith
 
 pub reported_goal : (P : Profile) (c : Certificate) (r : Report) → Reports P c r → GoalIs P c r.goal
 reported_goal P c r h = goal_by P c r.goal h.goal
@@ -79,15 +78,12 @@ module _ (P : Profile) (F : Form) (k l : KindOfText) (of : (c : Certificate) →
   tightens_by (Err (Write n)) (c, goal, is, proof, tight, w) = (c, goal, of c is proof.proof, proof, tight, w)
 
 pub nothing_accepted : (o : Option Output) → TakesNothing o o
-nothing_accepted None = tt
-nothing_accepted (Some o) = refl
+nothing_accepted o = grind arith
 
 pub certificate_is : (P : Profile) (r : Rest) (c : Certificate) (report : Report)
     → (found_in r).certificate ≡ c → Answers P (found_in r) (verified report)
     → certificate_read r ≡ Ok c
-certificate_is P r c report same h =
-    let v = (verified_read P r report).0 h in
-    subst (λ (d : Certificate). certificate_read r ≡ Ok d) (sym (found_read r v.0 v.1) ∙ same) v.1
+certificate_is P r c report same h = grind (arith, found_read r ((verified_read P r report).0 h).0 ((verified_read P r report).0 h).1)
 
 whole_is : (i : Input) → i.fails ≡ false → text_of i ≡ whole_text i.bytes
 whole_is i e = subst (λ b. text_of (record { bytes = i.bytes; fails = b }) ≡ whole_text i.bytes) (sym e) refl
@@ -157,8 +153,7 @@ module _ (P : Profile) (F : Form) (c : Certificate) (r : Report) (p : IsProof P 
 pub written_not : (P : Profile) (F : Form) (c : Certificate) (old new : Option Output)
     (text : List ℕ) (n : ℕ) → n ≡ 0 → IfSome old (λ o. WroteText o new text (Err (write.Memory n)))
     → TightensText P F (kind_of c) old new (Err (Memory n))
-written_not P F c None new text n z w = (z, tt)
-written_not P F c (Some o) new text n z w = (z, w.1)
+written_not P F c old new text n z w = grind arith
 
 -- ---- the answer for a text
 

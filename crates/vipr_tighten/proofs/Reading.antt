@@ -1,7 +1,7 @@
 -- A text item by item: what is found in what is left, once so much was read and kept
-use Rattle.std.proofs.Common.{◌≡◌, ℕ, suc, ◌+◌, ◌<◌, ◌≤◌, ◌^◌, false, List, [], ◌∷◌, ◌++◌, length}
-use Rattle.std.proofs.Common.{None, Result, Ok, Err, arith, refl, sym, ◌∙◌, ap, subst, append-nil}
-use Rattle.std.proofs.Common.{append_assoc}
+use Rattle.std.proofs.Common.{rules, ◌≡◌, ℕ, suc, ◌+◌, ◌<◌, ◌≤◌, ◌^◌, false, List, [], ◌∷◌, ◌++◌}
+use Rattle.std.proofs.Common.{length, None, Result, Ok, Err, arith, refl, sym, ◌∙◌, ap, subst}
+use Rattle.std.proofs.Common.{append-nil, append_assoc}
 use Rattle.std.specs.Prelude.{◌⊎◌, IsSome, IfOk, IfErr, IsErrAnd, All, Option, Some}
 use Rattle.vipr_spec.specs.Shape.{ReasonShape, RowFits, SolutionShape, DerivationShape}
 use Rattle.vipr_spec.specs.Shape.{DerivationFits, CanWriteProblem, CanWrite}
@@ -12,8 +12,8 @@ use Rattle.vipr_spec.specs.Reading.{Rest, Read, problem_read, solution_read, der
 use Rattle.vipr_spec.specs.Reading.{derivation_read, end_read, most_count}
 use Rattle.vipr_spec.specs.Steps.{with_more, with_next, PassesStep, step_tests, FirstFailing}
 use Rattle.vipr_spec.specs.Tests.{PassesSolution, solution_tests, none}
-use Rattle.vipr_spec.specs.Verdict.{before_items, items_read, derivations_found, ending_found}
-use Rattle.vipr_spec.specs.Verdict.{problem_found, found_in, Explained, Found, Reports, verified}
+use Rattle.vipr_spec.specs.Verdict.{before_items, items_read, ending_found}
+use Rattle.vipr_spec.specs.Verdict.{problem_found, found_in, Explained, Found, Reports}
 use Rattle.vipr_spec.specs.Progress.{derivations_from, solutions_from}
 use Rattle.vipr_spec.specs.{Checking.start, Input.Input}
 use Rattle.vipr_bytes.specs.Known.{text_of, IfKnown}
@@ -43,10 +43,7 @@ leads_on P f g h x y = record { same = x.same ∙ y.same; answers = λ a z t. x.
 
 pub proof_by : (P : Profile) (f g : Found) → LeadsTo P f g → (c : Certificate) (report : Report)
     → AnswersProof P g c report → AnswersProof P f c report
-proof_by P f g x c report h = record {
-  same = x.same ∙ h.same;
-  answer = (h.answer.0, x.answers (verified (report_of report)) h.answer.0 h.answer.1);
-}
+proof_by P f g x c report h = grind arith
 
 pub answers_by : (P : Profile) (f g : Found) → LeadsTo P f g → (e : NoProof) → AnswersWhy P g e
     → AnswersWhy P f e
@@ -77,8 +74,7 @@ pub count_leads : (P : Profile) (p : Problem) (ss : List (Named Row)) (r : Rest)
     → LeadsTo P (solutions_from p ss 0 r) (derivations_from (start p ss) n s)
 unfolding items_read
 count_leads P p ss r n s met e = record {
-  same = ap (λ (x : Read ℕ). record { problem = p; solutions = ss ++ []; derivations = (derivations_found p x).0 }) e
-      ∙ ap (λ (l : List (Named Row)). record { problem = p; solutions = l; derivations = (items_read (derivation_read p) n s).0 }) (append-nil ss);
+  same = search rules;
   answers = λ a x h. (derivations_begin P a x p ss r n s met e).1 h;
 }
 
@@ -133,14 +129,7 @@ module _ (P : Profile) (s c : Certificate) (k l : State) (first old : Items) (h 
   step_unread e x known = answers_by P (derivations_left s first) (derivations_left c old) (h.leads known) (text_reason e) (none, derivation_missing P c old.left (rest_of old.rest) none e refl x)
 
   pub at_end : (IsSome old.rest → (old.left ≡ 0) × (end_read (rest_of old.rest) ≡ Ok tt)) → KeepsWhole P s first c k
-  at_end ends = record {
-    profile = h.is_at.profile;
-    has = h.is_at.has;
-    few = let r = h.is_at.room in omega arith;
-    phase = h.is_at.phase;
-    runs = h.is_at.runs;
-    leads = λ known. (rest_of old.rest, (ends (h.known known)).1, subst (λ n. LeadsTo P (derivations_left s first) (derivations_from c n (rest_of old.rest))) (ends (h.known known)).0 (h.leads known));
-  }
+  at_end ends = grind arith
 
   module _ (new : Items) (d : Derivation) (fewer : old.left ≡ suc new.left) (memory : Remembers old new) (unspent : new.failed ≡ false)
       (read : IsSome old.rest → (derivation_read c.problem (rest_of old.rest) ≡ Ok (d, rest_of new.rest)) × (IsSome new.rest)) where
@@ -171,16 +160,7 @@ pub whole_writes : (P : Profile) (p : Problem) (ss : List (Named Row)) (ds : Lis
     → Knows t p → KeepsWhole P (start p ss) t (with_more (start p ss) ds) l
     → All (DerivationShape t.variables) ds × All DerivationFits ds
     → CanWrite (with_more (start p ss) ds)
-whole_writes P p ss ds l problem few t solutions knows whole derivations = record {
-  shape = record {
-    problem = problem.shape;
-    few_solutions = few;
-    solutions = subst (λ n. All (SolutionShape n) ss) knows.variables solutions.0;
-    few_derivations = (let few = whole.few in omega arith);
-    derivations = subst (λ n. All (DerivationShape n) ds) knows.variables derivations.0;
-  };
-  fits = record { problem = problem.fits; solutions = solutions.1; derivations = derivations.1 };
-}
+whole_writes P p ss ds l problem few t solutions knows whole derivations = grind arith
 
 module _ (P : Profile) (s : Certificate) (u : Items) (c : Certificate) (m n : State) (whole : KeepsWhole P s u c m) (known : IsSome u.rest) where
   pub finish_answers : (e : Stop) → Finishes c m n (Err e) → AnswersWhy P (derivations_left s u) (stop_reason e)
@@ -199,8 +179,7 @@ module _ (P : Profile) (s : Certificate) (u : Items) (c : Certificate) (m n : St
 -- what tells of the text where an error is handed on
 pub err_given : {T : Type 0} (Q : NoProof → Type 0) (x : Result T NoProof) (e : NoProof)
     → IsErrAnd x (λ y. y ≡ e) → Q e → IfErr x Q
-err_given Q (Ok x) e h t = absurd h
-err_given Q (Err y) e h t = subst Q (sym h) t
+err_given Q x e h t = grind arith
 
 pub ok_on : {T E : Type 0} (F G : T → Type 0) (x : Result T E) → ((t : T) → F t → G t) → IfOk x F
     → IfOk x G
@@ -285,5 +264,4 @@ memory_known P (Some i) = λ short. (none, tt)
 pub known_by : (Q : Found → Type 0) (o : Option Input) (reader : Option Rest)
     → IfKnown o (λ i. reader ≡ Some (text_of i)) → (IsSome reader → Q (found_in (rest_of reader)))
     → IfKnown o (λ i. Q (found_in (text_of i)))
-known_by Q None reader h k = tt
-known_by Q (Some i) reader h k = λ short. subst (λ (s : Option Rest). Q (found_in (rest_of s))) (h short) (k (subst IsSome (sym (h short)) refl))
+known_by Q o reader h k = grind arith

@@ -1,7 +1,7 @@
 -- Last references, index by index
 use Rattle.std.proofs.Common.{◌≡◌, ℕ, zero, suc, ◌+◌, ◌<◌, ◌≤◌, Bool, true, false, cond, ◌&&◌, ◌||◌}
 use Rattle.std.proofs.Common.{nat_eq, List, [], ◌∷◌, take, map, length, get_or, Some, arith, refl}
-use Rattle.std.proofs.Common.{sym, ◌∙◌, ap, ap₂, eq-eqb}
+use Rattle.std.proofs.Common.{sym, ◌∙◌, ap, ap₂}
 use Rattle.std.proofs.{Math.Bool.and-false, Math.Bool.and-true, Math.ListN.set, lemmas.Bool.ne_eqb}
 use Rattle.std.proofs.{lemmas.List.length-map, lemmas.List.Folds.list_any_more}
 use Rattle.std.specs.List.{list_any}
@@ -40,10 +40,7 @@ pub referred_at : {D : Type 0} (derived : D → Derivation) (last k : ℕ) (xs :
     → map derived (set xs place new)
     ≡ referred_by (λ i. nat_eq i index) last k (map derived xs)
 referred_at derived last k [] place index x new e h is set_is = absurd (omega arith)
-referred_at derived last k (y ∷ xs) zero index x new e h is set_is =
-    ap₂ (λ d l. d ∷ l)
-    (set_is ∙ ap (λ z. record (derived z) { last = Some last }) is ∙ ap (λ b. record (derived y) { last = cond b (Some last) (derived y).last }) (sym (eq-eqb k index (omega arith))))
-    (sym (referred_none (λ i. nat_eq i index) last (suc k) (map derived xs) (λ i a b. ne_eqb i index (λ same. omega arith))))
+referred_at derived last k (y ∷ xs) zero index x new e h is set_is = grind (arith, referred_none)
 referred_at derived last k (y ∷ xs) (suc place) index x new e h is set_is =
     ap₂ (λ o l. record (derived y) { last = o } ∷ l)
     (ap (λ b. cond b (Some last) (derived y).last) (sym (ne_eqb k index (λ same. omega arith))))
@@ -87,9 +84,4 @@ pub four_referred : (p q r s : ℕ → Bool) (last k : ℕ) (ds0 ds1 ds2 ds3 ds4
     → ds1 ≡ referred_by p last k ds0 → ds2 ≡ referred_by q last k ds1
     → ds3 ≡ referred_by r last k ds2 → ds4 ≡ referred_by s last k ds3
     → ds4 ≡ referred_by (λ i. p i || (q i || (r i || s i))) last k ds0
-four_referred p q r s last k ds0 ds1 ds2 ds3 ds4 a b c d =
-    d
-    ∙ ap (referred_by s last k) (c ∙ ap (referred_by r last k) (b ∙ ap (referred_by q last k) a))
-    ∙ referred_both r s last k (referred_by q last k (referred_by p last k ds0))
-    ∙ referred_both q (λ i. r i || s i) last k (referred_by p last k ds0)
-    ∙ referred_both p (λ i. q i || (r i || s i)) last k ds0
+four_referred p q r s last k ds0 ds1 ds2 ds3 ds4 a b c d = grind (arith, referred_both)

@@ -7,7 +7,7 @@ use Rattle.std.proofs.lemmas.Bool.{cases_lt, le-ltb, ne_eqb}
 use Rattle.std.proofs.lemmas.List.{drop_more, get_or-drop, get_or-map, get_or_append_left, get_or_past}
 use Rattle.std.proofs.lemmas.List.{length-append, length-map, length-take-le}
 use Rattle.std.proofs.Math.Seq.{get_or-append_right}
-use Rattle.vipr_spec.specs.Certificate.{Derivation, Certificate, NamesEarlier, count, reason_at}
+use Rattle.vipr_spec.specs.Certificate.{Derivation, Certificate, NamesEarlier, count}
 use Rattle.vipr_spec.specs.Steps.{RefersBack}
 use Rattle.vipr_spec.specs.Tightened.{refers_to, is_the_goal, is_marked, new_index}
 use Rattle.vipr_spec.specs.Tightened.{renumbered_reason, with_new_indices, kept_derivations}
@@ -34,24 +34,11 @@ module _ (first : ℕ) (marks : List Bool) (all : List Derivation) (table : List
 
   -- the next new index
   pub index_now : first + length kept ≡ new_index keep (first + length table)
-  index_now =
-      let before = take (length table) all in
-      let few = so_far.few in
-      let size : length before ≡ length table = length-take-le (length table) all (omega arith) in
-      let same : length kept ≡ length (kept_derivations keep first before) = ap length so_far.those in
-      let many : length (kept_derivations keep first before) + new_index keep first ≡ new_index keep (first + length before) = length_kept_derivations keep first before in
-      let start : new_index keep first ≡ first = index_same keep first (given_kept first marks) first (omega arith) in
-      let there : new_index keep (first + length before) ≡ new_index keep (first + length table) = ap (λ n. new_index keep (first + n)) size in
-      omega arith
+  index_now = grind (arith, take, length-take-le, length_kept_derivations, index_same, given_kept)
 
   -- what the table says of earlier constraints
   look_up : (i : ℕ) → i < first + length table → index_by first table i ≡ new_index keep i
-  look_up i h = ⊎_elim
-      (λ (l : i < first). ap (λ b. cond b i (slice_index_or table (i - first) 0)) (lt-ltb i first l) ∙ sym (index_same keep first (given_kept first marks) i (omega arith)))
-      (λ (l : first ≤ i).
-      let place : first + (i - first) ≡ i = omega arith in
-      ap (λ b. cond b i (slice_index_or table (i - first) 0)) (le-ltb i first l) ∙ so_far.indices (i - first) (omega arith) ∙ ap (new_index keep) place)
-      (cases_lt i first)
+  look_up i h = grind (arith, cond, lt-ltb, index_same, given_kept, le-ltb)
 
   -- the next derivation
   module _ (x : Derivation) (inside : length table < length all) (is : slice_index_or all (length table) x ≡ x) where
@@ -61,27 +48,14 @@ module _ (first : ℕ) (marks : List Bool) (all : List Derivation) (table : List
     indices_more : (index : ℕ) → index ≡ first + length kept → (k : ℕ) → k < length (table ++ index ∷ []) → slice_index_or (table ++ index ∷ []) k 0 ≡ new_index keep (first + k)
     indices_more index f k h = ⊎_elim
         (λ (l : k < length table). get_or_append_left table (index ∷ []) 0 k l ∙ so_far.indices k l)
-        (λ (l : length table ≤ k).
-        let size = longer index in
-        let same : k ≡ length table = omega arith in
-        get_or-append_right table (index ∷ []) k 0 l
-        ∙ ap (λ n. slice_index_or (index ∷ []) n 0) {x = k - length table} {y = 0} (omega arith)
-        ∙ f ∙ index_now ∙ ap (λ n. new_index keep (first + n)) (sym same))
+        (λ (l : length table ≤ k). grind (arith, longer, get_or-append_right, index_now))
         (cases_lt k (length table))
 
     mark_there : has_mark marks (length table) ≡ keep (first + length table)
-    mark_there =
-        let place : length table ≡ first + length table - first = omega arith in
-        ap (has_mark marks) place ∙ sym (ap (λ b. b || has_mark marks (first + length table - first)) (le-ltb (first + length table) first (omega arith)))
+    mark_there = grind (arith, le-ltb)
 
     pub leave_out : (index : ℕ) → index ≡ first + length kept → has_mark marks (length table) ≡ false → SoFar first marks all (table ++ index ∷ []) kept
-    leave_out index f m =
-        let size = longer index in
-        record {
-          few = omega arith;
-          indices = indices_more index f;
-          those = so_far.those ∙ sym (ap (λ n. kept_derivations keep first (take n all)) size ∙ next_left_out keep first (length table) all inside (sym mark_there ∙ m));
-        }
+    leave_out index f m = grind (arith, longer, indices_more, take, next_left_out, mark_there)
 
     pub take_over : (index : ℕ) → index ≡ first + length kept → has_mark marks (length table) ≡ true → NameEarlier first all
         → (new : List Derivation) → TakesOver (with_new_indices (index_by first table) x) index first kept new
@@ -120,8 +94,7 @@ behind_first (x ∷ l) = l
 
 pub left_more : {A : Type 0} (k l : List A) (n : ℕ) → n < length k → n < length l
     → drop n k ≡ drop n l → drop (n + 1) k ≡ drop (n + 1) l
-left_more k l n h i e =
-    let x = (exists_at l n i).0 in ap behind_first (sym (drop_more k n x h) ∙ e ∙ drop_more l n x i)
+left_more k l n h i e = grind (arith, exists_at l n i, drop_more k n ((exists_at l n i).0) h, drop_more l n ((exists_at l n i).0) i)
 
 -- The first `kept` are those that are kept so far, and the others follow from `place` on.
 module _ {D : Type 0} (derived : D → Derivation) (first : ℕ) (marks : List Bool) (all ds : List D) (table : List ℕ) (kept place : ℕ) (size : length ds ≡ length all) (at : length table ≡ place) (behind : kept ≤ place)
@@ -130,10 +103,7 @@ module _ {D : Type 0} (derived : D → Derivation) (first : ℕ) (marks : List B
   next_one = exists_at all place there
 
   still : next_one.0 ≡ get_or ds place next_one.0
-  still =
-      let x = next_one.0 in
-      let same : place + 0 ≡ place = omega arith in
-      next_one.1 ∙ ap (λ n. get_or all n x) (sym same) ∙ sym (get_or-drop place all 0 x) ∙ ap (λ l. get_or l 0 x) (sym left) ∙ get_or-drop place ds 0 x ∙ ap (λ n. get_or ds n x) same
+  still = grind (arith, get_or-drop place all 0 next_one.0, get_or-drop place ds 0 next_one.0)
 
   inside : length table < length (map derived all)
   inside = let e = length-map all derived in omega arith
@@ -142,10 +112,7 @@ module _ {D : Type 0} (derived : D → Derivation) (first : ℕ) (marks : List B
   is = ap (λ n. slice_index_or (map derived all) n (derived next_one.0)) at ∙ get_or-map derived all place next_one.0 (derived next_one.0) there ∙ ap derived (sym next_one.1)
 
   index_is : first + kept ≡ first + length (map derived (take kept ds))
-  index_is =
-      let e = length-map (take kept ds) derived in
-      let f = length-take-le kept ds (omega arith) in
-      omega arith
+  index_is = omega (arith, length-map (take kept ds) derived, length-take-le kept ds (omega arith))
 
   pub place_left_out : has_mark marks place ≡ false → SoFar first marks (map derived all) (table ++ (first + kept) ∷ []) (map derived (take kept ds))
   place_left_out m = leave_out first marks (map derived all) table (map derived (take kept ds)) so_far (derived next_one.0) inside is (first + kept) index_is (ap (has_mark marks) at ∙ m)
@@ -161,11 +128,7 @@ module _ {D : Type 0} (derived : D → Derivation) (first : ℕ) (marks : List B
 
 pub earlier_of : (c : Certificate) (first : ℕ) (ds : List Derivation) → RefersBack c
     → AreDerivationsOf c first ds → NameEarlier first ds
-earlier_of c first ds back are k =
-    subst (NamesEarlier (first + k))
-    (ap (λ n. reason_at c (n + k)) (sym are.first_is) ∙ reason_placed c k
-    ∙ ap (λ l. slice_index_or (map (λ (d : Derivation). Some d.reason) l) k None) (sym are.those))
-    (back (first + k))
+earlier_of c first ds back are k = grind (arith, reason_placed c k, map)
 
 pub count_of : (c : Certificate) (first : ℕ) (ds : List Derivation) → AreDerivationsOf c first ds
     → count c ≡ first + length ds
@@ -173,8 +136,7 @@ count_of c first ds are = ap₂ (λ m n. m + n) are.first_is (ap length (sym are
 
 other : (n : ℕ) (goal : Option ℕ) → IfSome goal (λ g. g < n) → (i : ℕ) → n ≤ i
     → is_the_goal goal i ≡ false
-other n None h i far = refl
-other n (Some g) h i far = ne_eqb i g (λ same. omega arith)
+other n goal h i far = grind (arith, ne_eqb)
 
 module _ (c : Certificate) (first : ℕ) (ds : List Derivation) (of : AreDerivationsOf c first ds) (goal : Option ℕ) (can : CanTighten c goal) (marks : List Bool) (are : AreMarks goal first ds marks) where
   among : IfSome goal (λ g. g < first + length ds)

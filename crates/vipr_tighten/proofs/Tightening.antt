@@ -1,5 +1,5 @@
 -- The parts of the tightened certificate
-use Rattle.std.proofs.Common.{◌≡◌, ℕ, List, map, length, Option, sym, ap, ◌∙◌, subst}
+use Rattle.std.proofs.Common.{arith, ◌≡◌, ℕ, List, map, length, Option, sym, subst}
 use Rattle.vipr_spec.specs.Certificate as is
 use Rattle.vipr_spec.specs.{Shape.CanWrite, Tightened.tightened_certificate}
 use Rattle.vipr_spec.proofs.Laws.{can_write}
@@ -10,17 +10,12 @@ use Rattle.vipr_tighten.specs.Passes.{AreDerivationsOf}
 
 module _ (c : is.Certificate) (p : is.Problem) (ss : List (Named Solution)) (ds : List Derivation) (parts : c ≡ certificate_with p ss ds) where
   pub derived : (first : ℕ) → length p.constraints ≡ first → AreDerivationsOf c first (map derivation_of ds)
-  derived first is_first = record {
-    first_is = ap (λ (x : is.Certificate). length x.problem.constraints) parts ∙ is_first;
-    those = ap (λ (x : is.Certificate). x.derivations) (sym parts);
-  }
+  derived first is_first = grind arith
 
   -- what is kept
   module _ (goal : Option ℕ) (tightened : List Derivation) (are : map derivation_of tightened ≡ (tightened_certificate c goal).derivations) where
     pub tightened_parts : certificate_with p ss tightened ≡ tightened_certificate c goal
-    tightened_parts =
-        ap (λ l. record (certificate_with p ss ds) { derivations = l }) are
-        ∙ ap (λ (x : is.Certificate). record x { derivations = (tightened_certificate c goal).derivations }) (sym parts)
+    tightened_parts = grind arith
 
     pub parts_within : CanWrite c → CanWrite (certificate_with p ss tightened)
     parts_within w = subst CanWrite (sym tightened_parts) (can_write c goal w)
