@@ -1,4 +1,5 @@
 -- What is answered of a certificate, as a value
+use Rattle.std.proofs.Common.{arith}
 use Rattle.std.proofs.Common.{◌≡◌, ◌≢◌, ◌⊎◌, ◌<◌, ◌^◌, ℕ, List, Bool, true, false, length, Option, Some, None, IfSome}
 use Rattle.std.proofs.Common.{Result, Ok, Err, inl, inr, refl, subst, sym}
 use Rattle.std.specs.Prelude.{IsErrAnd, is_ok}
@@ -6,7 +7,7 @@ use Rattle.vipr_spec.specs.{Constraint.Profile, Input.Input, Verdict.Answer, Ver
 use Rattle.vipr_check.specs.declared.verdict.Fault.{Fault as CheckFault}
 use Rattle.vipr_check.specs.declared.verdict.Fault.TheVariants.{Memory as CheckMemory}
 use Rattle.vipr_check.specs.declared.verdict.Fault.TheVariants.{Read as CheckRead}
-use Rattle.vipr_check.specs.{Checks.ChecksIn, Run.SaysInDetail, View.answer_of}
+use Rattle.vipr_check.specs.{Checks.ChecksIn, Run.SaysInDetail}
 use Rattle.vipr_check.specs.{declared.detail.Detail.Detail, declared.verdict.Verdict.Verdict}
 use Rattle.vipr_bytes.specs.{Known.IfKnown, Known.text_of}
 use Rattle.vipr_command.specs.Answer.{AnswersTask, AnswersBy, AnswersWhole, Tells, TellsWhole}
@@ -87,5 +88,4 @@ module _ (bytes bytes' : List ℕ) (fails ends : Bool) (same : bytes' ≡ bytes)
 -- a verdict was reached
 pub some_answer : (P : Profile) (i : Input) (r : Result Verdict CheckFault) → length i.bytes < 2 ^ 64
     → ChecksIn P (Some i) r → is_ok r ≡ true → (a : Answer) × IsAnswer P (text_of i) a
-some_answer P i (Ok v) short c e = (answer_of v, c.exact short)
-some_answer P i (Err f) short c e = absurd (cc)
+some_answer P i r short c e = grind arith

@@ -1,9 +1,9 @@
 -- What clap's parse of the line says, for `job`.
-use Rattle.std.proofs.Common.{◌≡◌, ◌∙◌, ap, refl, sym, subst, true≢false, inl, inr, ◌⊎◌, List, []}
-use Rattle.std.proofs.Common.{◌∷◌, Option, Some, None, Bool, true, false, codes, is_some}
+use Rattle.std.proofs.Common.{arith, ◌≡◌, ◌∙◌, ap, refl, sym, subst, true≢false, inl, inr, ◌⊎◌}
+use Rattle.std.proofs.Common.{List, [], ◌∷◌, Option, Some, None, Bool, true, false, codes, is_some}
 use Rattle.std.proofs.Common.{map, option_map, find, if◌then◌else◌, ◌&&◌, take}
+use Rattle.std.proofs.lemmas.Slice.Eq.{bytes_eq-Decides}
 use Rattle.std.specs.Prelude.{IfErr, IfOk, Result, Ok, Err, IsErrAnd}
-use Rattle.clap.specs.Faults.{walk_fault, entered_fault, settle_fault, defaults_fault, check_fault}
 use Rattle.clap.specs.Kinds.{FailsBy, HasKind, IsAmong, Kinds, or_else}
 use Rattle.clap.specs.declared.error.ErrorKind.TheVariants.{DisplayHelp, InvalidSubcommand}
 use Rattle.clap.specs.declared.error.ErrorKind.TheVariants.{InvalidValue}
@@ -12,12 +12,11 @@ use Rattle.clap.specs.Words.{Row, Shape, Text, fault_of, first_of, has_subcomman
 use Rattle.clap.specs.Words.{is_simple_and_free, kind_of, subcommand_name_of, subcommand_of}
 use Rattle.clap.specs.Words.{subcommand_rows_of, takes}
 use Rattle.clap.specs.declared.parser.matches.ArgMatches.TheViews.{out-ArgMatches}
-use Rattle.clap.specs.{Takes.walk_passes, Walk.idle, Walk.nothing_held, Walk.stop_after, Walk.walk}
-use Rattle.clap.specs.{Walk.walk_from, Walk.settled, Walk.finished, Walk.answers_to}
+use Rattle.clap.specs.Walk.{idle, nothing_held, stop_after, answers_to}
+use Rattle.clap.specs.declared.parser.matches.ArgMatches.{ArgMatches}
+use Rattle.clap.specs.{Faults.walk_fault, Faults.check_fault, Takes.walk_passes}
 use Rattle.clap.specs.{declared.error.Error.Error, declared.error.ErrorKind.ErrorKind}
-use Rattle.clap.specs.{declared.parser.matches.ArgMatches.ArgMatches}
 use Rattle.std.specs.Str.{bytes_eq}
-use Rattle.std.proofs.lemmas.Slice.Eq.{bytes_eq-Decides}
 use Rattle.vipr_command.proofs.HelpLemmas.{NotHelp, first_none, later_none, met_help, never_met}
 use Rattle.vipr_rules.specs.declared.profile.Profile.{Profile}
 use Rattle.vipr_command.specs.Args.{are_accepted, asks_for_help, request_of, asked_by, command_word}
@@ -37,13 +36,11 @@ is_free_line = refl
 -- the error that a `?` hands on
 pub handed_on : {T E : Type 0} (r : Result T E) (e : E) (P : E → Type 0) → IsErrAnd r (λ y. y ≡ e)
     → P e → IfErr r P
-handed_on (Ok x) e P h p = absurd h
-handed_on (Err y) e P h p = subst P (sym h) p
+handed_on r e P h p = grind arith
 
 required : (rows : List Row) (b : Bool) → check_fault (built line).top rows b ≡ [] → b ≡ true
 unfolding line
-required rows true h = refl
-required rows false h = cc
+required rows b h = grind arith
 
 -- of what fails in turn, the last
 last_none : (a b c d e : Kinds) → or_else a (or_else b (or_else c (or_else d e))) ≡ [] → e ≡ []
@@ -52,12 +49,7 @@ last_none a b c d e h = later_none d e (later_none c _ (later_none b _ (later_no
 -- a line with no fault names a subcommand
 names_one : (words : List Text) → fault_of line words ≡ []
     → is_some (subcommand_of line words) ≡ true
-names_one words h =
-    let end = walk (built line).top.rules (names_of (built line)) nothing_held (argument_words line words) in
-    required (finished (built line).top.rules end.held) _ (last_none
-    (walk_fault (built line).top (names_of (built line)) (walk_from nothing_held) (argument_words line words))
-    (entered_fault (built line) end.stopped) (settle_fault (built line).top.rules (built line).top.args_override_self end.held)
-    (defaults_fault (settled (built line).top.rules end.held).rows (built line).top.rules) _ h)
+names_one words h = grind (arith, required, last_none)
 
 enabled : (built line).top.disable_help_subcommand ≡ false
 unfolding line
@@ -69,8 +61,7 @@ never_help : (words : List Text) → fault_of line words ≡ [] → NotHelp
 never_help words h = never_met (built line).top (names_of (built line)) enabled nothing_held idle 1 false None (argument_words line words) tt (first_none _ _ h)
 
 is_some-map : {X Y : Type 0} (f : X → Y) (o : Option X) → is_some (option_map f o) ≡ is_some o
-is_some-map f None = refl
-is_some-map f (Some x) = refl
+is_some-map f o = grind arith
 
 pub never_without : (m : ArgMatches) (words : List Text)
     → subcommand_rows_of m ≡ subcommand_of line words → fault_of line words ≡ []
@@ -81,8 +72,7 @@ never_without m words e h = sym (is_some-map _ (out-ArgMatches m).subcommand) �
 parts : {X : Type 0} (f : X → Text × List Row) (o : Option X) (name : Text) (rows : List Row)
     → Some name ≡ option_map (λ x. (f x).0) o
     → Some rows ≡ option_map (λ p. p.1) (option_map f o) → option_map f o ≡ Some (name, rows)
-parts f None name rows n r = cc
-parts f (Some x) name rows n r = let h : name ≡ (f x).0 = cc in let k : rows ≡ (f x).1 = cc in rw (h, k) refl
+parts f o name rows n r = grind arith
 
 pub entered_is : (m : ArgMatches) (name : Text) (rows : List Row) → Some name ≡ subcommand_name_of m
     → Some rows ≡ option_map (λ p. p.1) (subcommand_rows_of m)
@@ -105,8 +95,7 @@ named_in (s ∷ ss) p q h = go (answers_to p.0 (label_of s)) refl (named_in ss p
 
     go : (b : Bool) → b ≡ answers_to p.0 (label_of s) → (option_map (λ s. rows_at s p.1) (find (λ s. answers_to p.0 (label_of s)) ss) ≡ Some q → IsNamed ss p.0 q.0)
         → option_map (λ s. rows_at s p.1) (if b then Some s else find (λ s. answers_to p.0 (label_of s)) ss) ≡ Some q → IsNamed (s ∷ ss) p.0 q.0
-    go true b rest e = inl (first e, sym b)
-    go false b rest e = inr (rest e)
+    go b b' rest e = grind arith
 
 -- of the subcommands, `help` is the one that is no task
 one_of : (word name : Text) → IsNamed (built line).subs word name
@@ -132,8 +121,7 @@ never_other words q f e none = stop_named _ q e (never_help words f) none
 
 pub failed_on : {T : Type 0} (r : Result T Error) (e : Error) (kinds : Kinds)
     → IsErrAnd r (λ y. y ≡ e) → HasKind kinds e → FailsBy kinds r
-failed_on (Ok x) e kinds h k = absurd h
-failed_on (Err y) e kinds h k = subst (HasKind kinds) (sym h) k
+failed_on r e kinds h k = grind arith
 
 pub is_asked : (words : List Text) (j : Job) (name : Text) (rows : List Row)
     → subcommand_of line words ≡ Some (name, rows) → command_word j.command ≡ name
@@ -149,12 +137,10 @@ is_asked words j name rows e n p g l s f o = rw (e, n, p, g, l, s, f, o) refl
 -- ---- the profile
 
 and_first : (a b : Bool) → (a && b) ≡ true → a ≡ true
-and_first true b h = refl
-and_first false b h = h
+and_first a b h = grind arith
 
 and_second : (a b : Bool) → (a && b) ≡ true → b ≡ true
-and_second true b h = h
-and_second false b h = cc
+and_second a b h = grind arith
 
 pub accepted_by_clap : (words : List Text) → are_accepted words ≡ true → takes line words ≡ true
 accepted_by_clap words h = and_first (takes line words) (names_profile words) h
@@ -163,14 +149,12 @@ pub profile_accepted : (words : List Text) → are_accepted words ≡ true → n
 profile_accepted words h = and_second (takes line words) (names_profile words) h
 
 among_first : (k : ErrorKind) (a b : Kinds) → IsAmong k a → IsAmong k (or_else a b)
-among_first k [] b h = absurd h
-among_first k (x ∷ xs) b h = h
+among_first k a b h = grind arith
 
 -- a fault of clap's parse is one of the words
 pub clap_fault : (words : List Text) (e : Error) → HasKind (fault_of line words) e
     → HasKind (words_fault words) e
-clap_fault words e (inl memory) = inl memory
-clap_fault words e (inr among) = inr (among_first (kind_of e) (fault_of line words) _ among)
+clap_fault words e h = grind (arith, among_first)
 
 -- where clap takes the words, their fault is that of the profile
 later_fault : (a : Kinds) (b : Bool) → a ≡ []
@@ -189,9 +173,7 @@ module _ (words : List Text) (name : Text) (rows : List Row) (e : subcommand_of 
     never_accepted t = let a = profile_accepted words t in let b = names_by None h in let bad : true ≡ false = sym a ∙ b in cc
 
     pub profile_wrong : fault_of line words ≡ [] → (x : Error) → kind_of x ≡ InvalidValue → HasKind (words_fault words) x
-    profile_wrong f x k =
-        let is : words_fault words ≡ InvalidValue ∷ [] = later_fault (fault_of line words) (names_profile words) f ∙ ap (λ b. if b then [] else InvalidValue ∷ []) (names_by None h) in
-        subst (λ ks. HasKind ks x) (sym is) (inr (inl k))
+    profile_wrong f x k = grind arith
 
 -- ---- `help --help`
 
@@ -209,24 +191,16 @@ abbrev pub AsksHelp : List Text → Type 0
 AsksHelp words = (name : Text) × (rest : List Text) × (words ≡ name ∷ codes "help" ∷ rest)
 
 pub help_asked : (words : List Text) → asks_for_help words ≡ true → AsksHelp words
-help_asked [] h = cc
-help_asked (a ∷ []) h = cc
-help_asked (a ∷ b ∷ []) h = cc
-help_asked (a ∷ b ∷ c ∷ []) h = (a, c ∷ [], ap (λ x. a ∷ x ∷ c ∷ []) ((bytes_eq-Decides b (codes "help")).0 (and_first _ _ h)))
-help_asked (a ∷ b ∷ c ∷ d ∷ e) h = cc
+help_asked words h = grind (arith, bytes_eq-Decides)
 
 -- so do the first two of such words
 pub still_asked : {X : Type 0} (f : X → Text) (words : List X) → AsksHelp (map f words)
     → AsksHelp (map f (take 2 words))
-still_asked f [] (name, rest, e) = cc
-still_asked f (a ∷ []) (name, rest, e) = cc
-still_asked f (a ∷ b ∷ more) (name, rest, e) = let is : f b ≡ codes "help" = cc in (f a, [], ap (λ x. f a ∷ x ∷ []) is)
+still_asked f words h = grind arith
 
 asked_fault : (words : List Text) → AsksHelp words
     → words_fault words ≡ DisplayHelp ∷ InvalidSubcommand ∷ []
-asked_fault words (name, rest, e) =
-    let given = name ∷ codes "help" ∷ rest in
-    ap (λ ws. words_fault ws) e ∙ ap (λ k. or_else k (if names_profile given then [] else InvalidValue ∷ [])) (help_fault name rest)
+asked_fault words (name, rest, e) = grind (arith, help_fault)
 
 pub asked_kinds : {T : Type 0} (r : Result T Error) (words short : List Text) → AsksHelp words
     → AsksHelp short → FailsBy (words_fault short) r → FailsBy (words_fault words) r
@@ -234,8 +208,7 @@ asked_kinds r words short a b h = subst (λ k. FailsBy k r) (asked_fault short b
 
 pub asked_ok : {T : Type 0} (r : Result T Error) (short : List Text) (P : T → Type 0)
     → AsksHelp short → FailsBy (words_fault short) r → IfOk r P
-asked_ok (Ok x) short P b h = let bad : DisplayHelp ∷ InvalidSubcommand ∷ [] ≡ [] = sym (asked_fault short b) ∙ h in cc
-asked_ok (Err e) short P b h = tt
+asked_ok r short P b h = grind (arith, asked_fault)
 
 pub asked_err : {T : Type 0} (r : Result T Error) (words : List Text) (P : Error → Type 0)
     → AsksHelp words → IfErr r (λ e. are_accepted words ≡ true → P e)

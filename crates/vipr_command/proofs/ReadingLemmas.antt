@@ -1,5 +1,5 @@
 -- A text that is read piece by piece
-use Rattle.std.proofs.Common.{◌≡◌, ℕ, Bool, true, List, Option, Some, None, Result, Ok, Err, IfOk}
+use Rattle.std.proofs.Common.{arith, ◌≡◌, ℕ, Bool, true, List, Option, Some, None, Result, IfOk}
 use Rattle.std.proofs.Common.{IfSome, subst}
 use Rattle.std.specs.Prelude.{IsErrAnd}
 use Rattle.vipr_spec.specs.Input.{Input}
@@ -13,9 +13,7 @@ of_known (Some i) P Q f h = f i h
 -- nothing was read
 pub nothing_read : {X E : Type 0} (o : Option Input) (r : Result X E) (P : Input → X → Type 0) (Q : E → Type 0)
     → IsErrAnd r Q → IfSome o (λ i. IfOk r (P i))
-nothing_read o (Ok x) P Q is = absurd is
-nothing_read None (Err e) P Q is = tt
-nothing_read (Some i) (Err e) P Q is = tt
+nothing_read o r P Q is = grind arith
 
 -- a read went on
 pub went_on : (known left new : Option Input) (old bytes : List ℕ) (failed more : Bool)

@@ -1,6 +1,6 @@
 -- What the program answers if the words aren't taken, and from what is read
-use Rattle.std.proofs.Common.{◌≡◌, ◌⊎◌, Bor, option_map, ℕ, List, Option, Some, None, Result, Ok, Err}
-use Rattle.std.proofs.Common.{Bool, true, false, inl, inr, refl, sym, subst}
+use Rattle.std.proofs.Common.{arith, ◌≡◌, ◌⊎◌, Bor, option_map, ℕ, List, Option, Some, None, Result}
+use Rattle.std.proofs.Common.{Ok, Err, Bool, true, false, inl, inr, refl, sym, subst}
 use Rattle.std.specs.Prelude.{IfOk, IfSome}
 use Rattle.clap.specs.Words.{HasKind, Text, kind_of}
 use Rattle.clap.specs.declared.error.ErrorKind.TheVariants.{OutOfMemory}
@@ -30,13 +30,10 @@ pub declined : (words : List Text) (input : Option Input) (e : Error)
     (old new before after : Option Output) (files : Files) (r : Result Ending CommandFault)
     → HasKind (words_fault words) e → AnswersError (kind_of e) old new before after r
     → AnswersWords words input (outside_of old files) (outside_of new files) before after r
-declined words input e old new before after files r (inl memory) (inl (other, d)) = absurd (other memory)
-declined words input e old new before after files r (inr among) (inl (other, d)) = inr (inl (kind_of e, among, d), same_files files)
-declined words input e old new before after files r has (inr (memory, l)) = inr (inr l, same_files files)
+declined words input e old new before after files r has h = grind arith
 
 not_true : (b : Bool) → (b ≡ true → ⊥) → b ≡ false
-not_true true n = absurd (n refl)
-not_true false n = refl
+not_true b n = grind arith
 
 -- status 2 is for words that aren't taken
 pub wrong_words : (words : List Text) (k : ErrorKind) (old new before after : Option Output)

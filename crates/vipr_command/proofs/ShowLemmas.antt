@@ -1,5 +1,5 @@
 -- What `show` answers, from the text that was made and what is written.
-use Rattle.std.proofs.Common.{◌≡◌, Option, Some, None, Result, Ok, Err, ℕ, List, true, false, refl}
+use Rattle.std.proofs.Common.{arith, ◌≡◌, Option, Some, None, Result, Ok, Err, ℕ, List, true, false}
 use Rattle.std.proofs.Common.{sym, ap, subst, ◌∙◌}
 use Rattle.vipr_spec.specs.{Certificate.Certificate, Grammar.Spells, GrammarLaws.whole_text}
 use Rattle.vipr_spec.specs.{Input.Input, Reading.certificate_read, Reading.refused}
@@ -40,8 +40,7 @@ spelled_by F old new (Some i) c r given h = λ short whole. given (text_spelling
 
 -- nothing was written
 pub stays : (old : Option Output) → Stays old old
-stays None = tt
-stays (Some o) = refl
+stays old = grind arith
 
 -- a text with a refusal is that of no certificate
 pub none_spelled : (F : Form) (old : Option Output) (source : Option Input) (cause offset : ℕ)
