@@ -2,10 +2,9 @@
 //! computed.
 
 ghost use Rattle.std.specs.Prelude.{None, Some, [], false, true, ◌≡◌};
-ghost use Rattle.vipr_spec.specs.Certificate.{NamesEarlier, RefersTo, asm, constraint_at, count};
-ghost use Rattle.vipr_spec.specs.Certificate.{count_held, is_assumption, is_live, known_at};
-ghost use Rattle.vipr_spec.specs.Certificate.{last_at, lasts_to, lin, peak, reason_at, sol};
-ghost use Rattle.vipr_spec.specs.Certificate.{no_constraint, uns};
+ghost use Rattle.vipr_spec.specs.Certificate.{asm, constraint_at, count, count_held, is_assumption};
+ghost use Rattle.vipr_spec.specs.Certificate.{is_live, known_at, lasts_to, lin, peak, reason_at};
+ghost use Rattle.vipr_spec.specs.Certificate.{sol, no_constraint};
 ghost use Rattle.vipr_spec.specs.Examples.{both, dropped_example, example};
 ghost use Rattle.vipr_spec.specs.{Constraint.at_least, Steps.before};
 
@@ -15,7 +14,6 @@ pub fn by_index()
     ensures constraint_at_is { (constraint_at example 2).sense ≡ at_least }
     ensures reason_at_is { (reason_at example 0 ≡ None) × (reason_at example 2
         ≡ Some (lin both)) }
-    ensures last_at_is { (last_at example 2 ≡ None) × (last_at dropped_example 2 ≡ Some 2) }
     ensures known_at_is { (known_at example 2).reason ≡ Some (lin both) }
     ensures no_constraint_is { known_at example 3 ≡ no_constraint }
     ensures before_is { (before example 2).derivations ≡ [] }
@@ -31,6 +29,4 @@ pub fn alive()
         × (lasts_to 7 None ≡ true) }
     ensures is_live_is { (is_live dropped_example 3 0 ≡ true) × (is_live dropped_example 3 2
         ≡ false) }
-    ensures NamesEarlier_is { NamesEarlier 5 (Some (uns 4 2 3 1)) }
-    ensures RefersTo_is { RefersTo (Some (uns 4 2 5 3)) 5 }
 {}

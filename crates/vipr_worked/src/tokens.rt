@@ -1,7 +1,7 @@
 //! Tokens of a text, computed.
 
 ghost use Rattle.std.specs.Prelude.{[], codes, false, true, ◌∷◌, ◌≡◌};
-ghost use Rattle.vipr_spec.specs.Tokens.{Begins, IsWhite, is_cut, is_white, run, text_tokens};
+ghost use Rattle.vipr_spec.specs.Tokens.{is_cut, is_white, run, text_tokens};
 ghost use Rattle.vipr_spec.specs.Tokens.{token_here, tokens, tokens_after_front, tokens_from};
 
 /// One text and its tokens.
@@ -21,6 +21,4 @@ pub fn split()
     ensures text_tokens_is { text_tokens (codes "% made by hand\nVER 1.0")
         ≡ record { bytes = codes "VER"; offset = 15 }
         ∷ record { bytes = codes "1.0"; offset = 19 } ∷ [] }
-    ensures IsWhite_is { IsWhite 32 }
-    ensures Begins_is { Begins IsWhite (codes " x") }
 {}

@@ -1,4 +1,4 @@
-use Rattle.std.proofs.Common.{refl, inl, inr, lit<}
+use Rattle.std.proofs.Common.{refl}
 use Rattle.vipr_spec.specs.{Fraction.over, Fraction.◌*ℚ◌, Fraction.◌+ℚ◌, Gcd.gcd}
 use Rattle.vipr_worked.proofs.certificates.alive.Goals as goal
 
@@ -8,6 +8,4 @@ returns c = record {
   is_assumption_is = (refl, refl);
   lasts_to_is = (refl, refl, refl);
   is_live_is = (refl, refl);
-  NamesEarlier_is = (lit< tt, lit< tt, lit< tt, lit< tt);
-  RefersTo_is = inr (inr (inl refl));
 }

@@ -8,7 +8,6 @@ returns c = record {
   count_is = refl;
   constraint_at_is = refl;
   reason_at_is = (refl, refl);
-  last_at_is = (refl, refl);
   known_at_is = refl;
   no_constraint_is = refl;
   before_is = refl;
