@@ -1,5 +1,5 @@
 -- What was read by a cursor, if the parser goes on where it came
-use Rattle.std.proofs.Common.{◌≡◌, ℕ, ◌-◌, length, Option, Some, Result, Ok, sym, ◌∙◌}
+use Rattle.std.proofs.Common.{arith, ◌≡◌, ℕ, ◌-◌, length, Option, Some, Result, Ok}
 use Rattle.vipr_spec.specs.{Certificate.Derivation, Constraint.Row, Reading.Rest}
 use Rattle.vipr_scan.specs.{Hand.Hand, Hand.rest_behind, declared.error.ScanError.ScanError}
 use Rattle.vipr_read.specs.{Deriving.ReadsDerivation, Parsing.Parsing}
@@ -9,19 +9,10 @@ pub carried : (objective : Row) (step : Derivation) (old old' new' new : Parsing
     → new.rest ≡ new'.rest → new.variables ≡ new'.variables → new.home ≡ old.home
     → result ≡ Ok tt → ReadsDerivation objective step old' new' result
     → ReadsDerivation objective step old new (Ok tt)
-carried objective step old old' new' new result rest variables rest' variables' home ok h =
-    let kept : new.variables ≡ old.variables = variables' ∙ h.kept.variables ∙ variables in
-    record {
-      read = λ p v o.
-          (record { variables = kept; home = home }, rw (ok, rest, sym rest') at (h.read p (variables ∙ v) o).1);
-      kept = record { variables = kept; home = home };
-      derivation = rw (ok, variables) at h.derivation;
-    }
+carried objective step old old' new' new result rest variables rest' variables' home ok h = grind arith
 
 -- what the cursor leaves is left where it came
 pub went : (to hand : Hand) (left : ℕ) (old new : Option Rest) → Some to ≡ Some hand
     → old ≡ rest_behind to (length to.bytes - left)
     → new ≡ rest_behind hand (length hand.bytes - left) → new ≡ old
-went to hand left old new same before after =
-    let e : to ≡ hand = (cc) in
-    after ∙ sym (rw e at before)
+went to hand left old new same before after = grind arith

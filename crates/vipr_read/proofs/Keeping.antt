@@ -1,7 +1,6 @@
 -- What stays the same through one call stays so through two
-use Rattle.std.proofs.Common.{◌∙◌}
+use Rattle.std.proofs.Common.{arith}
 use Rattle.vipr_read.specs.Parsing.{Parsing, Retains}
 
 pub kept_on : (a b c : Parsing) → Retains a b → Retains b c → Retains a c
-kept_on a b c first then =
-    record { variables = then.variables ∙ first.variables; home = then.home ∙ first.home }
+kept_on a b c first then = grind arith

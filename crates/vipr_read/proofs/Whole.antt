@@ -1,6 +1,6 @@
 -- What a source gives, as a text that is read
-use Rattle.std.proofs.Common.{◌≡◌, ◌⊎◌, false, List, ℕ, Option, Some, None, Result, Ok, Err, IfOk}
-use Rattle.std.proofs.Common.{inl, inr, refl, ap, subst, ◌∙◌}
+use Rattle.std.proofs.Common.{arith, ◌≡◌, ◌⊎◌, false, List, ℕ, Option, Some, None, Result, Ok, Err}
+use Rattle.std.proofs.Common.{IfOk, ap, subst, ◌∙◌}
 use Rattle.vipr_spec.specs.Certificate.{Certificate}
 use Rattle.vipr_spec.specs.Reading.{Rest, Fault, ◌>>=◌, problem_read, certificate_read}
 use Rattle.vipr_spec.specs.{Grammar.Spells, GrammarLaws.whole_text, Input.Input}
@@ -10,7 +10,6 @@ use Rattle.vipr_read.proofs.Binding.{bind_assoc}
 use Rattle.vipr_read.specs.Whole.{IsRead, items_behind}
 use Rattle.vipr_scan.specs.declared.error.TextError.{TextError}
 use Rattle.vipr_scan.specs.{Faults.IsFaultOf, declared.error.ScanError.ScanError}
-use Rattle.vipr_scan.specs.declared.error.ScanError.TheVariants as stop
 use Rattle.vipr_scan.specs.declared.error.TextError.TheVariants as error
 
 pub known_by : (o : Option Input) (P Q : Input → Type 0) → ((i : Input) → P i → Q i) → IfKnown o P
@@ -35,11 +34,7 @@ spelled_by i (Err f) h e = tt
 
 one_read : (r : Result Certificate Fault) (x : Result Certificate TextError) (c : Certificate)
     → r ≡ Ok c → IsRead (λ d. d) x r → (x ≡ Ok c) ⊎ (x ≡ Err error.Memory)
-one_read r (Ok d) c e h = inl (cc)
-one_read r (Err (error.Refused k o)) c e h = absurd (cc)
-one_read r (Err error.Read) c e h = absurd (cc)
-one_read r (Err error.Memory) c e h = inr refl
-one_read r (Err error.Spent) c e h = absurd h
+one_read r x c e h = grind arith
 
 -- what is spelled is read
 pub only_by : (i : Input) (x : Result Certificate TextError)
@@ -52,9 +47,7 @@ only_by i x h e c s = one_read (certificate_read (text_of i)) x c (ap certificat
 -- a fault is that of what goes on after it
 pub fails_first : {X Y : Type 0} (e : ScanError) (r : Result X Fault) (f : X → Result Y Fault)
     → IsFaultOf e r → IsFaultOf e (r >>= f)
-fails_first (stop.Refused c o) r f h = rw h refl
-fails_first stop.Read r f h = rw h refl
-fails_first stop.Memory r f h = tt
+fails_first e r f h = grind arith
 
 -- a certificate is a problem, and what stands behind it
 pub certificate_parts : (r : Rest)
