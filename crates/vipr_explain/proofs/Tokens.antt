@@ -25,17 +25,6 @@ byte_passed p q offset b [] some byte gap = absurd (omega (arith, some))
 byte_passed p q offset b (x ∷ bytes) some byte gap =
     ap (λ y. words_at p offset (y ∷ bytes)) (sym byte) ∙ gap false offset bytes
 
--- a byte begins a token
-pub byte_begins : (p : Position) (offset b : ℕ) (bytes : List ℕ) → 0 < length bytes
-    → b ≡ get_or bytes 0 0
-    → ((fails : _) (o : ℕ) (rest : List ℕ)
-    → tokens_in p fails o (b ∷ rest) ≡ tokens_in Past fails o (b ∷ rest))
-    → words_at p offset bytes ≡ words_at Past offset bytes
-byte_begins p offset b [] some byte token = absurd (omega (arith, some))
-byte_begins p offset b (x ∷ bytes) some byte token =
-    ap (λ y. words_at p offset (y ∷ bytes)) (sym byte) ∙ token false offset bytes
-    ∙ ap (λ y. words_at Past offset (y ∷ bytes)) byte
-
 -- nothing is left
 pub none_left : (p : Position) (n : ℕ) (rest : List ℕ) → length rest ≡ 0 → words_at p n rest ≡ []
 unfolding tokens_from tokens_after_front

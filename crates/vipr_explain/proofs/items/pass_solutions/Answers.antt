@@ -1,8 +1,6 @@
-use Rattle.std.proofs.Common.{◌≡◌, Ok, arith, subst}
-use Rattle.std.specs.Prelude.{⊤}
+use Rattle.std.proofs.Common.{Ok, arith, subst}
 use Rattle.vipr_cert.specs.Items.{solution_of}
 use Rattle.vipr_read.specs.Items.{HasNone, Moves}
-use Rattle.vipr_explain.specs.Found.{AreReadSoFar, AreSolutionsRead}
 use Rattle.vipr_explain.proofs.{Again.next_read, Again.none_behind, Again.some_read, Lacks.err_is}
 use Rattle.vipr_explain.proofs.items.pass_solutions.Goals as goal
 
@@ -19,11 +17,6 @@ loop-preserved c =
           let part = c.loop.invariant.read p text front in
           next_read HasNone (λ _. Ok tt) solution_of old new some.0 some.1 next.moves (next.read p part.behind.knows) (λ _ _ _. tt) part;
     }
-
-pub returns-clause-read : goal.returns-clause-read
-returns-clause-read c p text front =
-    let all : c.loop.counter ≡ c.args.count = omega arith in
-    subst (λ n. AreReadSoFar (AreSolutionsRead text p) (λ _. ⊤) n c.loop.solutions) all (c.loop.invariant.read p text front)
 
 pub returns-in_err-next-clause-error : goal.returns-in_err-next-clause-error
 returns-in_err-next-clause-error c p text n within front =

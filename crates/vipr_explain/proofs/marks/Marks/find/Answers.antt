@@ -1,16 +1,8 @@
-use Rattle.std.proofs.Common.{◌≡◌, ap, refl, sym, ◌∙◌}
-use Rattle.vipr_spec.specs.Tokens.{text_tokens}
+use Rattle.std.proofs.Common.{◌≡◌, ap, sym, ◌∙◌}
 use Rattle.vipr_explain.specs.Marked.{Marking, is_past, marking_in}
 use Rattle.vipr_explain.proofs.Walking.{walk_ends, walk_stops, walks_on}
 use Rattle.vipr_explain.proofs.marks.Marks.find.Goals as goal
 use Rattle.vipr_explain.proofs.marks.Marks.find.Goals.{else-loop-words-test, then-loop-words-test+in_default}
-
-pub loop-words-init : goal.loop-words-init
-loop-words-init c = record {
-  others = text_tokens c.args.text.now;
-  left = c.of-words.ensures;
-  same = rw (c.start-progress.ensures, c.new-places.ensures.items) refl;
-}
 
 pub loop-words-preserved : goal.loop-words-preserved
 loop-words-preserved c =

@@ -1,6 +1,5 @@
-use Rattle.std.proofs.Common.{◌≡◌, ◌+◌, Ok, inl, inr, refl, sym, ap, ap₂, ◌∙◌, arith, length, subst, []}
+use Rattle.std.proofs.Common.{◌≡◌, ◌+◌, Ok, inl, inr, sym, ap, ap₂, ◌∙◌, arith, length, subst}
 use Rattle.std.proofs.lemmas.List.{length-map}
-use Rattle.vipr_spec.specs.Constraint.{at, NamesBelow}
 use Rattle.vipr_spec.specs.Reading.{derivation_read, end_read}
 use Rattle.vipr_cert.specs.Items.{derivation_of}
 use Rattle.vipr_read.specs.Items.{HasEnded, Moves, NextItem}
@@ -11,12 +10,6 @@ use Rattle.vipr_explain.proofs.Again.{next_read, none_behind, one_behind}
 use Rattle.vipr_explain.proofs.near.NearSearch.pass_to.Goals.{in-None, in-Some+in_ok-kept-in-Some}
 use Rattle.vipr_explain.proofs.{Lacks.because, Lacks.err_is, Nearing.before_it}
 use Rattle.vipr_explain.proofs.near.NearSearch.pass_to.Goals as goal
-
-pub loop-passed-init : goal.loop-passed-init
-loop-passed-init c = record {
-  left = omega arith;
-  so_far = record { read = []; behind = c.requires.behind; size = refl; known = c.in_ok-pass_problem.ensures };
-}
 
 pub loop-passed-preserved : goal.loop-passed-preserved
 loop-passed-preserved c =
@@ -37,28 +30,6 @@ loop-passed-preserved c =
           let ended = subst (λ o. Moves HasEnded old new (Ok o)) w.in-None.is next.moves in
           absurd (omega (arith, ended.none))
     ]
-
-pub pass-kept-requires-clause-room : goal.pass-kept-requires-clause-room
-pass-kept-requires-clause-room c =
-    let so_far = c.loop-passed.invariant.so_far in
-    omega (arith, c.requires.room, so_far.known.replayed.rows.next, so_far.size, so_far.behind.knows.constraints, c.requires.behind.knows.constraints)
-
-pub pass-kept-requires-clause-names : goal.pass-kept-requires-clause-names
-pass-kept-requires-clause-names c =
-    let shape = rw c.in-Some.is at c.in_ok-step.ensures.shape in
-    subst (λ n. NamesBelow n (at c.in-Some.step.constraint.row)) c.loop-passed.invariant.so_far.behind.knows.variables shape.row
-
-pub pass-kept-requires-clause-searched : goal.pass-kept-requires-clause-searched
-pass-kept-requires-clause-searched c =
-    let so_far = c.loop-passed.invariant.so_far in
-    (so_far.read, so_far.known)
-
-pub returns-clause-near : goal.returns-clause-near
-returns-clause-near c =
-    let given = c.cons.result.now in
-    let size : length given ≡ length c.args.problem.now.constraints = sym (length-map given _) ∙ ap length c.cons.ensures.constraints in
-    let all : c.loop-passed.passed ≡ c.passed_to-count.result = omega arith in
-    (c.loop-passed.passed, c.loop-passed.invariant.so_far, all ∙ c.passed_to-count.ensures.count ∙ ap₂ (passed_to c.args.end) (omega (arith, size)) (omega arith))
 
 pub returns-in_err-step-clause-missing : goal.returns-in_err-step-clause-missing
 returns-in_err-step-clause-missing c =

@@ -1,15 +1,7 @@
-use Rattle.std.proofs.Common.{ap, not, refl}
-use Rattle.vipr_spec.specs.Tokens.{text_tokens}
+use Rattle.std.proofs.Common.{ap, not}
 use Rattle.vipr_explain.proofs.Walking.{walk_ends, walk_stops, walks_on}
 use Rattle.vipr_explain.proofs.syntax.TextFault.find.Goals as goal
 use Rattle.vipr_explain.proofs.syntax.TextFault.find.Goals.{else-loop-found-test, then-loop-found-test+in_default}
-
-pub loop-found-init : goal.loop-found-init
-loop-found-init c = record {
-  others = text_tokens c.args.text.now;
-  left = c.of-words.ensures;
-  same = rw c.start-found.ensures refl;
-}
 
 pub loop-found-preserved : goal.loop-found-preserved
 loop-found-preserved c =

@@ -2,7 +2,7 @@ use Rattle.std.proofs.Common.{◌≡◌, ◌+◌, ◌-◌, ◌<◌, ◌++◌, �
 use Rattle.std.proofs.Common.{take, ◌∙◌}
 use Rattle.std.proofs.lemmas.List.{drop-drop, get_or-drop, length-drop, take_all, take_more}
 use Rattle.vipr_explain.specs.{Places.place_behind, Words.words_at}
-use Rattle.vipr_explain.proofs.Tokens.{byte_begins, byte_passed}
+use Rattle.vipr_explain.proofs.Tokens.{byte_passed}
 use Rattle.vipr_explain.proofs.words.Words.pass_gap.Goals as goal
 
 pub gap-preserved : goal.gap-preserved
@@ -28,13 +28,4 @@ gap-preserved c =
             tokens = ap (λ ys. words_at c.in-Some.next (n + 1) ys) all
                 ∙ sym (byte_passed c.gap.self.position c.in-Some.next n _ xs some refl c.in-Some.ensures.gap) ∙ so_far.tokens;
           };
-    }
-
-pub returns-in-None-clause-left : goal.returns-in-None-clause-left
-returns-in-None-clause-left c text ts h =
-    let so_far = c.gap.invariant.left text ts h in
-    record {
-      n = so_far.n;
-      at = record { within = so_far.at.within; rest = so_far.at.rest; place = so_far.at.place };
-      tokens = sym (byte_begins c.gap.self.position so_far.n _ c.gap.self.rest.now (omega (arith, c.gap-test.true)) refl c.in-None.ensures.token) ∙ so_far.tokens;
     }
