@@ -6,10 +6,14 @@ use Rattle.std.proofs.lemmas.List.{length-take-le, length-drop, take-append-drop
 use Rattle.std.proofs.lemmas.List.Elements.{All-nil, All-cons, All-weaker, All-append, All-take}
 use Rattle.std.proofs.lemmas.List.Elements.{All-drop, All-contains, Contains-append_left}
 use Rattle.std.proofs.lemmas.List.Elements.{Contains-append_right, Contains-append_cases}
-use Rattle.std.proofs.{lemmas.Bool.cases_lt, lemmas.Bool.Decides.nat_tests}
+use Rattle.std.proofs.lemmas.Bool.{cases_lt}
+use Rattle.std.proofs.lemmas.Cmp.{back_total, on_total, then_total}
 use Rattle.std.specs.declared.cmp.Ordering.TheVariants.{Less, Equal, Greater}
-use Rattle.std.specs.{Cmp.alike_right, List.position_or_len, Ordering.ordering_reverse, Prelude.◌⊎◌}
-use Rattle.std.specs.{Prelude.insert, Prelude.if◌then◌else◌, declared.cmp.Ordering.Ordering}
+use Rattle.std.specs.Cmp.{IsTotalOrder, Lexicographic.options_total, bool_cmp_total, nat_cmp_total}
+use Rattle.std.specs.{List.position_or_len, Option.option_cmp, declared.cmp.Ordering.Ordering}
+use Rattle.std.specs.Ordering.{bool_cmp, flip_args, is_lt, nat_cmp, on, ordering_reverse, ordering_then}
+use Rattle.std.specs.Ordering.{then_cmp}
+use Rattle.std.specs.Prelude.{◌⊎◌, ◌==◌, insert, if◌then◌else◌}
 use Rattle.vipr_spec.specs.Certificate.{Certificate, constraint_at}
 use Rattle.vipr_spec.specs.{Fraction.ℚ, FractionOrder.cmp_ℚ}
 use Rattle.vipr_spec.proofs.Laws.{cmp_total}
@@ -20,72 +24,62 @@ use Rattle.vipr_explain.specs.Near.{AreInOrder, IsLike, IsNear, AreLike, of_none
 use Rattle.vipr_explain.specs.Near.{AreNearest, HasPlace}
 use Rattle.vipr_explain.specs.declared.near.Near.{Near}
 
--- ---- what comes before what
+-- ---- what comes before what: the strong ones, then by the gap of the others, none last, and then
+-- the greater rank
 
-freer_trans : (a b c : ℕ) → nat_lt b a ≡ true → nat_lt c b ≡ true → nat_lt c a ≡ true
-freer_trans a b c h k = grind (arith, nat_tests)
+abbrev gap_left : Bool → Option ℚ → Option ℚ
+gap_left true gap = None
+gap_left false gap = gap
 
-freer_asym : (a b : ℕ) → nat_lt b a ≡ true → nat_lt a b ≡ false
-freer_asym a b h = grind (arith, nat_tests)
+abbrev order : Near → Near → Ordering
+order = then_cmp (on (λ n. not n.is_strong) bool_cmp) (then_cmp
+    (flip_args (on (λ n. gap_left n.is_strong n.gap) (option_cmp (flip_args (on size cmp_ℚ)))))
+    (flip_args (on rank_of nat_cmp)))
 
-module _ (x y z : ℚ) (a b c : ℕ) where
-  closer_trans : (o p : Ordering) → cmp_ℚ x y ≡ o → cmp_ℚ y z ≡ p → closer_by o (nat_lt b a) ≡ true
-      → closer_by p (nat_lt c b) ≡ true → closer_by (cmp_ℚ x z) (nat_lt c a) ≡ true
-  closer_trans Less Less e f h k = ap (λ o. closer_by o (nat_lt c a)) (cmp_total.trans x y z e f)
-  closer_trans Less Equal e f h k = ap (λ o. closer_by o (nat_lt c a)) (sym (alike_right cmp_total y z x f) ∙ e)
-  closer_trans Equal Less e f h k = ap (λ o. closer_by o (nat_lt c a)) (cmp_total.congr x y z e ∙ f)
-  closer_trans Equal Equal e f h k = ap (λ o. closer_by o (nat_lt c a)) (cmp_total.congr x y z e ∙ f) ∙ freer_trans a b c h k
-  closer_trans Greater p e f h k = absurd (cc h)
-  closer_trans Less Greater e f h k = absurd (cc k)
-  closer_trans Equal Greater e f h k = absurd (cc k)
+order_total : IsTotalOrder order
+order_total = then_total (on_total (λ n. not n.is_strong) bool_cmp_total) (then_total
+    (back_total (on_total (λ n. gap_left n.is_strong n.gap) (options_total (back_total (on_total size cmp_total)))))
+    (back_total (on_total rank_of nat_cmp_total)))
 
-closer_asym : (x y : ℚ) (a b : ℕ) (o : Ordering) → cmp_ℚ x y ≡ o → closer_by o (nat_lt b a) ≡ true
-    → closer_by (cmp_ℚ y x) (nat_lt a b) ≡ false
-closer_asym x y a b Less e h = ap (λ o. closer_by o (nat_lt a b)) (cmp_total.antisymm y x ∙ ap ordering_reverse e)
-closer_asym x y a b Equal e h = ap (λ o. closer_by o (nat_lt a b)) (cmp_total.antisymm y x ∙ ap ordering_reverse e) ∙ freer_asym a b h
-closer_asym x y a b Greater e h = absurd (cc h)
+module _ (a b : ℕ) where
+  rank_is : (s t : Bool) → s ≡ is_lt (cond s Less (cond t Equal Greater))
+  rank_is true t = refl
+  rank_is false true = refl
+  rank_is false false = refl
 
-misses_trans : (x y z : Option ℚ) (a b c : ℕ) → misses_less x y (nat_lt b a) ≡ true
-    → misses_less y z (nat_lt c b) ≡ true → misses_less x z (nat_lt c a) ≡ true
-misses_trans (Some x) (Some y) (Some z) a b c h k = closer_trans (size x) (size y) (size z) a b c _ _ refl refl h k
-misses_trans (Some x) y None a b c h k = refl
-misses_trans (Some x) None (Some z) a b c h k = absurd (cc k)
-misses_trans None (Some y) z a b c h k = absurd (cc h)
-misses_trans None None (Some z) a b c h k = absurd (cc k)
-misses_trans None None None a b c h k = freer_trans a b c h k
+  gap_is : (o : Ordering) → closer_by o (nat_lt b a) ≡ is_lt (ordering_then o (nat_cmp b a))
+  gap_is Less = refl
+  gap_is Equal = rank_is (nat_lt b a) (b == a)
+  gap_is Greater = refl
 
-misses_asym : (x y : Option ℚ) (a b : ℕ) → misses_less x y (nat_lt b a) ≡ true
-    → misses_less y x (nat_lt a b) ≡ false
-misses_asym (Some x) (Some y) a b h = closer_asym (size x) (size y) a b _ refl h
-misses_asym (Some x) None a b h = refl
-misses_asym None (Some y) a b h = absurd (cc h)
-misses_asym None None a b h = freer_asym a b h
+  leads_is : (s t : Bool) (x y : Option ℚ)
+      → (if s then not t || nat_lt b a else not t && misses_less x y (nat_lt b a))
+      ≡ is_lt (ordering_then (bool_cmp (not s) (not t)) (ordering_then
+      (option_cmp (flip_args (on size cmp_ℚ)) (gap_left t y) (gap_left s x)) (nat_cmp b a)))
+  leads_is true true x y = gap_is Equal
+  leads_is true false x y = refl
+  leads_is false true x y = refl
+  leads_is false false (Some x) (Some y) = gap_is (cmp_ℚ (size x) (size y))
+  leads_is false false (Some x) None = refl
+  leads_is false false None (Some y) = refl
+  leads_is false false None None = gap_is Equal
 
--- by what is strong, by how much it misses, and the rank
-abbrev pub leads : Bool → Option ℚ → ℕ → Bool → Option ℚ → ℕ → Bool
-leads s x a t y b = if s then not t || (nat_lt b a) else not t && misses_less x y (nat_lt b a)
+before_is : (n m : Near) → comes_before n m ≡ is_lt (order n m)
+before_is n m = leads_is (rank_of n) (rank_of m) n.is_strong m.is_strong n.gap m.gap
 
-leads_trans : (s t u : Bool) (x y z : Option ℚ) (a b c : ℕ) → leads s x a t y b ≡ true
-    → leads t y b u z c ≡ true → leads s x a u z c ≡ true
-leads_trans true true true x y z a b c h k = freer_trans a b c h k
-leads_trans true t false x y z a b c h k = refl
-leads_trans true false true x y z a b c h k = absurd (cc k)
-leads_trans false true u x y z a b c h k = absurd (cc h)
-leads_trans false false true x y z a b c h k = absurd (cc k)
-leads_trans false false false x y z a b c h k = misses_trans x y z a b c h k
+less_of : (o : Ordering) → is_lt o ≡ true → o ≡ Less
+less_of Less h = refl
+less_of Equal h = absurd (cc h)
+less_of Greater h = absurd (cc h)
 
-leads_asym : (s t : Bool) (x y : Option ℚ) (a b : ℕ) → leads s x a t y b ≡ true
-    → leads t y b s x a ≡ false
-leads_asym true true x y a b h = freer_asym a b h
-leads_asym true false x y a b h = refl
-leads_asym false true x y a b h = absurd (cc h)
-leads_asym false false x y a b h = misses_asym x y a b h
+before : (n m : Near) → comes_before n m ≡ true → order n m ≡ Less
+before n m h = less_of (order n m) (sym (before_is n m) ∙ h)
 
 before_trans : (l m n : Near) → comes_before l m ≡ true → comes_before m n ≡ true → comes_before l n ≡ true
-before_trans l m n h k = leads_trans l.is_strong m.is_strong n.is_strong l.gap m.gap n.gap (rank_of l) (rank_of m) (rank_of n) h k
+before_trans l m n h k = before_is l n ∙ ap is_lt (order_total.trans l m n (before l m h) (before m n k))
 
 before_asym : (m n : Near) → comes_before m n ≡ true → comes_before n m ≡ false
-before_asym m n h = leads_asym m.is_strong n.is_strong m.gap n.gap (rank_of m) (rank_of n) h
+before_asym m n h = before_is n m ∙ ap is_lt (order_total.antisymm n m ∙ ap ordering_reverse (before m n h))
 
 -- what doesn't come before m doesn't come before what does
 behind_first : (l m n : Near) → comes_before l m ≡ true → comes_before n m ≡ false → comes_before n l ≡ false
