@@ -289,18 +289,11 @@ fn changed_step(alloc: Global, step: &Derivation, change: &Change) -> Result<Der
         (λ d. reason_of d.reason ≡ changed change.now (reason_of step.now.reason)) }
 {
     let reason = changed_reason(alloc, &step.reason, change)?;
-    match step.constraint.clone() {
-        Ok(constraint) => {
-            let mut changed = Derivation::blank(alloc);
-            changed.constraint = constraint;
-            changed.reason = reason;
-            Ok(changed)
-        }
-        Err(error) => {
-            drop(reason);
-            Err(error)
-        }
-    }
+    let constraint = or_drop!(step.constraint.clone(), reason);
+    let mut changed = Derivation::blank(alloc);
+    changed.constraint = constraint;
+    changed.reason = reason;
+    Ok(changed)
 }
 
 // A reason with a change.

@@ -47,33 +47,23 @@ impl<'a> ProvedGoal<'a> {
             (profile_of subject.entry.profile) (text_rest subject.entry.text.now) (Some index))) }
     {
         let marks = find_names(subject, [index].as_slice())?;
-        match find_step(subject, index, [].as_slice()) {
-            Ok((problem, replay, step)) => {
-                drop(replay);
-                let text = subject.text;
-                let known = PlacedItems {
-                    text,
-                    problem,
-                    marks,
-                };
-                Ok(ProvedGoal { index, known, step })
-            }
-            Err(missing) => {
-                drop(marks);
-                Err(missing)
-            }
-        }
+        let (problem, replay, step) = or_drop!(find_step(subject, index, [].as_slice()), marks);
+        drop(replay);
+        let text = subject.text;
+        let known = PlacedItems {
+            text,
+            problem,
+            marks,
+        };
+        Ok(ProvedGoal { index, known, step })
     }
 
     // Writes it.
     fn write(&self, page: &mut Page) {
-        let constraint = match (
-            &self.step,
-            self.known.problem.cons().get(self.index as usize),
-        ) {
-            (Some(step), _) => Some(&step.constraint),
-            (None, Some(named)) => Some(&named.item),
-            (None, None) => None,
+        let given = self.known.problem.cons().get(self.index as usize);
+        let constraint = match &self.step {
+            Some(step) => Some(&step.constraint),
+            None => given.map(|named| &named.item),
         };
         page.put("  goal   ");
         self.known.write_constraint(page, self.index, constraint);
@@ -96,13 +86,8 @@ impl<'a> ProvedClaim<'a> {
             Some(goal) => Some(ProvedGoal::find(subject, goal)?),
             None => None,
         };
-        match ListedValues::find(subject) {
-            Ok(values) => Ok(ProvedClaim { goal, values }),
-            Err(missing) => {
-                drop(goal);
-                Err(missing)
-            }
-        }
+        let values = or_drop!(ListedValues::find(subject), goal);
+        Ok(ProvedClaim { goal, values })
     }
 
     /// Writes the page of a verified certificate: what proves each side of its claim.
@@ -170,10 +155,8 @@ impl<'a> UnprovedClaim<'a> {
     // What a constraint has to dominate; none is the absurdity.
     fn bound(&self) -> Option<&Constraint> {
         match &self.search.target {
-            Target::Bound(bound) => Some(bound),
-            Target::WholeBound(bound) => Some(bound),
-            Target::Absurdity => None,
-            Target::Nothing => None,
+            Target::Bound(bound) | Target::WholeBound(bound) => Some(bound),
+            Target::Absurdity | Target::Nothing => None,
         }
     }
 
@@ -221,10 +204,7 @@ fn near_names(subject: Subject<'_>, near: &[Near]) -> Result<Marks, AllocError>
     ensures { IfOk result
         (AreNamesOf subject.entry.text.now (map (λ n. n.index) near.now)) }
 {
-    let mut wanted = Vec::new(subject.alloc);
-    for item in near {
-        wanted.push(item.index)?;
-    }
+    let wanted: Vec<u32> = near.iter().map(|near| near.index).collect(subject.alloc)?;
     find_names(subject, wanted.as_slice())
 }
 
@@ -299,10 +279,8 @@ fn write_left(page: &mut Page, search: &NearSearch, strong: &Near) {
     for open in &search.joins {
         let Join { i1, l1, i2, l2 } = open.join;
         let index = open.index;
-        let (first, second) = (
-            open.first && assumptions.contains(l1),
-            open.second && assumptions.contains(l2),
-        );
+        let first = open.first && assumptions.contains(l1);
+        let second = open.second && assumptions.contains(l2);
         if first && second {
             write!(page, "[{i1}] rests on [{l2}] and [{i2}] on [{l1}]: ");
             write!(page, "are l1 and l2 exchanged? `uns {i1} {l2} {i2} {l1}`");
@@ -339,10 +317,6 @@ fn write_near(page: &mut Page, known: &UnprovedClaim<'_>, near: &Near) {
         items.write_name(page, near.index);
         write!(page, "  objective {sign} {side}");
         write_line(page, items.marks.place(near.index));
-    } else {
-        items.write_constraint(page, near.index, Some(constraint));
-    }
-    if known.bound().is_some() {
         if near.is_strong {
             page.put(", strong enough");
         } else if let Some(gap) = near.gap {
@@ -354,6 +328,8 @@ fn write_near(page: &mut Page, known: &UnprovedClaim<'_>, near: &Near) {
         } else if known.is_turned(near) {
             page.put(", the other way round");
         }
+    } else {
+        items.write_constraint(page, near.index, Some(constraint));
     }
     write_assumptions(page, near);
 }

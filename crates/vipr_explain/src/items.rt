@@ -35,20 +35,13 @@ pub(crate) fn open_derivations(alloc: Global, text: &[u8]) -> Opened<Derivations
 {
     let (problem, mut solutions) = open_problem(alloc, text)?;
     let left = solutions.left();
-    match pass_solutions(alloc, &mut solutions, left) {
-        Ok(()) => match solutions.finish() {
-            Ok(derivations) => Ok((problem, derivations)),
-            Err(missing) => {
-                drop(problem);
-                Err(missing)
-            }
-        },
-        Err(missing) => {
-            drop(solutions);
-            drop(problem);
-            Err(missing)
-        }
-    }
+    or_drop!(
+        pass_solutions(alloc, &mut solutions, left),
+        solutions,
+        problem
+    );
+    let derivations = or_drop!(solutions.finish(), problem);
+    Ok((problem, derivations))
 }
 
 // Reads so many solutions.
@@ -81,13 +74,8 @@ pub(crate) fn read_solution(
     let (problem, mut solutions) = open_problem(alloc, text)?;
     let found = nth_solution(alloc, &mut solutions, number);
     drop(solutions);
-    match found {
-        Ok(solution) => Ok((problem, solution)),
-        Err(missing) => {
-            drop(problem);
-            Err(missing)
-        }
-    }
+    let solution = or_drop!(found, problem);
+    Ok((problem, solution))
 }
 
 // The solution behind so many others.

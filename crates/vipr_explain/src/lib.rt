@@ -1,6 +1,19 @@
 //! Explains a verdict for people: the place at fault in the text, and what the algebra says.
 #![tactic(auto)]
 
+// What a result gives. Without it these are dropped, and the caller gives the error.
+macro_rules! or_drop {
+    ($result:expr, $($kept:ident),+) => {
+        match $result {
+            Ok(given) => given,
+            Err(error) => {
+                $(drop($kept);)+
+                return Err(error);
+            }
+        }
+    };
+}
+
 mod changes;
 mod excerpt;
 mod goal;

@@ -15,13 +15,12 @@ ghost use Rattle.vipr_rules.specs.declared.error.RuleError.TheVariants.{Memory a
 ghost use Rattle.vipr_rules.specs.{Profile.profile_of, declared.claim.Target.Target as TargetMeant};
 ghost use Rattle.vipr_scan.specs.declared.error.TextError.TheVariants.{Memory};
 ghost use Rattle.vipr_explain.specs.Found.{AreDerivationsRead, Because, text_rest};
-ghost use Rattle.vipr_explain.specs.Near.{AreInOrder, AreKeptSteps, AreNearest};
-ghost use Rattle.vipr_explain.specs.Near.{HasPassedAll, HasPlace, HasSearched, IsGapBetween};
-ghost use Rattle.vipr_explain.specs.Near.{IsGapTo, IsOpenJoin, IsLike, IsLikeBound, IsNearSearch};
-ghost use Rattle.vipr_explain.specs.Near.{IsNextEntry, IsStepRead, IsRefusedNext, IsRoundedSide};
-ghost use Rattle.vipr_explain.specs.Near.{LacksBefore, MissesBy, comes_before, is_turned, join_of};
-ghost use Rattle.vipr_explain.specs.Near.{misses_less, rank_of, SearchesTo, passed_to, with_near};
-ghost use Rattle.vipr_explain.specs.Near.{without_solutions};
+ghost use Rattle.vipr_explain.specs.Near.{AreInOrder, AreKeptSteps, AreNearest, HasPassedAll};
+ghost use Rattle.vipr_explain.specs.Near.{HasPlace, HasSearched, IsGapTo, IsOpenJoin, IsLike};
+ghost use Rattle.vipr_explain.specs.Near.{IsNearSearch, IsNextEntry, IsStepRead, IsRefusedNext};
+ghost use Rattle.vipr_explain.specs.Near.{IsRoundedSide, LacksBefore, MissesBy, comes_before};
+ghost use Rattle.vipr_explain.specs.Near.{is_turned, join_of, misses_less, rank_of, SearchesTo};
+ghost use Rattle.vipr_explain.specs.Near.{passed_to, with_near, without_solutions};
 ghost use Rattle.vipr_explain.specs.declared.near.Near.{Near as NearMeant};
 
 use crate::changes::Replay;
@@ -105,17 +104,12 @@ pub(crate) fn find_near(subject: Subject<'_>) -> Reread<(Problem, NearSearch)>
     let (problem, mut derivations) = open_derivations(subject.alloc, subject.text)?;
     let search = search_to(subject, &problem, &mut derivations, None, [].as_slice());
     drop(derivations);
-    match search {
-        Ok(search) => Ok((problem, search)),
-        Err(missing) => {
-            drop(problem);
-            Err(missing)
-        }
-    }
+    let search = or_drop!(search, problem);
+    Ok((problem, search))
 }
 
-/// The problem of a text, what is kept of the derivations before that of a constraint, among it
-/// these, and that one, if the text has one.
+/// The problem of a text; what is kept of the derivations before that of a constraint, with those
+/// that are named whole; and that one, if the text has one.
 pub(crate) fn find_step(
     subject: Subject<'_>,
     index: u32,
@@ -129,13 +123,8 @@ pub(crate) fn find_step(
     let (problem, mut derivations) = open_derivations(subject.alloc, subject.text)?;
     let found = step_behind(subject, &problem, &mut derivations, index, named);
     drop(derivations);
-    match found {
-        Ok((replay, step)) => Ok((problem, replay, step)),
-        Err(missing) => {
-            drop(problem);
-            Err(missing)
-        }
-    }
+    let (replay, step) = or_drop!(found, problem);
+    Ok((problem, replay, step))
 }
 
 // What is kept of the derivations before that of a constraint, and that one.
@@ -167,13 +156,8 @@ fn step_behind(
     if replay.rows.next() != index || derivations.left() == 0 {
         return Ok((replay, None));
     }
-    match derivations.next(subject.alloc) {
-        Ok(step) => Ok((replay, step)),
-        Err(missing) => {
-            drop(replay);
-            Err(missing)
-        }
-    }
+    let step = or_drop!(derivations.next(subject.alloc), replay);
+    Ok((replay, step))
 }
 
 /// The nearest constraints are in order, and one that isn't among them comes before none of them.
@@ -202,13 +186,11 @@ fn search_to(
         (profile_of subject.entry.profile) (text_rest subject.entry.text.now) end)) }
 {
     let mut search = NearSearch::new(subject, problem)?;
-    match search.pass_to(subject, problem, derivations, end, named) {
-        Ok(()) => Ok(search),
-        Err(missing) => {
-            drop(search);
-            Err(missing)
-        }
-    }
+    or_drop!(
+        search.pass_to(subject, problem, derivations, end, named),
+        search
+    );
+    Ok(search)
 }
 
 /// How many derivations are before that of a constraint, or all of them, if a problem has so many
@@ -230,18 +212,13 @@ impl NearSearch {
             (HasSearched (profile_of subject.entry.profile) problem.now [] 0) }
     {
         let target = Target::of_claim_in(subject.profile, problem)?;
-        match Replay::new(subject.alloc, problem) {
-            Ok(replay) => Ok(NearSearch {
-                target,
-                near: Vec::new(subject.alloc),
-                joins: Vec::new(subject.alloc),
-                replay,
-            }),
-            Err(error) => {
-                drop(target);
-                Err(error)
-            }
-        }
+        let replay = or_drop!(Replay::new(subject.alloc, problem), target);
+        Ok(NearSearch {
+            target,
+            near: Vec::new(subject.alloc),
+            joins: Vec::new(subject.alloc),
+            replay,
+        })
     }
 
     // Passes the constraints of the problem, and the derivations before that of one, or all.
@@ -495,23 +472,16 @@ fn add(
         return Ok(());
     }
     let shown = constraint.clone()?;
-    match assumptions.clone() {
-        Ok(assumptions) => {
-            let near = Near {
-                index,
-                is_strong: target.is_met_by(&shown),
-                gap: gap_of(target, &shown),
-                constraint: shown,
-                is_free: assumptions.is_empty(),
-                assumptions,
-            };
-            insert(all, near)
-        }
-        Err(error) => {
-            drop(shown);
-            Err(error)
-        }
-    }
+    let assumptions = or_drop!(assumptions.clone(), shown);
+    let near = Near {
+        index,
+        is_strong: target.is_met_by(&shown),
+        gap: gap_of(target, &shown),
+        constraint: shown,
+        is_free: assumptions.is_empty(),
+        assumptions,
+    };
+    insert(all, near)
 }
 
 // Keeps a constraint at its place among the nearest, behind those that are as near.
@@ -540,17 +510,10 @@ fn is_like(target: &Target, constraint: &Constraint) -> bool
     ensures { IsTrue result ↔ IsLike target.now (condition_of constraint.now) }
 {
     match target {
-        Target::Bound(bound) => has_row_of(bound, constraint),
-        Target::WholeBound(bound) => has_row_of(bound, constraint),
+        Target::Bound(bound) | Target::WholeBound(bound) => constraint.row.is_same(&bound.row),
         Target::Absurdity => constraint.is_absurd(),
         Target::Nothing => false,
     }
-}
-
-fn has_row_of(bound: &Constraint, constraint: &Constraint) -> bool
-    ensures { IsTrue result ↔ IsLikeBound (condition_of bound.now) (condition_of constraint.now) }
-{
-    constraint.row.is_same(&bound.row)
 }
 
 // How far a right-hand side is off, rounded if it may be; that of the other sense isn't.
@@ -560,8 +523,7 @@ fn gap_of(target: &Target, constraint: &Constraint) -> Option<Frac>
     match target {
         Target::Bound(bound) => gap_to(bound, constraint.sense, constraint.rhs),
         Target::WholeBound(bound) => gap_to(bound, constraint.sense, rounded(constraint)),
-        Target::Absurdity => None,
-        Target::Nothing => None,
+        Target::Absurdity | Target::Nothing => None,
     }
 }
 
@@ -572,7 +534,7 @@ fn gap_to(bound: &Constraint, sense: Sense, side: Frac) -> Option<Frac>
     if is_turned(sense, bound.sense) {
         return None;
     }
-    gap_between(bound.rhs, side)
+    bound.rhs.add(side.neg()).ok()
 }
 
 /// Whether one sense is `>=` and the other one `<=`.
@@ -580,13 +542,6 @@ pub(crate) fn is_turned(sense: Sense, other: Sense) -> bool
     ensures { result ≡ is_turned (sense_of sense) (sense_of other) }
 {
     matches!((sense, other), (Sense::G, Sense::L) | (Sense::L, Sense::G))
-}
-
-// What a side misses a bound by, if that fits.
-fn gap_between(bound: Frac, side: Frac) -> Option<Frac>
-    ensures { IsGapBetween bound side result }
-{
-    bound.add(side.neg()).ok()
 }
 
 // The right-hand side, rounded the way that its sense allows.

@@ -32,10 +32,7 @@ pub(crate) fn step_indices(
     match reason.references() {
         References::Nothing => {}
         References::Entries(entries) => {
-            let at_fault = match position_at_fault(fault, entries) {
-                Some(position) => entries.get(position),
-                None => None,
-            };
+            let at_fault = position_at_fault(fault, entries).and_then(|at| entries.get(at));
             for entry in entries.iter().take(MOST_ENTRIES).chain(at_fault) {
                 add_earlier(&mut wanted, fault.index, entry.0)?;
             }
@@ -71,12 +68,8 @@ fn position_at_fault(fault: StepFault<'_>, entries: &[(u32, Frac)]) -> Option<us
     match fault.what {
         StepDetail::Entry(entry) => Some(*entry as usize),
         StepDetail::Index(index) => {
-            for (position, entry) in entries.iter().enumerate() {
-                if entry.0 == *index && (fault.cause != cause::DROPPED || !entry.1.is_zero()) {
-                    return Some(position);
-                }
-            }
-            None
+            let is_any = fault.cause != cause::DROPPED;
+            entries.iter().position(|entry| entry.0 == *index && (is_any || !entry.1.is_zero()))
         }
         _ => None,
     }

@@ -33,10 +33,7 @@ impl<'a> PlacedItems<'a> {
     pub(crate) fn part(&self, index: u32) -> Option<Excerpt<'a>>
         ensures { IsPartPlace self.now.text.now self.now.marks index result }
     {
-        match self.marks.place(index) {
-            Some(place) => Some(Excerpt::of(self.text, place.part)),
-            None => None,
-        }
+        Some(Excerpt::of(self.text, self.marks.place(index)?.part))
     }
 
     /// Writes a constraint's index and name.

@@ -97,11 +97,7 @@ impl Ranking {
 
     // The changes in their order.
     fn changes(self, alloc: Global) -> Result<Vec<Change>, AllocError> {
-        let mut changes = Vec::new(alloc);
-        for known in &self.0 {
-            changes.push(known.1)?;
-        }
-        Ok(changes)
+        self.0.iter().map(|known| known.1).collect(alloc)
     }
 }
 
@@ -149,18 +145,16 @@ fn add_join(ranking: &mut Ranking, sum: Sum<'_>, rank: u32, join: Join) -> Resul
 
 // Whether a constraint rests on an assumption.
 fn rests_on(sum: Sum<'_>, index: u32, assumption: u32) -> bool {
-    match sum.rows.get(index) {
-        Some(entry) => entry.assumptions.contains(assumption),
-        None => false,
-    }
+    sum.rows
+        .get(index)
+        .is_some_and(|entry| entry.assumptions.contains(assumption))
 }
 
 // Whether a constraint has the row of another one.
 fn has_row_of(sum: Sum<'_>, index: u32, other: &Constraint) -> bool {
-    match sum.rows.get(index) {
-        Some(entry) => entry.constraint.row.is_same(&other.row),
-        None => false,
-    }
+    sum.rows
+        .get(index)
+        .is_some_and(|entry| entry.constraint.row.is_same(&other.row))
 }
 
 // Whether two constraints bound a row from both sides.
@@ -359,21 +353,16 @@ fn add_exchange(
         return Ok(());
     }
     let multiplier = replacement.multiplier;
-    let Some(off) = product_of_gap(multiplier, constraint.rhs, wanted.rhs) else {
-        return Ok(());
-    };
-    if let Some(rank) = rank_of(sum, off) {
+    let off = constraint
+        .rhs
+        .add(wanted.rhs.neg())
+        .and_then(|gap| multiplier.mul(gap));
+    if let Some(rank) = off.ok().and_then(|off| rank_of(sum, off)) {
         let distance = u64::from(index.abs_diff(replacement.index));
         let change = Change::Entry(replacement.position, index, multiplier);
         exchanges.add(rank.saturating_add(distance), change)?;
     }
     Ok(())
-}
-
-// The difference of two sides times a multiplier, if that fits.
-fn product_of_gap(multiplier: Frac, side: Frac, other: Frac) -> Option<Frac> {
-    let gap = side.add(other.neg()).ok()?;
-    multiplier.mul(gap).ok()
 }
 
 // The factor with which a constraint's row is what a sum lacks, and how far the side of the sum is

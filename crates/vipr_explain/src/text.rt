@@ -45,21 +45,16 @@ impl Span {
         ensures { (front : List ℕ) → self ≡ place_behind front
             → result ≡ place_behind (front ++ byte ∷ []) }
     {
-        let offset = self.offset.saturating_add(1);
-        if byte == b'\n' {
-            Span {
-                offset,
-                line: self.line.saturating_add(1),
-                column: 1,
-                size: 0,
-            }
+        let (line, column) = if byte == b'\n' {
+            (self.line.saturating_add(1), 1)
         } else {
-            Span {
-                offset,
-                line: self.line,
-                column: self.column.saturating_add(1),
-                size: 0,
-            }
+            (self.line, self.column.saturating_add(1))
+        };
+        Span {
+            offset: self.offset.saturating_add(1),
+            line,
+            column,
+            size: 0,
         }
     }
 }

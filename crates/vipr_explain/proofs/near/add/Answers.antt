@@ -14,19 +14,19 @@ returns-then-not-is_like c = λ d says rests near.
     nearest_unlike d t c.args.index c.args.all.now.items
     (λ like. let h = c.is_like.ensures.1 (subst (IsLike t) says like) in let f = c.if-not-is_like.true in absurd (cc (h, f))) near
 
-pub returns-in-Ok : goal.returns-in-Ok
-returns-in-Ok c = λ d says rests near.
+pub returns : goal.returns
+returns c = λ d says rests near.
     let t = c.args.target.now in
     let n : Near = record {
       index = c.args.index;
       constraint = c.in_ok-shown.shown;
       is_strong = c.is_met_by.result;
       gap = c.gap_of.result;
-      assumptions = c.in-Ok.assumptions;
+      assumptions = c.in-Ok.given;
       is_free = c.is_empty.result;
     } in
     let shown : condition_of c.in_ok-shown.shown ≡ constraint_at d c.args.index = ap condition_of c.in_ok-shown.ensures.cases ∙ sym says in
-    let same : (a : ℕ) → IsTrue (contains c.in-Ok.assumptions a) ↔ RestsOn d c.args.index a = λ a. subst (λ s. IsTrue (contains s a) ↔ RestsOn d c.args.index a) (sym c.in-Ok.ensures.cases) (rests a) in
+    let same : (a : ℕ) → IsTrue (contains c.in-Ok.given a) ↔ RestsOn d c.args.index a = λ a. subst (λ s. IsTrue (contains s a) ↔ RestsOn d c.args.index a) (sym c.in-Ok.ensures.cases) (rests a) in
     on_ok c.insert.result _ (AreNearest d t (c.args.index + 1) c.insert.new.all.items)
     (λ e. subst (AreNearest d t (c.args.index + 1)) (sym e) (nearest_like d t n c.args.all.now.items (record {
       says = shown;
@@ -34,5 +34,5 @@ returns-in-Ok c = λ d says rests near.
       strong = subst (λ x. IsTrue c.is_met_by.result ↔ IsMetBy t x) shown c.is_met_by.ensures;
       gap = subst (λ x. MissesBy t x c.gap_of.result) shown c.gap_of.ensures;
       rests = same;
-      free = free_is d c.args.index c.in-Ok.assumptions c.is_empty.result c.is_empty.ensures same;
+      free = free_is d c.args.index c.in-Ok.given c.is_empty.result c.is_empty.ensures same;
     }) near)) c.insert.ensures

@@ -18,13 +18,13 @@ returns-then-next-index-clause-step c =
           ]),
     )
 
-pub returns-in-Ok-clause-step : goal.returns-in-Ok-clause-step
-returns-in-Ok-clause-step c =
+pub returns-clause-step : goal.returns-clause-step
+returns-clause-step c =
     let so_far = c.in_ok-search.ensures.near.1 in
     let p = c.args.problem.now in (
       so_far.read,
       so_far.known.replayed,
-      step_of (text_rest c.args.subject.text.now) p so_far.read c.args.index c.search_to.new.derivations c.next-2.new.self c.in-Ok.step c.in-Ok.ensures.moves (c.in-Ok.ensures.read p so_far.behind.knows) so_far.behind (omega arith)
+      step_of (text_rest c.args.subject.text.now) p so_far.read c.args.index c.search_to.new.derivations c.next-2.new.self c.in-Ok.given c.in-Ok.ensures.moves (c.in-Ok.ensures.read p so_far.behind.knows) so_far.behind (omega arith)
           (omega (arith, so_far.known.replayed.rows.next, c.next.ensures, c.if-next-index.false)),
     )
 
@@ -32,7 +32,7 @@ pub returns-in-Err-clause-missing : goal.returns-in-Err-clause-missing
 returns-in-Err-clause-missing c =
     let near = c.in_ok-search.ensures.near in
     let so_far = near.1 in
-    let m = c.in-Err.missing in
+    let m = c.in-Err.error in
     because m _ _ (λ fault. inl fault) (none_behind c.search_to.new.derivations m (λ h. up_to (Some c.args.index) (length h.0.constraints) h.1) (omega arith)
     (omega (arith, so_far.size, near.2, so_far.known.replayed.rows.next, c.next.ensures, c.if-next-index.false))
     (c.in-Err.ensures.read c.args.problem.now so_far.behind.knows so_far.behind.known) so_far.behind)

@@ -11,4 +11,4 @@ returns-in_err-find-in-Some-clause-missing c =
     err_is c.from_residual.result _ c.from_residual.ensures.1 (because m _ _ (subst (LacksGoal P (text_rest c.args.subject.text.now)) (sym c.in-Some.is)) c.in_err-find-in-Some.ensures.missing)
 
 pub returns-in-Err-clause-missing : goal.returns-in-Err-clause-missing
-returns-in-Err-clause-missing c = because c.in-Err.missing _ _ (goal_missed _ _ c.args.report.now.goal) c.in-Err.ensures.missing
+returns-in-Err-clause-missing c = because c.in-Err.error _ _ (goal_missed _ _ c.args.report.now.goal) c.in-Err.ensures.missing

@@ -6,12 +6,12 @@ use Rattle.vipr_explain.specs.Near.{IsOpenJoin, of_none, without_solutions}
 use Rattle.vipr_explain.specs.declared.near.OpenJoin.{OpenJoin}
 use Rattle.vipr_explain.proofs.near.NearSearch.new.Goals as goal
 
-pub returns-in-Ok : goal.returns-in-Ok
-returns-in-Ok c = record {
+pub returns : goal.returns
+returns c = record {
   target = c.in_ok-target.ensures;
   replayed = c.in-Ok.ensures;
-  near = λ more. ([], of_none, c.new-in-Ok.ensures.items);
+  near = λ more. ([], of_none, c.new-2.ensures.items);
   joins = λ more.
       let all : Certificate = with_more (without_solutions c.args.problem.now []) more in
-      subst (λ (js : List OpenJoin). All (IsOpenJoin all) js) (sym c.new-in-Ok-2.ensures.items) (All-nil (IsOpenJoin all));
+      subst (λ (js : List OpenJoin). All (IsOpenJoin all) js) (sym c.new-3.ensures.items) (All-nil (IsOpenJoin all));
 }
