@@ -1,6 +1,6 @@
 -- What is found of a derivation or a listed solution that is refused
-use Rattle.std.specs.Prelude.{◌≡◌, ◌↔◌, ℕ, ⊤, List, [], ◌∷◌, IsTrue, Option, Some, None, find}
-use Rattle.std.specs.Prelude.{option_map, ◌==◌, if◌then◌else◌, slice_get}
+use Rattle.std.specs.Prelude.{◌≡◌, ◌↔◌, ◌⊎◌, ℕ, ⊤, List, [], ◌∷◌, All, IsSome, IsTrue, Option, Some}
+use Rattle.std.specs.Prelude.{None, find, option_map, ◌==◌, if◌then◌else◌, slice_get}
 use Rattle.std.specs.{FinMap.entries, Option.option_or}
 use Rattle.vipr_spec.specs.Constraint.{Constraint, Ints, IsSplit, Profile, two}
 use Rattle.vipr_spec.specs.Certificate.{Derivation, Named, Problem}
@@ -97,6 +97,11 @@ known_constraint s index =
     option_or (option_map (λ n. n.item) (slice_get s.known.problem.constraints index))
     (option_or (option_map (λ e. constraint_of e.constraint) (entry_at s.rows index))
     (option_map (λ d. constraint_of d.constraint) (kept_as s index)))
+
+-- each constraint that is named is known, or is that of the derivation itself
+abbrev pub KnowsAll : RefusedStep → ℕ → Type 0
+KnowsAll s own = All (λ m. (m.index ≡ own) ⊎ IsSome (known_constraint s m.index))
+    s.known.marks.places.items
 
 -- the name of a constraint of the problem, or of another one whose place is known
 abbrev pub known_name : PlacedItems → ℕ → Option (List ℕ)

@@ -1,14 +1,14 @@
 //! A derivation that is refused.
-ghost use Rattle.std.specs.Prelude.{◌≡◌, ◌↔◌, List, [], IfErr, IfOk, IsTrue, Some, option_map};
-ghost use Rattle.std.specs.List.{All};
+ghost use Rattle.std.specs.Prelude.{◌≡◌, ◌↔◌, ◌⊎◌, List, [], All, IfErr, IfOk, IsSome, IsTrue};
+ghost use Rattle.std.specs.Prelude.{Some, is_some, map, option_map};
 ghost use Rattle.vipr_spec.specs.{Certificate.Derivation as DerivationMeant, Fraction.neg_ℚ};
 ghost use Rattle.vipr_linear.specs.Constraint.{constraint_of};
 ghost use Rattle.vipr_cert.specs.Items.{derivation_of};
 ghost use Rattle.vipr_rules.specs.Profile.{profile_of};
 ghost use Rattle.vipr_explain.specs.Found.{Because, text_rest};
 ghost use Rattle.vipr_explain.specs.Near.{HasReplayed, LacksStep, without_solutions};
-ghost use Rattle.vipr_explain.specs.Refused.{AreFacts, AreNamedBy, IsRefusedStep, kept_as};
-ghost use Rattle.vipr_explain.specs.Refused.{known_constraint, used_by};
+ghost use Rattle.vipr_explain.specs.Refused.{AreFacts, AreNamedBy, IsRefusedStep, KnowsAll};
+ghost use Rattle.vipr_explain.specs.Refused.{kept_as, known_constraint, used_by};
 ghost use Rattle.vipr_explain.specs.{Changes.FollowEach, Marked.AreMarksIn};
 
 use crate::changes::{Changes, Replay};
@@ -140,22 +140,38 @@ impl<'a> RefusedStep<'a> {
     }
 
     // All constraints that are named, if one of them isn't known.
-    fn unknown(&self, alloc: Global, own: u32) -> Result<Vec<u32>, AllocError> {
-        let mut named = Vec::new(alloc);
-        let mut is_known = true;
-        for place in &self.known.marks.places {
-            is_known = is_known && (place.index == own || self.constraint(place.index).is_some());
-            named.push(place.index)?;
+    fn unknown(&self, alloc: Global, own: u32) -> Result<Vec<u32>, AllocError>
+        ensures known { KnowsAll self.now own → IfOk result (λ named. named.items ≡ []) }
+        ensures unknown { ¬ KnowsAll self.now own → IfOk result
+            (λ named. named.items ≡ map (λ m. m.index) self.now.known.marks.places.items) }
+    {
+        if self.knows_all(own) {
+            return Ok(Vec::new(alloc));
         }
-        if is_known {
-            named.clear();
-        }
-        Ok(named)
+        let places = &self.known.marks.places;
+        places.iter().map(|place| place.index).collect(alloc)
+    }
+
+    // Whether each of them is known, or is that of the derivation itself.
+    fn knows_all(&self, own: u32) -> bool
+        ensures { IsTrue result ↔ KnowsAll self.now own }
+    {
+        let places = &self.known.marks.places;
+        places.iter().all(|place| self.is_known(own, place.index))
+    }
+
+    // Whether one is.
+    fn is_known(&self, own: u32, index: u32) -> bool
+        ensures { IsTrue result ↔ ((index ≡ own) ⊎ IsSome (known_constraint self.now index)) }
+    {
+        index == own || self.constraint(index).is_some()
     }
 
     /// A constraint of the problem, or a derived one that is live, or one that was kept.
     pub(crate) fn constraint(&self, index: u32) -> Option<&Constraint>
-        ensures { option_map (λ c. constraint_of c.now) result ≡ known_constraint self.now index }
+        ensures known { option_map (λ c. constraint_of c.now) result
+            ≡ known_constraint self.now index }
+        ensures variant { is_some result ≡ is_some (known_constraint self.now index) }
     {
         match (
             self.known.problem.cons().get(index as usize),
@@ -278,13 +294,11 @@ fn find_facts(
         (λ x. AreFacts problem.now.integers fault.entry.what.now x.1) }
 {
     let marks = Marks::find(subject.alloc, subject.text, sought)?;
-    match StepFacts::find(subject.alloc, fault.what, problem.ints()) {
-        Ok(facts) => Ok((marks, facts)),
-        Err(error) => {
-            drop(marks);
-            Err(error)
-        }
-    }
+    let facts = or_drop!(
+        StepFacts::find(subject.alloc, fault.what, problem.ints()),
+        marks
+    );
+    Ok((marks, facts))
 }
 
 // The constraint whose last use is looked for, if the cause is that it was dropped.
@@ -304,13 +318,9 @@ impl StepFacts {
     {
         match what {
             StepDetail::Rows { computed, stated } => {
-                let differences = row_differences(alloc, &computed.row, &stated.row)?;
-                Ok(StepFacts::Rows(differences))
+                Ok(StepFacts::Rows(row_differences(alloc, &computed.row, &stated.row)?))
             }
-            StepDetail::Sum(sum) => {
-                let faults = row_faults(alloc, ints, &sum.row)?;
-                Ok(StepFacts::Sum(faults))
-            }
+            StepDetail::Sum(sum) => Ok(StepFacts::Sum(row_faults(alloc, ints, &sum.row)?)),
             StepDetail::Pair(first, second) => {
                 let faults = row_faults(alloc, ints, &first.row)?;
                 Ok(StepFacts::Pair(faults, covers(first, second, ints)))
