@@ -19,26 +19,14 @@ module _ (P : Profile) (c : Certificate) (k : ℕ) where
   usable : (es : List (ℕ × ℚ)) → All (λ (e : ℕ × ℚ). e.0 < k) es → ((i : ℕ) → Refers es i → IsTrue (is_live c k i)) → AreUsable c k es
   usable es early live = All-weaker (Contains es) IsUsable (λ e h. (All-contains (λ (f : ℕ × ℚ). f.0 < k) es e early h, λ n. live e.0 (e.1, h, n))) es (All-contains_itself es)
 
-  used_early : (es : List (ℕ × ℚ)) → AreUsable c k es → All (λ (e : ℕ × ℚ). e.0 < k) es
-  used_early es a = All-weaker IsUsable (λ (e : ℕ × ℚ). e.0 < k) (λ e h. h.0) es a
-
-  used_live : (es : List (ℕ × ℚ)) → AreUsable c k es → (i : ℕ) → Refers es i → IsTrue (is_live c k i)
-  used_live es a i r = (All-contains IsUsable es (i, r.0) a r.1).1 r.2
-
   pub good_assumed : (d : Condition) → IsGoodStep P c k asm d
   good_assumed d = record { earlier = tt; follows = tt; fits = tt; references = λ i r. absurd r }
 
   pub good_summed : (es : List (ℕ × ℚ)) (d : Condition) → IsGoodStep P c k (lin es) d ↔ (AreUsable c k es × SumOfFits (entries c es) × (s : Sense) × HasSense (entries c es) s × Dominates (sum_of (entries c es) s) d)
-  good_summed es d = (
-    λ g. let f = g.follows in (usable es g.earlier g.references, g.fits, f.0, f.1, f.2),
-    λ h. record { earlier = used_early es h.0; follows = (h.2, h.3, h.4); fits = h.1; references = used_live es h.0 },
-  )
+  good_summed es d = grind (arith, usable)
 
   pub good_rounded : (es : List (ℕ × ℚ)) (d : Condition) → IsGoodStep P c k (rnd es) d ↔ (AreUsable c k es × SumOfFits (entries c es) × (s : Sense) × HasSense (entries c es) s × IsWholeRow c.problem.integers (sum_of (entries c es) s).row × DominatesRounded (sum_of (entries c es) s) d)
-  good_rounded es d = (
-    λ g. let f = g.follows in (usable es g.earlier g.references, g.fits, f.0, f.1, f.2, f.3),
-    λ h. record { earlier = used_early es h.0; follows = (h.2, h.3, h.4, h.5); fits = h.1; references = used_live es h.0 },
-  )
+  good_rounded es d = grind (arith, usable)
 
   abbrev IsThere : ℕ → Type 0
   IsThere i = (i < k) × IsTrue (is_live c k i)

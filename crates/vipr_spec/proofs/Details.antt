@@ -1,8 +1,7 @@
 -- A step that is refused has one cause and one detail
 use Rattle.std.proofs.Common.{◌≡◌, ℤ, sym, ◌∙◌, ap₂, subst, arith}
-use Rattle.vipr_spec.specs.{ℚ, whole, Sense, at_most, equal, at_least, Row, Condition, RoundsTo}
-use Rattle.vipr_spec.specs.{Named, IsBest, cutoff, StepTest, StepDetail, Shows}
-use Rattle.vipr_spec.specs.Certificate.{Certificate}
+use Rattle.vipr_spec.specs.{ℚ, whole, Sense, at_most, equal, at_least, Condition, RoundsTo}
+use Rattle.vipr_spec.specs.{StepTest, StepDetail, Shows, Certificate.Certificate}
 use Rattle.vipr_spec.proofs.Fractions.{le_of_eq_ℚ, le_of_whole}
 use Rattle.vipr_spec.proofs.{Best.as_good_antisymm, Integers.≤ℤ_antisymm}
 
@@ -15,8 +14,5 @@ module _ (c : Certificate) (d : Condition) where
   rounded_once : (x y : Condition) (j k : ℤ) → x ≡ y → RoundsTo x.sense x.bound j → RoundsTo y.sense y.bound k → record x { bound = whole j } ≡ record y { bound = whole k }
   rounded_once x y j k e h l = ap₂ (λ (z : Condition) (n : ℤ). record z { bound = whole n }) e (rounds_once y.sense y.bound j k (subst (λ (z : Condition). RoundsTo z.sense z.bound j) e h) l)
 
-  cutoff_once : (s t : Named Row) → IsBest c s → IsBest c t → cutoff c.problem s ≡ cutoff c.problem t
-  cutoff_once s t h k = grind (arith, as_good_antisymm)
-
   pub shows_once : (t : StepTest) (x y : StepDetail) → Shows c d t x → Shows c d t y → x ≡ y
-  shows_once t x y h k = grind (arith, rounded_once, cutoff_once)
+  shows_once t x y h k = grind (arith, rounded_once, as_good_antisymm)

@@ -104,13 +104,7 @@ nothing : RestsOnNothing example 2
 nothing a r = let u = rests_out example 2 a r in given a u.0.0 (in_both u.0 u.1) u.3
 
 pub valid : (P : Profile) → IsProof P example
-valid P = record {
-  solutions = All-nil _;
-  solutions_fit = All-nil _;
-  steps = steps P;
-  primal = tt;
-  dual = λ _. (2, (lit< tt, nothing, (λ j. ap (λ o. unwrap_or o zero_ℚ) (get-empty nat_cmp j), not_one)));
-}
+valid P = grind (arith, steps P, nothing, get-empty, not_one)
 
 -- ---- an assumption rests on itself
 pub invalid : (P : Profile) → ¬ IsProof P assumed

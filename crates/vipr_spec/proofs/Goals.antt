@@ -1,12 +1,12 @@
 -- Which constraint proves the dual side, the first of them, and what profile two adds
 use Rattle.std.proofs.Common.{◌≡◌, ℕ, ◌<◌, ◌≤◌, ◌⊎◌, List, [], ◌∷◌, length, Option, Some, None}
-use Rattle.std.proofs.Common.{IsSome, IsSomeAnd, arith, refl, sym, subst, inl, ⊎_elim}
+use Rattle.std.proofs.Common.{IsSomeAnd, arith, sym, subst, inl}
 use Rattle.std.specs.Prelude.{◌↔◌}
 use Rattle.std.proofs.lemmas.Bool.{cases_lt}
 use Rattle.vipr_spec.specs.{ℚ, Profile, one, two, Condition, Problem, Claim, infeasible, range}
 use Rattle.vipr_spec.specs.{Reason, asm, lin, rnd, uns, sol, dual_bound, Derivation, Known}
 use Rattle.vipr_spec.specs.{constraint_at, count, FollowsBy, IsGoodStep, MeetsBound, MeetsDual}
-use Rattle.vipr_spec.specs.{NeedsGoal, ProvesDual, IsProof, IsGoal, GoalIs, with_more, with_next}
+use Rattle.vipr_spec.specs.{ProvesDual, IsProof, IsGoal, GoalIs, with_more, with_next}
 use Rattle.vipr_spec.specs.{RefersBack, Certificate.Certificate}
 use Rattle.vipr_spec.proofs.Prefix.{known_before, reason_given, count_more, count_next}
 use Rattle.vipr_spec.proofs.{Linear.split_two, Rests.rests_given, Steps.rests_more}
@@ -32,32 +32,13 @@ module _ (P : Profile) (c : Certificate) where
   dual_cases d k back p = grind (arith, dual_before, count_next, cases_lt)
 
   pub goal_stays : (d : Derivation) (goal : ℕ) → RefersBack c → GoalIs P c (Some goal) → GoalIs P (with_next c d) (Some goal)
-  goal_stays d goal back g = (
-    (dual_before (d ∷ []) goal back g.0.0).1 g.0,
-    λ other p. ⊎_elim (λ (q : ProvesDual P c other × (other < count c)). g.1 other q.0) (λ (e : other ≡ count c). let h = g.0.0 in omega arith) (dual_cases d other back p),
-  )
+  goal_stays d goal back g = grind (arith, dual_before (d ∷ []) goal back g.0.0, dual_cases)
 
   pub goal_found : (d : Derivation) → RefersBack c → GoalIs P c None → ProvesDual P (with_next c d) (count c) → GoalIs P (with_next c d) (Some (count c))
-  goal_found d back none p = (
-    p,
-    λ other q. ⊎_elim (λ (r : ProvesDual P c other × (other < count c)). absurd (none other r.0)) (λ (e : other ≡ count c). omega arith) (dual_cases d other back q),
-  )
+  goal_found d back none p = grind (arith, dual_cases)
 
   pub goal_missing : (d : Derivation) → RefersBack c → GoalIs P c None → ¬ ProvesDual P (with_next c d) (count c) → GoalIs P (with_next c d) None
   goal_missing d back none not k p = grind (arith, dual_cases)
-
--- nothing proves a dual side that needs no goal
-pub goal_needed : (P : Profile) (c : Certificate) (k : ℕ) → ProvesDual P c k
-    → NeedsGoal c.problem c.problem.claim
-goal_needed P c k p = by c.problem.claim p.2
-  where
-    some_of : (o : Option ℚ) (Q : ℚ → Type 0) → IsSomeAnd o Q → IsSome o
-    some_of None Q h = absurd h
-    some_of (Some x) Q h = refl
-
-    by : (q : Claim) → MeetsDual P c.problem q (constraint_at c k) → NeedsGoal c.problem q
-    by infeasible m = tt
-    by (range lower upper) m = some_of (dual_bound c.problem.direction lower upper) _ m
 
 -- ---- profile two takes what profile one does
 follows_two : (c : Certificate) (r : Reason) (d : Condition) → FollowsBy one c r d

@@ -1,13 +1,13 @@
 -- Numbers, and the bounds of a claim
-use Rattle.std.proofs.Common.{◌≡◌, ℕ, Bool, true, false, if◌then◌else◌, List, Option, Some, None}
-use Rattle.std.proofs.Common.{Ok, Err, codes, refl, sym, ap, subst, arith}
+use Rattle.std.proofs.Common.{rules, ◌≡◌, ℕ, Bool, true, false, if◌then◌else◌, List, Option, Some}
+use Rattle.std.proofs.Common.{None, Ok, Err, codes, refl, ap, arith}
 use Rattle.std.specs.Str.{bytes_eq}
 use Rattle.vipr_spec.specs.{ℚ, natural_after, natural_of, SpellsNumber, not_a_number}
 use Rattle.vipr_spec.specs.{number_read, some_of, or_cause, number_of, bound_of, ReadsKind}
 use Rattle.vipr_spec.specs.{KindsOfNumber, Grammar.SpellsBound}
 use Rattle.vipr_spec.proofs.NumberReads.{number_sound, number_complete}
 use Rattle.vipr_spec.proofs.GrammarSteps.{same_ok}
-use Rattle.vipr_spec.proofs.GrammarTokens.{same_bytes, bytes_same, picks, some_sound}
+use Rattle.vipr_spec.proofs.GrammarTokens.{same_bytes, bytes_same}
 
 pub number_is : ReadsKind number_of SpellsNumber
 number_is t x = (λ e. number_sound t x (grind (arith, same_ok)), λ h. ap or_cause (number_complete t x h))
@@ -27,21 +27,15 @@ no_upper = refl
 module _ (infinite : List ℕ) (none : IsNoNumber infinite) where
   bound_sound : (t : List ℕ) (o : Option ℚ) → bound_of infinite t ≡ Ok o → SpellsBound infinite t o
   unfolding bound_of
-  bound_sound t o e =
-      picks (SpellsBound infinite t) t infinite None o _ (λ h. h)
-      (λ f. let k = some_sound (number_of t) o f in subst (SpellsBound infinite t) (sym k.2) ((number_is t k.0).0 k.1)) e
+  bound_sound t o e = search (rules, number_is)
 
   bound_other : (t : List ℕ) (x : ℚ) → SpellsNumber t x → (b : Bool) → bytes_eq t infinite ≡ b → (if b then Ok None else some_of (number_of t)) ≡ Ok (Some x)
-  bound_other t x h true e =
-      let same : t ≡ infinite = same_bytes t infinite e in
-      let read : number_read infinite ≡ Ok x = subst (λ u. number_read u ≡ Ok x) same (number_complete t x h) in
-      absurd (cc)
+  bound_other t x h true e = grind (arith, same_bytes t infinite e, number_complete t x h)
   bound_other t x h false e = ap some_of ((number_is t x).1 h)
 
   bound_complete : (t : List ℕ) (o : Option ℚ) → SpellsBound infinite t o → bound_of infinite t ≡ Ok o
   unfolding bound_of
-  bound_complete t None e = ap (λ b. if b then Ok None else some_of (number_of t)) (bytes_same t infinite e)
-  bound_complete t (Some x) h = bound_other t x h (bytes_eq t infinite) refl
+  bound_complete t o e = grind (arith, bytes_same, bound_other)
 
   pub bound_is : ReadsKind (bound_of infinite) (SpellsBound infinite)
   bound_is t o = (bound_sound t o, bound_complete t o)

@@ -88,11 +88,8 @@ module _ {A : Type 0} (kind : List ℕ → Result A ℕ) where
   abbrev outcome : Bool → Token → List Token → Rest → Read A
   outcome long t ts r = (if long then Err (refused cause.token_too_long t.offset) else Ok (t, record r { tokens = ts })) >>= λ u. checked_token (kind u.0.bytes) u
 
-  checked_fault : (k : Result A ℕ) (t : Token) (r : Rest) (c o : ℕ) → checked_token k (t, r) ≡ Err (refused c o) → (t.offset ≡ o) × ((s : Rest) → checked_token k (t, s) ≡ Err (refused c o))
-  checked_fault k t r c o e = grind (arith, never, same_refusal)
-
   outcome_fault : (long : Bool) (t : Token) (ts : List Token) (r : Rest) (c o : ℕ) → outcome long t ts r ≡ Err (refused c o) → (t.offset ≡ o) × ((us : List Token) (s : Rest) → outcome long t us s ≡ Err (refused c o))
-  outcome_fault long t ts r c o e = grind (arith, same_refusal, checked_fault)
+  outcome_fault long t ts r c o e = grind (arith, same_refusal, never)
 
   -- no token is left
   abbrev no_more : Bool → ℕ → Read A

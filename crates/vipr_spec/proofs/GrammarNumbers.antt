@@ -1,21 +1,15 @@
 -- Digits, and the number that they write
-use Rattle.std.proofs.Common.{◌≡◌, ℕ, ◌+◌, ◌-◌, ◌*◌, ◌<◌, Bool, true, if◌then◌else◌, List}
+use Rattle.std.proofs.Common.{◌≡◌, ℕ, ◌+◌, ◌-◌, ◌*◌, Bool, if◌then◌else◌, List}
 use Rattle.std.proofs.Common.{[], ◌∷◌, Some, None, arith, refl}
 use Rattle.std.proofs.lemmas.Bool.Decides.{nat_tests}
-use Rattle.std.specs.{Char.digit_value, Str.Parse.AllDigits, Str.Parse.digits_value_after}
+use Rattle.std.specs.{Str.Parse.AllDigits, Str.Parse.digits_value_after}
 use Rattle.vipr_spec.specs.{is_digit, natural_after, natural_of, ReadsNaturals}
 use Rattle.vipr_spec.specs.Grammar.{SpellsNatural}
-
-digit_value-is : (b : ℕ) → is_digit b ≡ true → digit_value b ≡ b - 48
-digit_value-is b e = grind (arith, nat_tests)
-
-digit-lt : (b : ℕ) → is_digit b ≡ true → digit_value b < 10
-digit-lt b e = grind (arith, nat_tests)
 
 module _ (b : ℕ) (bs : List ℕ) (n m : ℕ) where
   more_sound : (natural_after (n * 10 + (b - 48)) bs ≡ Some m → AllDigits 10 bs × (digits_value_after 10 (n * 10 + (b - 48)) bs ≡ m)) → (d : Bool) → is_digit b ≡ d → (if d then natural_after (n * 10 + (b - 48)) bs else None) ≡ Some m
       → AllDigits 10 (b ∷ bs) × (digits_value_after 10 n (b ∷ bs) ≡ m)
-  more_sound k d h f = grind (arith, digit-lt, digit_value-is)
+  more_sound k d h f = grind (arith, nat_tests)
 
 after_sound : (bs : List ℕ) (n m : ℕ) → natural_after n bs ≡ Some m
     → AllDigits 10 bs × (digits_value_after 10 n bs ≡ m)
@@ -27,7 +21,7 @@ after_complete : (bs : List ℕ) (n : ℕ) → AllDigits 10 bs
     → natural_after n bs ≡ Some (digits_value_after 10 n bs)
 unfolding natural_after
 after_complete [] n h = refl
-after_complete (b ∷ bs) n h = grind (arith, digit_value-is, after_complete bs (n * 10 + (b - 48)) h.1)
+after_complete (b ∷ bs) n h = grind (arith, after_complete bs (n * 10 + (b - 48)) h.1, nat_tests)
 
 pub natural_sound : (t : List ℕ) (n : ℕ) → natural_of t ≡ Some n → SpellsNatural t n
 unfolding natural_of

@@ -1,10 +1,10 @@
 -- Readings and shapes, one after another
-use Rattle.std.proofs.Common.{◌≡◌, ℕ, ◌≤◌, ◌⊎◌, Bool, true, false, nat_lt, if◌then◌else◌}
+use Rattle.std.proofs.Common.{◌≡◌, ℕ, ◌≤◌, ◌⊎◌, Bool, true, false, if◌then◌else◌}
 use Rattle.std.proofs.Common.{List, [], ◌∷◌, ◌++◌, length, map, Result, Ok, Err, All, arith, refl}
 use Rattle.std.proofs.Common.{sym, ◌∙◌, ap, subst, append_assoc}
 use Rattle.std.proofs.lemmas.List.Elements.{All-nil, All-cons, All-head, All-tail, All-append}
-use Rattle.std.proofs.{lemmas.Bool.Decides.nat_tests, lemmas.List.map-append}
-use Rattle.vipr_spec.specs.{Token, Rest, Fault, refused, unread, ◌>>=◌, Read, most_bytes}
+use Rattle.std.proofs.{lemmas.List.map-append}
+use Rattle.vipr_spec.specs.{Token, Rest, Fault, ◌>>=◌, Read, most_bytes}
 use Rattle.vipr_spec.specs.{first_token, token_read, ReadsFront, Grammar.◌then◌}
 
 -- ---- results
@@ -16,10 +16,6 @@ chosen b x y z e = grind arith
 pub guard_true : {A E : Type 0} (b : Bool) (x y : A) (c : E) → (if b then Ok x else Err c) ≡ Ok y
     → (b ≡ true) × (x ≡ y)
 guard_true b x y c e = grind arith
-
-pub guard_false : {A E : Type 0} (b : Bool) (x y : A) (c : E) → (if b then Err c else Ok x) ≡ Ok y
-    → (b ≡ false) × (x ≡ y)
-guard_false b x y c e = grind arith
 
 abbrev pub success : {A : Type 0} → (E : Type 0) → A → Result A E
 success E x = Ok x
@@ -128,30 +124,14 @@ parted {P} {Q} {r} {t} a =
 
 -- ---- one token
 
-not_more : (n m : ℕ) → nat_lt m n ≡ false → n ≤ m
-not_more n m e = grind (arith, nat_tests)
-
 pub record Next (r : Rest) (t : Token) (s : Rest) : Type 0 where
   pub joined : r ≡ record s { tokens = t ∷ s.tokens }
   pub short : length t.bytes ≤ most_bytes
 
-unread_none : (fails : Bool) (n : ℕ) (x : Token × Rest)
-    → (if fails then Err unread else Err (refused 1 n)) ≡ Ok x → ⊥
-unread_none fails n x e = grind arith
-
 next_from : (ts : List Token) (r : Rest) (t : Token) (s : Rest) → r.tokens ≡ ts
     → first_token ts r ≡ Ok (t, s) → Next r t s
 unfolding first_token
-next_from [] r t s h e = absurd (unread_none r.fails r.length (t, s) e)
-next_from (u ∷ us) r t s h e =
-    let g = guard_false (nat_lt most_bytes (length u.bytes)) (u, record r { tokens = us }) (t, s) _ e in
-    let token : u ≡ t = ap (λ p. p.0) g.1 in
-    let left : record r { tokens = us } ≡ s = ap (λ p. p.1) g.1 in
-    let size : length u.bytes ≤ most_bytes = not_more (length u.bytes) most_bytes g.0 in
-    record {
-      joined = ap (λ l. record r { tokens = l }) h ∙ ap (λ (q : Rest). record q { tokens = u ∷ q.tokens }) left ∙ ap (λ v. record s { tokens = v ∷ s.tokens }) token;
-      short = subst (λ (v : Token). length v.bytes ≤ most_bytes) token size;
-    }
+next_from ts r t s h e = grind arith
 
 pub next_sound : {r : Rest} {t : Token} {s : Rest} → token_read r ≡ Ok (t, s) → Next r t s
 next_sound {r} {t} {s} e = next_from r.tokens r t s refl e

@@ -1,21 +1,19 @@
 -- The kinds of token
-use Rattle.std.proofs.Common.{◌≡◌, ℕ, ◌-◌, ◌<◌, ◌≤◌, ◌⊎◌, inl, inr, ⊎_elim, Bool, true, false}
-use Rattle.std.proofs.Common.{nat_lt, nat_le, nat_eq, if◌then◌else◌, List, Option, Some, None}
-use Rattle.std.proofs.Common.{Result, Ok, Err, codes, arith, refl, sym, ◌∙◌, ap, subst}
-use Rattle.std.proofs.{lemmas.Bool.Decides.nat_tests, lemmas.Slice.Eq.bytes_eq-Decides}
+use Rattle.std.proofs.Common.{rules, ◌≡◌, ℕ, ◌-◌, ◌<◌, ◌≤◌, ◌⊎◌, inl, inr, ⊎_elim, Bool, true}
+use Rattle.std.proofs.Common.{false, nat_eq, if◌then◌else◌, List, Option, Some, None, Result, Ok}
+use Rattle.std.proofs.Common.{Err, codes, arith, refl, sym, ap, subst}
+use Rattle.std.proofs.lemmas.Slice.Eq.{bytes_eq-Decides}
+use Rattle.std.proofs.{lemmas.Bool.Decides.nat_tests, lemmas.Grind.common_steps}
 use Rattle.std.specs.{List.list_any, Str.bytes_eq}
-use Rattle.std.proofs.lemmas.Grind.{common_steps}
 use Rattle.vipr_spec.specs.{natural_of, Sense, at_most, equal, at_least, minimum, maximum}
 use Rattle.vipr_spec.specs.{most_count, at_most_or, word_of, count_of, derivation_count_of, below}
-use Rattle.vipr_spec.specs.{variable_of, unless_among, new_variable_of, reference_of, some_of}
-use Rattle.vipr_spec.specs.{last_of, spelled_sense, spelled_direction, has_range_of, Rule, by_asm}
-use Rattle.vipr_spec.specs.{by_lin, by_rnd, by_uns, by_sol, rule_of, ReadsKind, SpellsRange}
-use Rattle.vipr_spec.specs.{rule_word, KindsOfToken}
-use Rattle.vipr_spec.specs.Causes as cause
+use Rattle.vipr_spec.specs.{variable_of, new_variable_of, reference_of, some_of, last_of}
+use Rattle.vipr_spec.specs.{spelled_sense, spelled_direction, has_range_of, Rule, rule_of}
+use Rattle.vipr_spec.specs.{ReadsKind, SpellsRange, rule_word, KindsOfToken}
 use Rattle.vipr_spec.specs.Grammar.{SpellsNatural, SpellsCount, SpellsVariable, SpellsSense}
 use Rattle.vipr_spec.specs.Grammar.{SpellsDirection, SpellsLast}
 use Rattle.vipr_spec.proofs.GrammarNumbers.{natural_sound, natural_complete}
-use Rattle.vipr_spec.proofs.GrammarSteps.{guard_true, guard_false, chosen, same_ok}
+use Rattle.vipr_spec.proofs.GrammarSteps.{guard_true, chosen, same_ok}
 
 -- ---- fixed words
 
@@ -53,9 +51,7 @@ sense_sound t s e = picks (SpellsSense t) t _ equal s _ (λ h. h) (λ f. one_of_
 
 sense_complete : (t : List ℕ) (s : Sense) → SpellsSense t s → spelled_sense t ≡ Ok s
 unfolding spelled_sense
-sense_complete t equal e = rw e
-sense_complete t at_most e = rw e
-sense_complete t at_least e = rw e
+sense_complete t s e = grind arith
 
 direction_is : ReadsKind spelled_direction SpellsDirection
 unfolding spelled_direction
@@ -72,39 +68,17 @@ SpellsRule t rule = t ≡ rule_word rule
 
 rule_sound : (t : List ℕ) (r : Rule) → rule_of t ≡ Ok r → SpellsRule t r
 unfolding rule_of
-rule_sound t r e =
-    let P : Rule → Type 0 = SpellsRule t in
-    picks P t _ by_asm r _ (λ h. h)
-    (λ e2. picks P t _ by_lin r _ (λ h. h)
-    (λ e3. picks P t _ by_rnd r _ (λ h. h)
-    (λ e4. one_of_two P t _ _ by_uns by_sol r _ (λ h. h) (λ h. h) e4) e3) e2)
-    e
+rule_sound t r e = search rules
 
 rule_complete : (t : List ℕ) (r : Rule) → SpellsRule t r → rule_of t ≡ Ok r
 unfolding rule_of
-rule_complete t by_asm e = rw e
-rule_complete t by_lin e = rw e
-rule_complete t by_rnd e = rw e
-rule_complete t by_uns e = rw e
-rule_complete t by_sol e = rw e
+rule_complete t r e = grind arith
 
 -- ---- naturals within a bound
 
-at_most_sound : (most : ℕ) (found : Option ℕ) (absent larger n : ℕ)
-    → at_most_or most found absent larger ≡ Ok n → (found ≡ Some n) × (n ≤ most)
-at_most_sound most None absent larger n e = absurd (cc)
-at_most_sound most (Some m) absent larger n e = let g = guard_true (nat_le m most) m n larger e in let h : m ≤ most = grind (arith, nat_tests, g.0) in (ap Some g.1, subst (λ k. k ≤ most) g.1 h)
-
-at_most_complete : (most : ℕ) (found : Option ℕ) (absent larger n : ℕ) → found ≡ Some n → n ≤ most
-    → at_most_or most found absent larger ≡ Ok n
-at_most_complete most found absent larger n e h = grind (arith, nat_tests)
-
 bounded : (most absent larger : ℕ) → ReadsKind (λ t. at_most_or most (natural_of t) absent larger)
     (λ t n. SpellsNatural t n × (n ≤ most))
-bounded most absent larger t n = (
-  λ e. let k = at_most_sound most (natural_of t) absent larger n e in (natural_sound t n k.0, k.1),
-  λ h. at_most_complete most (natural_of t) absent larger n (natural_complete t n h.0) h.1,
-)
+bounded most absent larger t n = grind (arith, natural_sound, natural_complete)
 
 count_is : ReadsKind count_of SpellsCount
 unfolding count_of
@@ -120,8 +94,7 @@ unfolding reference_of
 reference_is = bounded most_count _ _
 
 below_sound : (n : ℕ) (found : Option ℕ) (i : ℕ) → below n found ≡ Ok i → (found ≡ Some i) × (i < n)
-below_sound n None i e = absurd (cc)
-below_sound n (Some j) i e = let g = guard_true (nat_lt j n) j i _ e in let h : j < n = grind (arith, nat_tests, g.0) in (ap Some g.1, subst (λ k. k < n) g.1 h)
+below_sound n found i e = grind arith
 
 below_complete : (n : ℕ) (found : Option ℕ) (i : ℕ) → found ≡ Some i → i < n → below n found ≡ Ok i
 below_complete n found i e h = grind (arith, nat_tests)
@@ -130,21 +103,10 @@ variable_is : (n : ℕ) → ReadsKind (variable_of n) (SpellsVariable n)
 unfolding variable_of
 variable_is n t i = (λ e. let k = below_sound n (natural_of t) i e in (natural_sound t i k.0, k.1), λ h. below_complete n (natural_of t) i (natural_complete t i h.0) h.1)
 
-among_sound : (before : List ℕ) (found : Result ℕ ℕ) (i : ℕ) → unless_among before found ≡ Ok i
-    → (found ≡ Ok i) × (list_any (nat_eq i) before ≡ false)
-among_sound before found i e = grind (arith, guard_false)
-
-among_complete : (before : List ℕ) (found : Result ℕ ℕ) (i : ℕ) → found ≡ Ok i
-    → list_any (nat_eq i) before ≡ false → unless_among before found ≡ Ok i
-among_complete before found i e h = ap (λ r. unless_among before r) e ∙ ap (λ b. if b then Err cause.repeated_index else Ok i) h
-
 new_variable_is : (n : ℕ) (before : List ℕ) → ReadsKind (new_variable_of n before)
     (λ t i. SpellsVariable n t i × (list_any (nat_eq i) before ≡ false))
 unfolding new_variable_of
-new_variable_is n before t i = (
-  λ e. let k = among_sound before (variable_of n t) i e in ((variable_is n t i).0 k.0, k.1),
-  λ h. among_complete before (variable_of n t) i ((variable_is n t i).1 h.0) h.1,
-)
+new_variable_is n before t i = grind (arith, variable_is n t i)
 
 -- ---- last references
 

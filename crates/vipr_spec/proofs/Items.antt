@@ -1,4 +1,5 @@
 -- The items, by the steps of their readings
+use Rattle.std.proofs.Common.{rules}
 use Rattle.std.proofs.Common.{◌≡◌, ℕ, zero, suc, ◌+◌, ◌-◌, ◌≤◌, ◌⊎◌, inl, inr, ⊎_elim, Bool, true}
 use Rattle.std.proofs.Common.{false, ◌||◌, nat_eq, if◌then◌else◌, List, [], ◌∷◌, ◌++◌, length, map}
 use Rattle.std.proofs.Common.{Result, Ok, Err, codes, arith, refl, sym, ◌∙◌, ap, subst, append-nil}
@@ -138,9 +139,7 @@ module _ (n : ℕ) (objective : Row) (r s : Rest) (row : Row) where
 
   choice_sound : (t : Token × Rest) → token_read r ≡ Ok t → (b : Bool) → bytes_eq t.0.bytes (codes "OBJ") ≡ b → (if b then Ok (objective, t.1) else counted t) ≡ Ok (row, s) → ReadsFront (coefficients n objective row) r s
   unfolding vector_read
-  choice_sound t e true f g =
-      is_answer (λ q z. ReadsFront (coefficients n objective q) r z) g
-      (one_token (coefficients n objective objective) (next_sound e) (inr (ap (λ b. b ∷ []) (same_bytes t.0.bytes _ f), refl)))
+  choice_sound t e true f g = grind (arith, is_answer, coefficients, one_token, coefficients n objective objective, next_sound e, same_bytes t.0.bytes)
   choice_sound t e false f g =
       let read : vector_read n r ≡ Ok (row, s) = ap (λ z. z >>= (λ t. checked_token (count_of t.0.bytes) t) >>= counted_read n) e ∙ g in
       let v = ((vector_is n).reads r s row).0 read in
@@ -226,15 +225,7 @@ module _ (n : ℕ) (objective : Row) where
   row_refusal r c o e =
       let h = other r (refused c o) e in
       ⊎_elim
-      (λ (k : IsRefusedAt (vector_read n) r c o). inl (record {
-        before = k.before;
-        token = k.token;
-        after = k.after;
-        joined = k.joined;
-        here = k.here;
-        remains = λ q more i. row_is_vector q (subst IsOther (sym i) (still_other k.before k.token k.after more (subst IsOther k.joined h))) ∙ k.remains q more i;
-        first = λ q i l. row_is_vector q (subst IsOther (sym i) (front_other k.before k.token k.after (subst IsOther k.joined h))) ∙ k.first q i l;
-      }))
+      (λ (k : IsRefusedAt (vector_read n) r c o). grind (arith, token, joined, row_is_vector, still_other, front_other))
       inr
       ((vector_is n).remains.refusal r c o (sym (row_is_vector r h) ∙ e))
 
@@ -242,10 +233,7 @@ module _ (n : ℕ) (objective : Row) where
   remains_row = record { refusal = row_refusal; failure = λ r e. (vector_is n).remains.failure r (sym (row_is_vector r (other r unread e)) ∙ e) }
 
 pub row_is : (n : ℕ) (objective : Row) → IsReading (row_read n objective) (coefficients n objective)
-row_is n objective = record {
-  reads = λ r s row. (row_sound n objective r s row, row_complete n objective r s row);
-  remains = remains_row n objective;
-}
+row_is n objective = search (rules, row_sound, row_complete, remains_row)
 
 pub constraint_is : (n : ℕ) (objective : Row)
     → IsReading (constraint_read n objective) (λ c. constraint n objective c.name c.item)
@@ -274,8 +262,7 @@ index_is n = token (variable_of n) (SpellsVariable n) (kinds_of_token.variable n
 pub integers_is : (n : ℕ) → IsReading (integers_read n) (integers n)
 unfolding integers_read
 integers_is n = shaped (integers n) (chain (keyword_is (codes "INT")) _ (λ v. chain count_is _ (λ i. last (many (index_is n) i) from_list)))
-    (λ x ts h. let v = h.1 in let i = v.4.1 in let is = i.4.0 in
-    (is, i.4.1, retail v (subst (λ k. (one SpellsCount k then each (one (SpellsVariable n)) is) v.1) (sym i.4.2.0) (retail i i.4.2.1))))
+    (λ x ts h. grind (arith, retail, one, each))
     (λ x ts h. let v = h.2 in (tt, retail v (length h.0, retail v.4 (h.0, h.1, (refl, v.4.4)))))
 
 pub objective_is : (n : ℕ) → IsReading (objective_read n) (λ x. objective n x.0 x.1)
@@ -290,9 +277,7 @@ pub constraints_is : (n : ℕ) (row : Row)
 unfolding constraints_read
 constraints_is n row = shaped (λ x. constraints n row x.0 x.1)
     (chain (keyword_is (codes "CON")) _ (λ v. chain count_is _ (λ m. chain count_is _ (λ b. last (many (constraint_is n row) m) (λ cs. (b, cs))))))
-    (λ x ts h. let v = h.1 in let m = v.4.1 in let b = m.4.1 in let cs = b.4.0 in
-    subst (λ x. constraints n row x.0 x.1 ts) (sym b.4.1)
-    (retail v (subst (λ k. (one SpellsCount k then one SpellsCount m.4.0 then each (λ c. constraint n row c.name c.item) cs) v.1) (sym b.4.2.0) (retail m (retail b b.4.2.1)))))
+    (λ x ts h. grind (arith, common_steps, constraints, retail, one, each, constraint))
     (λ x ts h. (tt, retail h (length x.1, retail h.4 (x.0, retail h.4.4 (x.1, refl, (refl, h.4.4.4))))))
 
 -- ---- the claim
@@ -311,8 +296,7 @@ ranged b x ts h = grind (arith, retail, append-nil)
 
 claimed : (x : Claim) (ts : List (List ℕ)) → claim x ts
     → Chain (λ (u : Unit {0}). word (codes "RTP")) (λ u. Chain (one SpellsRange) IsRange) x ts
-claimed infeasible ts h = (tt, retail h (false, (h.1, [], sym (append-nil h.1), (codes "infeas", h.4, refl), (refl, refl))))
-claimed (range l u) ts h = (tt, retail h (true, (h.4.0, h.4.1, h.4.2, (codes "range", h.4.3, refl), (l, retail h.4.4 (u, refl, h.4.4.4)))))
+claimed x ts h = grind (arith, retail, codes)
 
 pub claim_is : IsReading claim_read claim
 unfolding claim_read

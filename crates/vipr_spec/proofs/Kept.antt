@@ -15,9 +15,6 @@ pub index_no : (keep : ℕ → Bool) (i : ℕ) → keep i ≡ false
     → new_index keep (suc i) ≡ new_index keep i
 index_no keep i e = rw e (omega arith)
 
-index_step : (keep : ℕ → Bool) (i : ℕ) → new_index keep i ≤ new_index keep (suc i)
-index_step keep i = omega arith
-
 -- rising
 pub index_mono : (keep : ℕ → Bool) (i j : ℕ) → i ≤ j → new_index keep i ≤ new_index keep j
 index_mono keep zero j h = omega arith
@@ -25,8 +22,7 @@ index_mono keep (suc i) zero h = absurd (omega arith)
 index_mono keep (suc i) (suc j) h = ⊎_elim
     (λ (e : i ≡ j). subst (λ n. new_index keep (suc i) ≤ new_index keep (suc n)) e (omega arith))
     (λ s. ⊎_elim
-    (λ (l : i < j). let below = index_mono keep (suc i) j l in let step = index_step keep j in
-    omega arith)
+    (λ (l : i < j). grind (arith, index_mono keep (suc i) j l))
     (λ (l : j < i). absurd (omega arith))
     s)
     (cases_order i j)
@@ -36,24 +32,12 @@ pub index_lt : (keep : ℕ → Bool) (i j : ℕ) → keep i ≡ true → i < j
     → new_index keep i < new_index keep j
 index_lt keep i j k h = grind (arith, index_yes keep i k, index_mono keep (suc i) j h)
 
-pub index_le_back : (keep : ℕ → Bool) (i j : ℕ) → keep j ≡ true
-    → new_index keep i ≤ new_index keep j → i ≤ j
-index_le_back keep i j k h = ⊎_elim
-    (λ (e : i ≡ j). omega arith)
-    (λ s. ⊎_elim (λ (l : i < j). omega arith)
-    (λ (l : j < i). let up = index_lt keep j i k l in absurd (omega arith)) s)
-    (cases_order i j)
-
 pub index_lt_back : (keep : ℕ → Bool) (i j : ℕ) → new_index keep i < new_index keep j → i < j
-index_lt_back keep i j h = ⊎_elim
-    (λ (e : i ≡ j). let same = ap (new_index keep) e in absurd (omega arith))
-    (λ s. ⊎_elim (λ (l : i < j). l)
-    (λ (l : j < i). let down = index_mono keep j i (omega arith) in absurd (omega arith)) s)
-    (cases_order i j)
+index_lt_back keep i j h = grind (arith, index_mono)
 
 pub index_injective : (keep : ℕ → Bool) (i j : ℕ) → keep i ≡ true → keep j ≡ true
     → new_index keep i ≡ new_index keep j → i ≡ j
-index_injective keep i j k l e = grind (arith, index_le_back)
+index_injective keep i j k l e = grind (arith, index_lt)
 
 -- they are the old ones where all before is kept
 pub index_same : (keep : ℕ → Bool) (n : ℕ) → ((i : ℕ) → i < n → keep i ≡ true) → (i : ℕ) → i ≤ n
@@ -112,12 +96,7 @@ length_kept keep k (x ∷ xs) = by (length_kept keep (suc k) xs) (cases_Bool (ke
     by : length (kept_of keep (suc k) xs) + new_index keep (suc k)
         ≡ new_index keep (suc k + length xs) → (keep k ≡ true) ⊎ (keep k ≡ false)
         → length (kept_of keep k (x ∷ xs)) + new_index keep k ≡ new_index keep (k + suc (length xs))
-    by rest (inl e) = let s = index_yes keep k e in
-        ap (λ l. length l + new_index keep k) (kept_yes keep k x xs e)
-        ∙ (let u = moved in omega arith)
-    by rest (inr e) = let s = index_no keep k e in
-        ap (λ l. length l + new_index keep k) (kept_no keep k x xs e)
-        ∙ (let u = moved in omega arith)
+    by rest h = grind (arith, index_yes, kept_yes, index_no, kept_no)
 
 -- all of a list is kept
 pub kept_all : {A : Type 0} (keep : ℕ → Bool) (k : ℕ) (xs : List A)
@@ -154,9 +133,7 @@ kept_at keep d k (suc j) p (x ∷ xs) h e =
         → slice_index_or (kept_of keep k (x ∷ xs)) q d ≡ slice_index_or xs j d
     by rest (inl y) zero f = let s = index_yes keep k y in let t = same in let u = up in
         absurd (omega arith)
-    by rest (inl y) (suc q) f =
-        let s = index_yes keep k y in let t = same in
-        ap (λ l. slice_index_or l (suc q) d) (kept_yes keep k x xs y) ∙ rest q next (omega arith)
+    by rest (inl y) (suc q) f = grind (arith, index_yes, same, kept_yes)
     by rest (inr n) q f =
         let s = index_no keep k n in let t = same in
         ap (λ l. slice_index_or l q d) (kept_no keep k x xs n) ∙ rest q next (omega arith)

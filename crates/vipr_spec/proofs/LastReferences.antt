@@ -1,6 +1,6 @@
 -- The last references of the tightened certificate
-use Rattle.std.proofs.Common.{◌≡◌, ◌↔◌, ℕ, ◌<◌, ◌≤◌, Option, Some, None, length, arith, refl, sym}
-use Rattle.std.proofs.Common.{◌∙◌, ap, ⊎_elim}
+use Rattle.std.proofs.Common.{rules, ◌≡◌, ◌↔◌, ℕ, ◌<◌, ◌≤◌, Option, Some, None, length, arith, refl}
+use Rattle.std.proofs.Common.{sym, ap, ⊎_elim}
 use Rattle.vipr_spec.specs.{reason_at, last_at, RefersTo, count, IsNeeded, RefersBack, is_kept}
 use Rattle.vipr_spec.specs.{tightened_certificate, new_goal, IsNeededFor, Certificate.Certificate}
 use Rattle.vipr_spec.proofs.Marked.{back_at, needed_cases, needed_below, kept_given}
@@ -24,9 +24,7 @@ module _ (c : Certificate) (goal : Option ℕ) (back : RefersBack c) where
   to_goal (Some g) i h n e = ⊎_elim
       (λ (same : i ≡ g). ap Some (sym same))
       (λ (r : (j : ℕ) × IsNeeded (tightened_certificate c goal) g j × RefersTo (reason_at (tightened_certificate c goal) j) i).
-      let found = last_latest c goal r.0 i back h r.2 in
-      let clash : None ≡ Some found.0 = sym e ∙ found.1 in
-      absurd (cc))
+      grind (arith, last_latest c goal r.0 i back h r.2))
       (needed_cases (tightened_certificate c goal) g i n)
 
   from_goal : (o : Option ℕ) → ((p : ℕ) → length c.problem.constraints ≤ p → p < count (tightened_certificate c goal) → IsNeededFor (tightened_certificate c goal) o p)
@@ -41,7 +39,4 @@ module _ (c : Certificate) (goal : Option ℕ) (back : RefersBack c) where
       absurd (let a = found.0 in omega arith)
 
   pub last_of_goal : (i : ℕ) → length c.problem.constraints ≤ i → i < count (tightened_certificate c goal) → (last_at (tightened_certificate c goal) i ≡ None) ↔ (new_goal c goal ≡ Some i)
-  last_of_goal i h l = (
-    to_goal (new_goal c goal) i h (tight_needed c goal back i h l),
-    λ e. from_goal (new_goal c goal) (tight_needed c goal back) i h e (last_at (tightened_certificate c goal) i) refl,
-  )
+  last_of_goal i h l = search (rules, to_goal, tight_needed, from_goal, last_at)

@@ -1,14 +1,13 @@
 -- A text that spells a proof means what it claims
-use Rattle.std.proofs.Common.{◌≡◌, ℕ, zero, suc, ◌<◌, Bool, true, false, ◌==◌, nat_eq, if◌then◌else◌, List, []}
-use Rattle.std.proofs.Common.{◌∷◌, length, slice_index_or, Option, Some, None, IfSome, All, Any}
-use Rattle.std.proofs.Common.{Contains, codes, arith, refl, sym, ◌∙◌, ap, subst}
-use Rattle.std.specs.{FinSet.contains-from_list_nat, List.AllZip}
-use Rattle.std.proofs.lemmas.Bool.{eq-eqb, false≢true}
-use Rattle.std.proofs.lemmas.Bool.Decides.{nat_tests}
-use Rattle.std.proofs.lemmas.List.Elements.{All-nil, All-cons, All-head, All-tail}
-use Rattle.std.proofs.lemmas.List.Elements.{All-weaker, All-contains_itself}
+use Rattle.std.proofs.Common.{◌≡◌, ℕ, zero, suc, ◌<◌, Bool, false, ◌==◌, nat_eq, if◌then◌else◌}
+use Rattle.std.proofs.Common.{List, [], ◌∷◌, length, slice_index_or, Option, Some, None, IfSome}
+use Rattle.std.proofs.Common.{All, Any, Contains, codes, arith, refl, sym, ◌∙◌, ap, subst}
+use Rattle.std.proofs.lemmas.List.Elements.{All-nil, All-cons, All-head, All-tail, All-weaker}
+use Rattle.std.proofs.lemmas.List.Elements.{All-contains_itself}
 use Rattle.std.proofs.lemmas.List.Folds.{Any-from_list_any, list_any-from_Any}
-use Rattle.vipr_spec.specs.Constraint.{Profile, Sense, at_most, equal, at_least, Row, Constraint}
+use Rattle.std.proofs.{lemmas.Bool.eq-eqb, lemmas.Bool.false≢true, lemmas.Bool.Decides.nat_tests}
+use Rattle.std.specs.{FinSet.contains-from_list_nat, List.AllZip}
+use Rattle.vipr_spec.specs.Constraint.{Profile, Sense, Row, Constraint}
 use Rattle.vipr_spec.specs.Constraint.{at, condition, Point, Compares, IsTrueAt, IsInteger}
 use Rattle.vipr_spec.specs.Certificate.{Certificate, IsProof, Named, Direction, minimum, maximum}
 use Rattle.vipr_spec.specs.Certificate.{Claim, infeasible, range, Problem, variables, IsFeasible}
@@ -16,10 +15,9 @@ use Rattle.vipr_spec.specs.Certificate.{IsTrueClaim, IsAttained, IsAsGood, objec
 use Rattle.vipr_spec.specs.Certificate.{primal_bound}
 use Rattle.vipr_spec.specs.{Fraction.ℚ, Fraction.IsWhole, Fraction.◌≤ℚ◌, Grammar.Spells}
 use Rattle.vipr_spec.specs.Short as short
-use Rattle.vipr_spec.proofs.ShortRows.{value_at_point}
 use Rattle.vipr_spec.proofs.ShortTexts.{sense_word, is_min, bounds_of, AreOneConstraint}
 use Rattle.vipr_spec.proofs.ShortTexts.{AreOneSolution, AreStated, states}
-use Rattle.vipr_spec.proofs.{SmallerSums.Any-of, Soundness.claim_true, Stated.spelled_states}
+use Rattle.vipr_spec.proofs.{ShortRows.value_at_point, Soundness.claim_true, Stated.spelled_states}
 
 -- ---- lists whose items belong together
 
@@ -53,14 +51,10 @@ differ : (a b : ℕ) → (a == b) ≡ false → a ∷ [] ≡ b ∷ [] → ⊥
 differ a b n e = false≢true (sym n ∙ eq-eqb a b (ap (λ l. slice_index_or l 0 0) e))
 
 says : (s : Sense) (v b : ℚ) → Compares s v b → Says (sense_word s) v b
-says at_most v b h = (λ e. h, λ e. absurd (differ 76 71 refl e), λ e. absurd (differ 76 69 refl e))
-says equal v b h = (λ e. absurd (differ 69 76 refl e), λ e. absurd (differ 69 71 refl e), λ e. h)
-says at_least v b h = (λ e. absurd (differ 71 76 refl e), λ e. h, λ e. absurd (differ 71 69 refl e))
+says s v b h = grind (arith, differ)
 
 said : (s : Sense) (v b : ℚ) → Says (sense_word s) v b → Compares s v b
-said at_most v b h = h.0 refl
-said equal v b h = h.2 refl
-said at_least v b h = h.1 refl
+said s v b h = grind arith
 
 true_to : (n : ℕ) (c : Named Constraint) (d : short.Constraint) (v w : ℚ) → AreOneConstraint n c d
     → v ≡ w → Compares c.item.sense v c.item.bound → Says d.sense w d.bound
@@ -85,8 +79,7 @@ module _ (p : Problem) (ss : List (Named Row)) (q : short.Problem) (qs : List sh
   feasible_at : (s : Named Row) (t : short.Row) → AreOneSolution (variables p) s t → IsFeasible p (at s.item) → short.IsFeasible q (short.point_of t)
   feasible_at s t r f = (
     All-weaker (Contains q.integers) (λ j. IsWhole (short.point_of t j)) (λ j h.
-        let among = contains-from_list_nat q.integers j ∙ list_any-from_Any (λ y. nat_eq y j) q.integers (Any-of (λ y. nat_eq y j ≡ true) q.integers j h (eq-eqb j j refl)) in
-        subst IsWhole (r.point j) (f.whole j (subst (λ s. IsInteger s j) (sym m.integers) among))) q.integers (All-contains_itself q.integers),
+        grind (arith, contains-from_list_nat q.integers j, list_any-from_Any, eq-eqb j j)) q.integers (All-contains_itself q.integers),
     all_to (AreOneConstraint (variables p)) (λ c. IsTrueAt (variables p) (condition c.item) (at s.item)) (λ d. short.IsTrueAt d (short.point_of t)) (λ c d r'. true_to (variables p) c d _ _ r' (value_at_point (variables p) c.item.row s.item d.row t r'.row r)) p.constraints q.constraints m.constraints f.meets,
   )
 
@@ -99,8 +92,7 @@ module _ (p : Problem) (ss : List (Named Row)) (q : short.Problem) (qs : List sh
   Primal b lower upper = IfSome (if b then upper else lower) (λ v. Any (λ s. short.IsFeasible q (short.point_of s) × short.IsAsGood b (short.value q.objective (short.point_of s)) v) qs)
 
   as_good : (d : Direction) (v w : ℚ) → IsAsGood d v w → short.IsAsGood (is_min d) v w
-  as_good minimum v w h = h
-  as_good maximum v w h = h
+  as_good d v w h = grind arith
 
   dual : (d : Direction) → p.direction ≡ d → (o : Option ℚ)
       → IfSome o (λ v. (x : Point) → IsFeasible p x → IsAsGood p.direction v (objective_at p x))

@@ -8,20 +8,18 @@ use Rattle.std.proofs.{lemmas.Bool.Decides.nat_tests, lemmas.Int.ints}
 use Rattle.std.specs.{Cmp.nat_cmp_total, Cmp.unsigned_tied, FinMap.empty, FinMap.insert}
 use Rattle.std.specs.{FinMap.get-empty, FinMap.get-insert, FinSet.contains-insert, Ordering.nat_cmp}
 use Rattle.std.specs.FinSet as set
+use Rattle.vipr_spec.specs.Examples.{row, twice, first_variable, optimum}
 use Rattle.vipr_spec.specs.{gcd, ℚ, over, whole, zero_ℚ, ◌+ℚ◌, ◌*ℚ◌, neg_ℚ, ◌≤ℚ◌, IsWhole}
 use Rattle.vipr_spec.specs.{ProductFits, SumFits, Profile, one, two, at_most, at_least, at, Row}
-use Rattle.vipr_spec.specs.{Condition, condition, IsTrueAt, Entry, pull, IsInteger, IsWholeRow}
-use Rattle.vipr_spec.specs.{HasSense, sum_of, RoundsTo, CombinesRounded, TermsFit, SumOfFits, value}
-use Rattle.vipr_spec.specs.{ValueFits, Named, maximum, objective_at, Reason, rnd, uns, sol, asm}
-use Rattle.vipr_spec.specs.{constraint_at, reason_at, IsBest, IsAsGoodAt, IsFeasible, SolutionFits}
-use Rattle.vipr_spec.specs.{IsProof, IsGoodStep, HasGoodSteps, is_live, RestsOnNothing}
-use Rattle.vipr_spec.specs.Constraint.{Constraint}
-use Rattle.vipr_spec.specs.Examples.{row, twice, first_variable, optimum}
+use Rattle.vipr_spec.specs.{Condition, Entry, pull, IsInteger, IsWholeRow, HasSense, sum_of}
+use Rattle.vipr_spec.specs.{RoundsTo, CombinesRounded, TermsFit, SumOfFits, value, ValueFits, Named}
+use Rattle.vipr_spec.specs.{maximum, objective_at, Reason, rnd, uns, sol, asm, constraint_at}
+use Rattle.vipr_spec.specs.{IsBest, IsAsGoodAt, IsFeasible, SolutionFits, IsProof, IsGoodStep}
+use Rattle.vipr_spec.specs.{HasGoodSteps, is_live, RestsOnNothing, Constraint.Constraint}
 use Rattle.vipr_spec.proofs.Fractions.{whole-mul, whole-le, over-mul, over-le, over_same, is_neg}
 use Rattle.vipr_spec.proofs.Fractions.{is_over, is_zero, le_in, le_out, le_refl_ℚ, le_of_eq_ℚ}
 use Rattle.vipr_spec.proofs.Fractions.{zero-add_ℚ, add-zero_ℚ, mul-zero_ℚ, IsWhole-zero}
-use Rattle.vipr_spec.proofs.Rests.{rests_out, rests_given}
-use Rattle.vipr_spec.proofs.{Goals.proof_two, Soundness.as_good_refl}
+use Rattle.vipr_spec.proofs.{Goals.proof_two, Rests.rests_out, Soundness.as_good_refl}
 
 -- ---- the rows
 
@@ -75,10 +73,7 @@ abbrev doubled : Named Constraint
 doubled = record { name = []; item = record { row = twice; sense = at_most; bound = whole (pos 3) } }
 
 feasible : IsFeasible optimum.problem (at row)
-feasible = record {
-  whole = λ j i. whole_at j;
-  meets = All-cons (λ c. IsTrueAt 1 (condition c.item) (at row)) doubled [] (subst (λ v. v ≤ℚ whole (pos 3)) (sym twice_value) (whole-le (pos 2) (pos 3) (omega (arith, ints)))) (All-nil (λ c. IsTrueAt 1 (condition c.item) (at row)));
-}
+feasible = grind (arith, whole_at, twice_value, whole-le)
 
 abbrev FitsAtOne : ℚ → Type 0
 FitsAtOne a = ProductFits a (whole (pos 1)) × SumFits zero_ℚ (a *ℚ whole (pos 1))
@@ -129,10 +124,7 @@ has_sense : HasSense (entry ∷ []) at_most
 has_sense = (All-cons (λ e. pull e ≤ℚ zero_ℚ) entry [] pull_below (All-nil (λ e. pull e ≤ℚ zero_ℚ)), (0, entry, lit< tt, refl, pull_not_above))
 
 rounds : RoundsTo at_most (over (pos 3) 2) (pos 1)
-rounds = (
-  (over-le (pos 1) (pos 3) 1 2 (lit< tt) (lit< tt)).1 (omega (arith, ints)),
-  λ m h. let l = (over-le m (pos 3) 1 2 (lit< tt) (lit< tt)).0 h in omega (arith, ints),
-)
+rounds = grind (arith, over-le)
 
 abbrev at_most_one : Condition
 at_most_one = record { row = at row; sense = at_most; bound = whole (pos 1) }
@@ -184,12 +176,7 @@ live k i j e h = subst (λ n. IsTrue (is_live optimum k n)) (sym e) h
 -- ---- the steps
 
 step_rounded : IsGoodStep one optimum 1 (rnd ((0, half) ∷ [])) at_most_one
-step_rounded = record {
-  earlier = All-cons (λ (e : ℕ × ℚ). e.0 < 1) (0, half) [] (lit< tt) (All-nil (λ (e : ℕ × ℚ). e.0 < 1));
-  follows = combines;
-  fits = sum_fits;
-  references = λ i h. live 1 i 0 (only (i, h.0) h.1) refl;
-}
+step_rounded = grind (arith, combines, sum_fits)
 
 step_joined : IsGoodStep one optimum 4 (uns 2 2 1 3) at_most_one
 step_joined = record {
@@ -241,10 +228,7 @@ steps (suc (suc (suc (suc (suc (suc k)))))) r e = absurd (cc)
 -- ---- the goal rests on nothing
 
 nothing : RestsOnNothing optimum 4
-nothing a r = elim (rests_out optimum 4 a r) [
-  | inl h ↦ h.1 (sym (rests_out optimum 2 a h.0))
-  | inr h ↦ let u = rests_out optimum 1 a h.0 in rests_given optimum u.0.0 a (ap (reason_at optimum) (only u.0 u.1)) u.3
-]
+nothing a r = grind (arith, rests_out)
 
 proof : IsProof one optimum
 proof = record {

@@ -1,12 +1,12 @@
 -- Where constraints, reasons and references stand in a certificate with what is kept alone
-use Rattle.std.proofs.Common.{◌≡◌, ◌≢◌, ℕ, zero, suc, ◌+◌, ◌-◌, ◌<◌, ◌≤◌, Bool, true, nat_lt, List}
-use Rattle.std.proofs.Common.{[], ◌∷◌, ◌++◌, map, length, slice_index_or, filter, Option, Some}
-use Rattle.std.proofs.Common.{None, Contains, arith, refl, sym, ◌∙◌, ap, subst, inl, inr, ⊎_elim}
-use Rattle.std.proofs.Common.{le-leb, lt-ltb}
+use Rattle.std.proofs.Common.{rules, ◌≡◌, ◌≢◌, ℕ, zero, suc, ◌+◌, ◌-◌, ◌<◌, ◌≤◌, Bool, true, nat_lt}
+use Rattle.std.proofs.Common.{List, [], ◌∷◌, ◌++◌, map, length, slice_index_or, filter, Option}
+use Rattle.std.proofs.Common.{Some, None, Contains, arith, refl, sym, ◌∙◌, ap, subst, inl, inr}
+use Rattle.std.proofs.Common.{⊎_elim, le-leb, lt-ltb}
 use Rattle.std.proofs.lemmas.Bool.{and_from, or_right, cases_lt}
 use Rattle.std.proofs.lemmas.List.{get_or_append_left, length-map}
-use Rattle.vipr_spec.specs.{ℚ, zero_ℚ, condition, Reason, asm, lin, rnd, uns, sol, Derivation}
-use Rattle.vipr_spec.specs.{constraint_at, reason_at, last_at, no_constraint, is_assumption}
+use Rattle.vipr_spec.specs.{ℚ, zero_ℚ, Reason, asm, lin, rnd, uns, sol, Derivation}
+use Rattle.vipr_spec.specs.{constraint_at, reason_at, last_at, is_assumption}
 use Rattle.vipr_spec.specs.{lasts_to, is_live, RefersTo, count, kept_of, new_index}
 use Rattle.vipr_spec.specs.{renumbered_entries, renumbered_reason, renumbered_at, with_new_indices}
 use Rattle.vipr_spec.specs.{with_kept, is_nonzero, Certificate.Certificate}
@@ -124,19 +124,10 @@ module _ (c : Certificate) (keep : ℕ → Bool) (given : (i : ℕ) → i < leng
   old_derived i h = ⊎_elim (λ (l : i < length c.problem.constraints). absurd (let e = new_given i (omega arith) in omega arith)) (λ (l : length c.problem.constraints ≤ i). l) (cases_lt i (length c.problem.constraints))
 
   pub constraint_new : (i : ℕ) → keep i ≡ true → constraint_at (with_kept c keep) (new_index keep i) ≡ constraint_at c i
-  constraint_new i k =
-      constraints_listed (with_kept c keep) (new_index keep i)
-      ∙ at_new keep (λ n. condition n.item) no_constraint.stated c.problem.constraints (map (λ d. condition d.stated) (with_kept c keep).derivations) (map (λ d. condition d.stated) c.derivations) given
-      (kept_values (λ d. condition d.stated) (λ d. condition d.stated) (λ d l. refl) (λ d. refl)) i k
-      ∙ sym (constraints_listed c i)
+  constraint_new i k = search (rules, constraints_listed, at_new, kept_values)
 
   pub reason_new : (i : ℕ) → keep i ≡ true → reason_at (with_kept c keep) (new_index keep i) ≡ renumbered_at (new_index keep) (reason_at c i)
-  reason_new i k =
-      reasons_listed (with_kept c keep) (new_index keep i)
-      ∙ at_new keep (λ a. None) None c.problem.constraints (map (λ d. Some d.reason) (with_kept c keep).derivations) (map (λ d. Some (renumbered_reason (new_index keep) d.reason)) c.derivations) given
-      (kept_values (λ d. Some (renumbered_reason (new_index keep) d.reason)) (λ d. Some d.reason) (λ d l. refl) (λ d. refl)) i k
-      ∙ option_out (new_index keep) _ c.problem.constraints c.derivations i
-      ∙ ap (renumbered_at (new_index keep)) (sym (reasons_listed c i))
+  reason_new i k = grind (arith, reasons_listed (with_kept c keep) (new_index keep i), at_new, kept_values, option_out (new_index keep), reasons_listed c i)
 
   pub length_new : length (with_kept c keep).derivations + length c.problem.constraints ≡ new_index keep (count c)
   length_new = grind (arith, length_with, length-map, length_kept, new_given)

@@ -1,35 +1,26 @@
 -- Two certificates that are proofs under profile two, and none under profile one
 use Rattle.std.proofs.Common.{◌≡◌, ◌≢◌, ℕ, zero, suc, Some, ℤ, pos, ◌+ℤ◌, ◌≤ℤ◌, ◌⊎◌, IsTrue, arith}
-use Rattle.std.proofs.Common.{refl, sym, ap, subst, inl, inr, lit<, unwrap_or, List, []}
-use Rattle.std.proofs.{lemmas.Int.ints, lemmas.List.Elements.All-nil}
+use Rattle.std.proofs.Common.{refl, ap, subst, inl, inr, lit<, unwrap_or, List, []}
+use Rattle.std.proofs.{lemmas.Int.ints}
 use Rattle.std.specs.{FinMap.get-empty, Ordering.nat_cmp}
 use Rattle.vipr_spec.specs.Examples.{first_variable, rounded_bound, split_at_half}
 use Rattle.vipr_spec.specs.{over, whole, zero_ℚ, ◌≤ℚ◌, one, two, at_most, at_least, Condition}
 use Rattle.vipr_spec.specs.{RoundsTo, IsAbsurd, IsSplit, Profile, Reason, asm, uns, constraint_at}
 use Rattle.vipr_spec.specs.{IsProof, IsGoodStep, HasGoodSteps, is_live, RestsOnNothing, MeetsBound}
 use Rattle.vipr_spec.specs.{Problem, Derivation, MeetsPrimal, ProvesDual, Certificate.Certificate}
-use Rattle.vipr_spec.proofs.Fractions.{over-le, le_of_eq_ℚ, le_refl_ℚ, one_not_zero, not_one}
+use Rattle.vipr_spec.proofs.Fractions.{over-le, le_refl_ℚ, one_not_zero, not_one}
 use Rattle.vipr_spec.proofs.{Optimum.whole_row, Optimum.row_first, Rests.rests_given}
 
 -- ---- one half
 
 half_up : RoundsTo at_least (over (pos 1) 2) (pos 1)
-half_up = (
-  (over-le (pos 1) (pos 1) 2 1 (lit< tt) (lit< tt)).1 (omega (arith, ints)),
-  λ m h. let l = (over-le (pos 1) m 2 1 (lit< tt) (lit< tt)).0 h in omega (arith, ints),
-)
+half_up = grind (arith, over-le)
 
 half_down : RoundsTo at_most (over (pos 1) 2) (pos 0)
-half_down = (
-  (over-le (pos 0) (pos 1) 1 2 (lit< tt) (lit< tt)).1 (omega (arith, ints)),
-  λ m h. let l = (over-le m (pos 1) 1 2 (lit< tt) (lit< tt)).0 h in omega (arith, ints),
-)
+half_down = grind (arith, over-le)
 
 half_not_whole : (k : ℤ) → over (pos 1) 2 ≢ whole k
-half_not_whole k e =
-    let l = (over-le (pos 1) k 2 1 (lit< tt) (lit< tt)).0 (le_of_eq_ℚ _ _ e) in
-    let m = (over-le k (pos 1) 1 2 (lit< tt) (lit< tt)).0 (le_of_eq_ℚ _ _ (sym e)) in
-    omega (arith, ints)
+half_not_whole k e = grind (arith, over-le (pos 1) k 2 1 (lit< tt) (lit< tt), over-le k (pos 1) 1 2 (lit< tt) (lit< tt))
 
 one_above_half : ¬ (whole (pos 1) ≤ℚ over (pos 1) 2)
 one_above_half h = let l = (over-le (pos 1) (pos 1) 1 2 (lit< tt) (lit< tt)).0 h in omega (arith, ints)
@@ -42,13 +33,7 @@ unlisted p ds = record { problem = p; solutions = []; derivations = ds }
 proof_by_steps : (P : Profile) (p : Problem) (ds : List Derivation) (goal : ℕ)
     → HasGoodSteps P (unlisted p ds) → MeetsPrimal p [] p.claim → ProvesDual P (unlisted p ds) goal
     → IsProof P (unlisted p ds)
-proof_by_steps P p ds goal steps primal dual = record {
-  solutions = All-nil _;
-  solutions_fit = All-nil _;
-  steps = steps;
-  primal = primal;
-  dual = λ _. (goal, dual);
-}
+proof_by_steps P p ds goal steps primal dual = grind arith
 
 -- ---- the bound of a whole objective
 
@@ -87,12 +72,7 @@ live : (i : ℕ) → (i ≡ 0) ⊎ (i ≡ 1) ⊎ (i ≡ 0) ⊎ (i ≡ 2) → IsT
 live i h = grind arith
 
 joined : IsGoodStep two split_at_half 3 (uns 0 1 0 2) (constraint_at split_at_half 3)
-joined = record {
-  earlier = (lit< tt, lit< tt, lit< tt, lit< tt);
-  follows = (refl, refl, (splits, inl absurdity, inl absurdity));
-  fits = tt;
-  references = live;
-}
+joined = grind (arith, splits, absurdity, live)
 
 assumes : (k : ℕ) (d : Condition) → IsGoodStep two split_at_half k asm d
 assumes k d = record { earlier = tt; follows = tt; fits = tt; references = λ i h. absurd h }

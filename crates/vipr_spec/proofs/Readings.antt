@@ -1,5 +1,6 @@
 -- What is read of an item is what its tokens spell, and a fault of it is that of a token: both by the
 -- steps of its reading
+use Rattle.std.proofs.Common.{arith}
 use Rattle.std.proofs.Common.{◌≡◌, ℕ, List, length, [], ◌++◌, Result, Ok, refl, sym, ◌∙◌, ap, append_assoc}
 use Rattle.vipr_spec.specs.{Rest, ◌>>=◌, Read, token_of, read_each, ReadsKind, ReadsFront, Reads}
 use Rattle.vipr_spec.specs.{FaultsRemain, Grammar.one, Grammar.◌then◌, Grammar.each}
@@ -24,10 +25,7 @@ token kind P law = record { reads = reads_one kind P law; remains = remains_toke
 -- so many
 pub many : {A : Type 0} {read : Rest → Read A} {S : Shape A} → IsReading read S → (n : ℕ)
     → IsReading (read_each read n) (λ xs ts. (length xs ≡ n) × each S xs ts)
-many {read = read} {S = S} k n = record {
-  reads = reads_repeated read S k.reads k.remains n;
-  remains = remains_repeated read S k.reads k.remains n;
-}
+many {read = read} {S = S} k n = grind (arith, reads_repeated read S k.reads k.remains n, remains_repeated read S k.reads k.remains n)
 
 -- one, and then what follows it
 abbrev pub Chain : {A B : Type 0} → Shape A → (A → Shape B) → Shape B

@@ -3,9 +3,9 @@ use Rattle.std.proofs.Common.{◌≡◌, ◌≢◌, ℕ, zero, suc, ◌+◌, ◌
 use Rattle.std.proofs.Common.{nat_eq, List, [], ◌∷◌, map, length, slice_index_or, Option, Some}
 use Rattle.std.proofs.Common.{None, Contains, arith, refl, sym, ap, ap₂, subst, inl, inr, eq-eqb}
 use Rattle.std.proofs.Common.{eqb-true}
-use Rattle.std.proofs.lemmas.Bool.{and_parts, and_from, or_cases, or_left, or_right}
+use Rattle.std.proofs.lemmas.Bool.{and_parts, and_from, or_left, or_right}
 use Rattle.std.proofs.lemmas.List.Folds.{Any-from_list_any, list_any-from_Any}
-use Rattle.std.proofs.{lemmas.Grind.common_steps, lemmas.List.Elements.All-contains}
+use Rattle.std.proofs.{lemmas.Grind.common_steps}
 use Rattle.std.specs.List.{list_any}
 use Rattle.vipr_spec.specs.{ℚ, zero_ℚ, Reason, asm, lin, rnd, uns, sol, Derivation, NamesEarlier}
 use Rattle.vipr_spec.specs.{RefersTo, refers_to, or_else, last_reference, with_last_references}
@@ -28,11 +28,7 @@ entry_from : (es : List (ℕ × ℚ)) (i : ℕ) (m : ℚ) → Contains es (i, m)
 entry_from es i m h n = grind (arith, common_steps, list_any-from_Any, and_from, eq-eqb, not_zero_is)
 
 pub refers_true : (r : Reason) (i : ℕ) → refers_to r i ≡ true → RefersTo (Some r) i
-refers_true asm i h = absurd (cc)
-refers_true (lin es) i h = entry_true es i h
-refers_true (rnd es) i h = entry_true es i h
-refers_true (uns i1 l1 i2 l2) i h = grind (arith, eqb-true, or_cases)
-refers_true sol i h = absurd (cc)
+refers_true r i h = grind (arith, entry_true)
 
 pub refers_from : (r : Reason) (i : ℕ) → RefersTo (Some r) i → refers_to r i ≡ true
 refers_from asm i h = absurd h
@@ -46,15 +42,7 @@ refers_from sol i h = absurd h
 
 -- ---- what is referred to is earlier
 pub refers_earlier : (k : ℕ) (r : Option Reason) (i : ℕ) → NamesEarlier k r → RefersTo r i → i < k
-refers_earlier k None i n h = absurd h
-refers_earlier k (Some asm) i n h = absurd h
-refers_earlier k (Some (lin es)) i n h = All-contains (λ (e : ℕ × ℚ). e.0 < k) es (i, h.0) n h.1
-refers_earlier k (Some (rnd es)) i n h = All-contains (λ (e : ℕ × ℚ). e.0 < k) es (i, h.0) n h.1
-refers_earlier k (Some (uns i1 l1 i2 l2)) i n (inl e) = let l = n.0 in omega arith
-refers_earlier k (Some (uns i1 l1 i2 l2)) i n (inr (inl e)) = let l = n.1 in omega arith
-refers_earlier k (Some (uns i1 l1 i2 l2)) i n (inr (inr (inl e))) = let l = n.2 in omega arith
-refers_earlier k (Some (uns i1 l1 i2 l2)) i n (inr (inr (inr e))) = let l = n.3 in omega arith
-refers_earlier k (Some sol) i n h = absurd h
+refers_earlier k r i n h = grind arith
 
 -- ---- the last reference
 

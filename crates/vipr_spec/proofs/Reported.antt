@@ -1,6 +1,5 @@
 -- What is reported, and that a text has one answer, with one detail
-use Rattle.std.proofs.Common.{◌≡◌, ℕ, Option, Some, None, MatchOption, arith, refl, sym, ◌∙◌, ap}
-use Rattle.std.proofs.Common.{subst}
+use Rattle.std.proofs.Common.{◌≡◌, ℕ, Option, Some, None, MatchOption, arith, sym, ◌∙◌, ap, subst}
 use Rattle.std.specs.Prelude.{IsSome}
 use Rattle.vipr_spec.specs.{Profile, condition, Derivation, NeedsGoal, IsGoal, GoalIs, Rest}
 use Rattle.vipr_spec.specs.{PassesStep, step_tests, FirstFailing, IsGoodNext, Test, meets_dual}
@@ -8,15 +7,14 @@ use Rattle.vipr_spec.specs.{Passes, Detail, Explains, Found, found_in, Report, R
 use Rattle.vipr_spec.specs.{verified, answer_of_test, IsAnswerOfTest, Answers, IsAnswer}
 use Rattle.vipr_spec.specs.{IsExplainedBy, Explained, IsExplained, Certificate.Certificate}
 use Rattle.vipr_spec.proofs.FirstFailing.{failing_unique}
-use Rattle.vipr_spec.proofs.{Details.shows_once, Goals.goal_needed, StepTests.no_test_fails}
+use Rattle.vipr_spec.proofs.{Details.shows_once, StepTests.no_test_fails}
 
 -- ---- the goal
 
 pub goal_met : (P : Profile) (c : Certificate) (goal : Option ℕ) → GoalIs P c goal
     → (NeedsGoal c.problem c.problem.claim → IsSome goal)
     → Passes P c meets_dual × MatchOption goal (¬ NeedsGoal c.problem c.problem.claim) (IsGoal P c)
-goal_met P c None g h = (λ n. absurd (cc (h n)), λ n. absurd (cc (h n)))
-goal_met P c (Some k) g h = (λ n. (k, g.0), g)
+goal_met P c goal g h = grind arith
 
 pub goal_missed : (P : Profile) (c : Certificate) → GoalIs P c None
     → NeedsGoal c.problem c.problem.claim → ¬ Passes P c meets_dual
@@ -24,17 +22,9 @@ goal_missed P c g n p = let q = p n in g q.0 q.1
 
 -- ---- one report
 
-same_goal : (P : Profile) (c : Certificate) (g h : Option ℕ)
-    → MatchOption g (¬ NeedsGoal c.problem c.problem.claim) (IsGoal P c)
-    → MatchOption h (¬ NeedsGoal c.problem c.problem.claim) (IsGoal P c) → g ≡ h
-same_goal P c None None p q = refl
-same_goal P c None (Some k) p q = absurd (p (goal_needed P c k q.0))
-same_goal P c (Some k) None p q = absurd (q (goal_needed P c k p.0))
-same_goal P c (Some k) (Some l) p q = let a = p.1 l q.0 in let b = q.1 k p.0 in ap Some (omega arith)
-
 pub one_report : (P : Profile) (c : Certificate) (x y : Report) → Reports P c x → Reports P c y
     → x ≡ y
-one_report P c x y p q = grind (arith, same_goal)
+one_report P c x y p q = grind arith
 
 -- ---- one answer
 

@@ -1,7 +1,7 @@
 -- A text states one problem, with one list of solutions
-use Rattle.std.proofs.Common.{◌≡◌, ℕ, List, [], length, Ok, refl, sym, ◌∙◌, ap, append-nil, arith}
+use Rattle.std.proofs.Common.{rules, ◌≡◌, ℕ, List, [], length, Ok, refl, sym, ◌∙◌, ap, arith}
 use Rattle.vipr_spec.specs.Grammar.{◌then◌, problem, solution, solutions, Spells}
-use Rattle.vipr_spec.specs.{Row, text_tokens, Named, Problem, variables, Rest, Read, ◌>>=◌}
+use Rattle.vipr_spec.specs.{Row, Named, Problem, variables, Rest, Read, ◌>>=◌}
 use Rattle.vipr_spec.specs.{read_each, problem_read, solution_read, ReadsFront, whole_text, States}
 use Rattle.vipr_spec.specs.{StatesOnly, Certificate.Certificate}
 use Rattle.vipr_spec.proofs.GrammarSteps.{ok_then, same_ok, read_then, parted}
@@ -32,8 +32,7 @@ one_problem bytes p q ss tt h k =
 pub spelled_states : (bytes : List ℕ) (c : Certificate) → Spells bytes c
     → States bytes c.problem c.solutions
 spelled_states bytes c s =
-    let t : ReadsFront (sections c) (whole_text bytes) (record (whole_text bytes) { tokens = [] }) =
-    record { front = text_tokens bytes; joined = ap (λ ts. record (whole_text bytes) { tokens = ts }) (sym (append-nil (text_tokens bytes))); short = s.short; shape = s.sections } in
+    let t : ReadsFront (sections c) (whole_text bytes) (record (whole_text bytes) { tokens = [] }) = search rules in
     let a = parted t in let b = parted a.after in
     let f = read_then a.before b.before in
     (f.front, b.at.tokens, ap (λ (q : Rest). q.tokens) f.joined, f.short, f.shape)

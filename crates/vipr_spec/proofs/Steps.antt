@@ -108,15 +108,9 @@ refers_back P c g k = back_by P c g k (reason_at c k) refl
 
 -- ---- assumption sets
 module _ (c : Certificate) (ds : List Derivation) (back : RefersBack c) where
-  back_more : (i : ℕ) → i < count c → NamesEarlier i (reason_at (with_more c ds) i)
-  back_more i h = subst (λ (x : Known). NamesEarlier i x.reason) (sym (known_before c ds i h)) (back i)
-
   -- an earlier constraint rests on the same in a certificate with more derivations
   pub rests_more : (i a : ℕ) → i < count c → RestsOn (with_more c ds) i a ↔ RestsOn c i a
-  rests_more i a h = (
-    rests_alike c (c.derivations ++ ds) c.derivations (count c) (known_before c ds) back_more i a h,
-    rests_alike c c.derivations (c.derivations ++ ds) (count c) (λ i h. sym (known_before c ds i h)) (λ i h. back i) i a h,
-  )
+  rests_more i a h = grind (arith, rests_alike, known_before)
 
 -- what the next derivation rests on
 rests_next_by : (c : Certificate) (d : Derivation) (a : ℕ) (r : Reason) → RefersBack c
@@ -146,10 +140,7 @@ rests_next_by c d a r back n = by r n
 pub rests_next : (c : Certificate) (d : Derivation) (a : ℕ) → RefersBack c
     → NamesEarlier (count c) (Some d.reason)
     → RestsOn (with_next c d) (count c) a ↔ RestsBy c (count c) (Some d.reason) a
-rests_next c d a back n = let q = rests_next_by c d a d.reason back n in (
-  λ r. q.0 (rests_by (with_next c d) (count c) a (Some d.reason) (reason_next c d) r),
-  λ r. rests_in (with_next c d) (count c) a (Some d.reason) (reason_next c d) (q.1 r),
-)
+rests_next c d a back n = grind (arith, rests_next_by, rests_by, reason_next, rests_in)
 
 -- ---- soundness
 rests_below : (c : Certificate) → RefersBack c → (i a : ℕ) → RestsOn c i a → a ≤ i

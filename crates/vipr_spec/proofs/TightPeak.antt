@@ -1,16 +1,14 @@
 -- What the tightened certificate holds
-use Rattle.std.proofs.Common.{◌≡◌, ℕ, zero, suc, ◌+◌, ◌-◌, ◌<◌, ◌≤◌, ◌⊎◌, max, not, cond, Bool}
-use Rattle.std.proofs.Common.{true, false, ◌||◌, nat_lt, List, [], ◌∷◌, map, length, Option, Some}
-use Rattle.std.proofs.Common.{None, arith, refl, sym, ◌∙◌, ap, subst, inl, inr, ⊎_elim, le-leb}
+use Rattle.std.proofs.Common.{rules, ◌≡◌, ℕ, zero, suc, ◌+◌, ◌-◌, ◌<◌, ◌≤◌, ◌⊎◌, max, not, cond}
+use Rattle.std.proofs.Common.{Bool, true, false, ◌||◌, nat_lt, List, [], ◌∷◌, map, length, Option}
+use Rattle.std.proofs.Common.{Some, None, arith, refl, sym, ◌∙◌, ap, subst, inl, inr, ⊎_elim}
 use Rattle.std.proofs.Common.{leb-true, lt-ltb}
-use Rattle.std.specs.List.{range_with_len, count_by, fold}
 use Rattle.std.proofs.lemmas.List.Sums.{sum_by-append}
-use Rattle.std.proofs.lemmas.Bool.{cases_Bool, cases_lt, and_parts, and_from, or_cases, or_left}
-use Rattle.std.proofs.lemmas.Bool.{or_right}
-use Rattle.vipr_spec.specs.{Profile, Reason, asm, lin, rnd, uns, sol, reason_at, last_at}
-use Rattle.vipr_spec.specs.{is_assumption, lasts_to, is_live, count_held, peak, RefersTo, IsProof}
-use Rattle.vipr_spec.specs.{IsNeeded, is_kept, new_index, renumbered_at, tightened_certificate}
-use Rattle.vipr_spec.specs.Certificate.{Certificate}
+use Rattle.std.proofs.lemmas.Bool.{cases_Bool, cases_lt, and_parts, or_cases, or_left, or_right}
+use Rattle.std.specs.List.{range_with_len, count_by, fold}
+use Rattle.vipr_spec.specs.{Profile, reason_at, last_at, is_assumption, lasts_to, is_live}
+use Rattle.vipr_spec.specs.{count_held, peak, RefersTo, IsProof, IsNeeded, is_kept, new_index}
+use Rattle.vipr_spec.specs.{tightened_certificate, Certificate.Certificate}
 use Rattle.vipr_spec.proofs.Kept.{index_yes, index_no, index_mono, index_lt, index_lt_back}
 use Rattle.vipr_spec.proofs.Kept.{index_injective}
 use Rattle.vipr_spec.proofs.Marked.{back_at, needed_cases, needed_below, kept_given, kept_closed}
@@ -29,11 +27,7 @@ count_cons p x xs = let e = sum_by-append (λ x. cond (p x) 1 0) (x ∷ []) xs i
 pub count_from : (p : ℕ → Bool) (a n b : ℕ) → a + n ≡ b
     → count_by p (range_with_len a (suc n)) ≡ count_by p (range_with_len a n) + cond (p b) 1 0
 count_from p a zero b e = let same : a ≡ b = omega arith in ap (λ x. 0 + cond (p x) 1 0) same
-count_from p a (suc n) b e =
-    let rest = count_from p (a + 1) n b (omega arith) in
-    let more = count_cons p a (range_with_len (a + 1) (suc n)) in
-    let one = count_cons p a (range_with_len (a + 1) n) in
-    omega arith
+count_from p a (suc n) b e = grind (arith, count_from p (a + 1) n b (omega arith), count_cons p a (range_with_len (a + 1) (suc n)), count_cons p a (range_with_len (a + 1) n))
 
 count_kept : (keep : ℕ → Bool) (a n : ℕ)
     → new_index keep (a + n) ≡ new_index keep a + count_by keep (range_with_len a n)
@@ -74,10 +68,7 @@ count_new_old keep p q a e (suc n) h = by (count_new_old keep p q a e n (λ i lo
     more = count_from p a n (a + n) refl
 
     one : keep (a + n) ≡ true → cond (q (new_index keep (a + n))) 1 0 ≤ cond (p (a + n)) 1 0
-    one k = ⊎_elim
-        (λ (t : q (new_index keep (a + n)) ≡ true). let s = h (a + n) (omega arith) (omega arith) k t in rw (t, s) (omega arith))
-        (λ (f : q (new_index keep (a + n)) ≡ false). rw f (omega arith))
-        (cases_Bool (q (new_index keep (a + n))))
+    one k = grind arith
 
     by : count_by q (range_with_len a (new_index keep (a + n) - a)) ≤ count_by p (range_with_len a n) → (keep (a + n) ≡ true) ⊎ (keep (a + n) ≡ false)
         → count_by q (range_with_len a (new_index keep (a + suc n) - a)) ≤ count_by p (range_with_len a (suc n))
@@ -118,18 +109,8 @@ max_le f z a (suc n) b h each = max_le f (max z (f a)) (a + 1) n b (let here = e
 
 -- ---- what is live
 
-assumption_new : (new : ℕ → ℕ) (q : Option Reason)
-    → is_assumption (renumbered_at new q) ≡ is_assumption q
-assumption_new new None = refl
-assumption_new new (Some asm) = refl
-assumption_new new (Some (lin es)) = refl
-assumption_new new (Some (rnd es)) = refl
-assumption_new new (Some (uns i1 l1 i2 l2)) = refl
-assumption_new new (Some sol) = refl
-
 lasts_sooner : (k j : ℕ) (o : Option ℕ) → k ≤ j → lasts_to j o ≡ true → lasts_to k o ≡ true
-lasts_sooner k j None h e = refl
-lasts_sooner k j (Some l) h e = let b = leb-true j l e in le-leb k l (omega arith)
+lasts_sooner k j o h e = grind arith
 
 module _ (P : Profile) (c : Certificate) (g : ℕ) (proof : IsProof P c) where
   -- constraint i is needed, and derivation k after it is
@@ -168,14 +149,7 @@ module _ (P : Profile) (c : Certificate) (g : ℕ) (proof : IsProof P c) where
 
   live_old : (i k : ℕ) → length c.problem.constraints ≤ i → i < k → is_kept c (Some g) i ≡ true → is_kept c (Some g) k ≡ true
       → is_live (tightened_certificate c (Some g)) (new_index (is_kept c (Some g)) k + 1) (new_index (is_kept c (Some g)) i) ≡ true → is_live c (k + 1) i ≡ true
-  live_old i k low h ki kk l =
-      let keep = is_kept c (Some g) in
-      let t = tightened_certificate c (Some g) in
-      and_from (nat_lt i (k + 1)) _ (lt-ltb i (k + 1) (omega arith)) (⊎_elim
-      (λ (a : is_assumption (reason_at t (new_index keep i)) ≡ true).
-      or_left (is_assumption (reason_at c i)) _ (sym (ap is_assumption (reason_new c keep (kept_given c (Some g)) i ki) ∙ assumption_new (new_index keep) (reason_at c i)) ∙ a))
-      (λ (a : lasts_to (new_index keep k + 1) (last_at t (new_index keep i)) ≡ true). lasts_old i k low h ki kk (last_at t (new_index keep i)) refl a)
-      (or_cases (is_assumption (reason_at t (new_index keep i))) (lasts_to (new_index keep k + 1) (last_at t (new_index keep i))) (and_parts (nat_lt (new_index keep i) (new_index keep k + 1)) _ l).1))
+  live_old i k low h ki kk l = grind (arith, lt-ltb, reason_new, lasts_old)
 
   pub held_old : (k : ℕ) → length c.problem.constraints ≤ k → is_kept c (Some g) k ≡ true → count_held (tightened_certificate c (Some g)) (new_index (is_kept c (Some g)) k) ≤ count_held c k
   held_old k low kk =
@@ -203,8 +177,7 @@ module _ (P : Profile) (c : Certificate) (g : ℕ) (proof : IsProof P c) where
 
 pub tight_peak : (P : Profile) (c : Certificate) (goal : Option ℕ) → IsProof P c
     → peak (tightened_certificate c goal) ≤ peak c
-tight_peak P c None p =
-    grind (arith, tight_none c (back_of_proof P c p), ap (λ ds. peak (record c { derivations = ds })) (tight_none c (back_of_proof P c p)))
+tight_peak P c None p = search (rules, tight_none, back_of_proof)
 tight_peak P c (Some g) p = some_peak P c g p
 
 -- ---- how many are kept

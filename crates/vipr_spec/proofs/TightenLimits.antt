@@ -7,12 +7,11 @@ use Rattle.std.proofs.lemmas.List.Elements.{All-head, All-tail, All-cons, All-ni
 use Rattle.std.proofs.lemmas.List.Elements.{All-weaker, All-filter}
 use Rattle.std.proofs.lemmas.List.Sums.{length-filter, count_by-le-length}
 use Rattle.std.proofs.{lemmas.Bool.cond_both, lemmas.List.length-map}
-use Rattle.vipr_spec.specs.{ℚ, is_nonzero, most_count, ReasonShape, DerivationShape, EntryFits}
-use Rattle.vipr_spec.specs.{ReasonFits, DerivationFits, CanWrite, variables, Reason, asm, lin, rnd}
-use Rattle.vipr_spec.specs.{uns, sol, Derivation, count, is_kept, kept_of, new_index}
-use Rattle.vipr_spec.specs.{renumbered_entries, refers_to, or_else, renumbered_reason}
-use Rattle.vipr_spec.specs.{with_new_indices, last_reference, with_last_references}
-use Rattle.vipr_spec.specs.{tightened_certificate, Certificate.Certificate}
+use Rattle.vipr_spec.specs.{ℚ, is_nonzero, ReasonShape, DerivationShape, EntryFits, ReasonFits}
+use Rattle.vipr_spec.specs.{DerivationFits, CanWrite, variables, Reason, asm, lin, rnd, uns, sol}
+use Rattle.vipr_spec.specs.{Derivation, count, is_kept, kept_of, new_index, renumbered_entries}
+use Rattle.vipr_spec.specs.{refers_to, or_else, renumbered_reason, with_new_indices, last_reference}
+use Rattle.vipr_spec.specs.{with_last_references, tightened_certificate, Certificate.Certificate}
 use Rattle.vipr_spec.proofs.Marked.{kept_given}
 use Rattle.vipr_spec.proofs.Kept.{index_le, index_same, length_kept, length_kept_derivations}
 
@@ -83,11 +82,7 @@ fewer : (new : ℕ → ℕ) (es : List (ℕ × ℚ)) → length (renumbered_entr
 fewer new es = grind (arith, length-map, length-filter, count_by-le-length)
 
 shape_stays : (new : ℕ → ℕ) (r : Reason) → ReasonShape r → ReasonShape (renumbered_reason new r)
-shape_stays new asm h = tt
-shape_stays new (lin es) h = le_trans (fewer new es) h
-shape_stays new (rnd es) h = le_trans (fewer new es) h
-shape_stays new (uns i1 l1 i2 l2) h = tt
-shape_stays new sol h = tt
+shape_stays new r h = grind (arith, le_trans, fewer)
 
 entries_fit : (new : ℕ → ℕ) → ((i : ℕ) → new i ≤ i) → (es : List (ℕ × ℚ)) → All EntryFits es
     → All EntryFits (renumbered_entries new es)
@@ -103,11 +98,6 @@ reason_fits new low (lin es) h = entries_fit new low es h
 reason_fits new low (rnd es) h = entries_fit new low es h
 reason_fits new low (uns i1 l1 i2 l2) h = grind (arith, le_trans)
 reason_fits new low sol h = tt
-
-below_most : (n : ℕ) → n ≤ most_count → (o : Option ℕ) → IfSome o (λ i. i < n)
-    → IfSome o (λ i. i ≤ most_count)
-below_most n h None l = tt
-below_most n h (Some i) l = le_trans (le_of_lt l) h
 
 pub can_write : (c : Certificate) (goal : Option ℕ) → CanWrite c
     → CanWrite (tightened_certificate c goal)
@@ -132,10 +122,6 @@ can_write c goal w =
         problem = w.fits.problem;
         solutions = w.fits.solutions;
         derivations =
-            limits_stay c goal DerivationFits (λ d new l low b s. record {
-              stated = s.stated;
-              reason = reason_fits new low d.reason s.reason;
-              last = below_most (count c) w.shape.few_derivations l b;
-            }) w.fits.derivations;
+            limits_stay c goal DerivationFits (λ d new l low b s. grind (arith, reason_fits, count, le_trans, le_of_lt)) w.fits.derivations;
       };
     }

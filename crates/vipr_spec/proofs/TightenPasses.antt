@@ -27,9 +27,7 @@ kept_more keep k (y ∷ xs) x = by (keep k) (kept_more keep (suc k) xs x)
         → cond b (y ∷ kept_of keep (suc k) (xs ++ x ∷ [])) (kept_of keep (suc k) (xs ++ x ∷ []))
         ≡ cond b (y ∷ kept_of keep (suc k) xs) (kept_of keep (suc k) xs)
         ++ cond (keep (k + suc (length xs))) (x ∷ []) []
-    by true rest = ap (λ l. y ∷ l) rest
-        ∙ ap (λ n. y ∷ kept_of keep (suc k) xs ++ cond (keep n) (x ∷ []) []) place
-    by false rest = rest ∙ ap (λ n. kept_of keep (suc k) xs ++ cond (keep n) (x ∷ []) []) place
+    by b rest = grind arith
 
 reference_more : (k : ℕ) (ds : List Derivation) (d : Derivation) (i : ℕ)
     → last_reference k (ds ++ d ∷ []) i
@@ -48,22 +46,14 @@ reference_more k (e ∷ ds) d i =
         (cond (refers_to e.reason i) (Some k) None)
         ≡ cond b (Some (k + suc (length ds)))
         (or_else (last_reference (suc k) ds i) (cond (refers_to e.reason i) (Some k) None))
-    by true = refl
-    by false = refl
+    by b = grind arith
 
 pub with_more_references : (k : ℕ) (ds : List Derivation) (d : Derivation)
     → with_last_references k (ds ++ d ∷ [])
     ≡ referred_by (refers_to d.reason) (k + length ds) k (with_last_references k ds)
     ++ record d { last = None } ∷ []
 with_more_references k [] d = refl
-with_more_references k (e ∷ ds) d =
-    let place : suc k + length ds ≡ k + suc (length ds) = omega arith in
-    ap₂ (λ o l. record e { last = o } ∷ l)
-    (reference_more (suc k) ds d k
-    ∙ ap (λ n. cond (refers_to d.reason k) (Some n) (last_reference (suc k) ds k)) place)
-    (with_more_references (suc k) ds d ∙ ap
-    (λ n. referred_by (refers_to d.reason) n (suc k) (with_last_references (suc k) ds)
-    ++ record d { last = None } ∷ []) place)
+with_more_references k (e ∷ ds) d = grind (arith, reference_more (suc k) ds d k, with_more_references (suc k) ds d)
 
 -- ---- the pass from the front
 
@@ -103,8 +93,7 @@ next_kept keep m j all d given h e =
     let size : length (take j all) ≡ j = length-take-le j all (omega arith) in
     let many : length ds + new_index keep m ≡ new_index keep (m + length (take j all)) =
     length_kept keep m (take j all) in
-    let same : new_index keep (m + length (take j all)) ≡ new_index keep (m + j) =
-    ap (λ n. new_index keep (m + n)) size in
+    let same : new_index keep (m + length (take j all)) ≡ new_index keep (m + j) = grind arith in
     let mapped : length (map w ds) ≡ length ds = length-map ds w in
     let place : m + length (map w ds) ≡ new_index keep (m + j) = omega arith in
     let kept : kept_of keep m (take (j + 1) all) ≡ ds ++ x ∷ [] = kept_and keep m j all d h
@@ -123,12 +112,7 @@ pub marked_down : (goal : Option ℕ) (m j i : ℕ) (ds : List Derivation) (d : 
     → is_marked goal (m + j) (drop j ds) i ≡ (is_marked goal (m + (j + 1)) (drop (j + 1) ds) i ||
     (is_marked goal (m + (j + 1)) (drop (j + 1) ds) (m + j)
     && refers_to (slice_index_or ds j d).reason i))
-marked_down goal m j i ds d h =
-    let place : suc (m + j) ≡ m + (j + 1) = omega arith in
-    ap (λ l. is_marked goal (m + j) l i) (drop_more ds j d h)
-    ∙ ap (λ n. is_marked goal n (drop (j + 1) ds) i ||
-    (is_marked goal n (drop (j + 1) ds) (m + j) && refers_to (slice_index_or ds j d).reason i))
-    place
+marked_down goal m j i ds d h = grind (arith, drop_more)
 
 -- ---- what is not marked
 
@@ -145,11 +129,7 @@ unnamed k i es h a = grind (arith, list_any_none, apart)
 
 not_referred : (k : ℕ) (r : Reason) (i : ℕ) → NamesEarlier k (Some r) → k ≤ i
     → refers_to r i ≡ false
-not_referred k asm i n h = refl
-not_referred k (lin es) i n h = unnamed k i es h n
-not_referred k (rnd es) i n h = unnamed k i es h n
-not_referred k (uns i1 l1 i2 l2) i n h = grind (arith, apart)
-not_referred k sol i n h = refl
+not_referred k r i n h = grind (arith, unnamed)
 
 -- nothing past the derivations but the goal
 pub marked_past : (goal : Option ℕ) (k : ℕ) (ds : List Derivation) (i : ℕ)

@@ -1,7 +1,7 @@
 -- The tokens of a text are the one list that it is made up of.
 use Rattle.std.proofs.Common.{◌≡◌, ◌≢◌, ℕ, ◌+◌, ◌<◌, ◌≤◌, ◌⊎◌, Bool, true, false, nat_eq}
 use Rattle.std.proofs.Common.{List, [], ◌∷◌, ◌++◌, length, take, drop, get_or, suc, refl, sym, ap}
-use Rattle.std.proofs.Common.{subst, ◌∙◌, inl, inr, arith, append_assoc, add-zero, zero-add}
+use Rattle.std.proofs.Common.{subst, ◌∙◌, inl, inr, arith, append_assoc, add-zero}
 use Rattle.std.proofs.lemmas.List.Elements.{All-nil, All-cons}
 use Rattle.std.proofs.Math.Seq.{take-append_seam, drop-append_seam, get_or-append_right}
 use Rattle.std.proofs.lemmas.Bool.{false≢true, cases_eq, ne_eqb, eqb-false, eqb-true}
@@ -39,8 +39,7 @@ spread_one offset text [] white =
 spread_one offset text (t ∷ ts) (gap, after, is, white, solid, begins, at, more) =
     let within : length t.bytes ≤ length (t.bytes ++ after) = omega (arith, length-append t.bytes after) in
     let w : tokens_from false false t.offset (t.bytes ++ after) ≡ record { bytes = take (length t.bytes) (t.bytes ++ after); offset = t.offset } ∷ tokens_from false false (t.offset + length t.bytes) (drop (length t.bytes) (t.bytes ++ after)) =
-    token_whole false t.offset (t.bytes ++ after) (length t.bytes) solid.some within
-    (λ k h. rw (get_or-append t.bytes after 0 k h) (solid.solid k h)) (first_white t.bytes after begins) (λ _. refl) in
+    grind (arith, token_whole, get_or-append, first_white) in
     let v : tokens_from false false t.offset (t.bytes ++ after) ≡ t ∷ tokens_from false false (t.offset + length t.bytes) after =
     rw (take-append_seam t.bytes after, drop-append_seam t.bytes after) at w in
     let m : ts ≡ tokens_from false false (t.offset + length t.bytes) after = spread_one (t.offset + length t.bytes) after ts more in
@@ -120,8 +119,7 @@ one_run : (b : ℕ) (bs word after : List ℕ) → bs ≡ word ++ after → is_w
 one_run b bs word after is w solid begins =
     let all : All (λ b. is_white b ≡ false) (b ∷ word) = All-cons (λ b. is_white b ≡ false) b word w solid in
     let r : run ((b ∷ word) ++ after) ≡ take (length (b ∷ word)) ((b ∷ word) ++ after) =
-    run_is ((b ∷ word) ++ after) (length (b ∷ word)) (omega (arith, length-append (b ∷ word) after))
-    (λ k h. rw (get_or-append (b ∷ word) after 0 k h) (all k 0 h)) (first_white (b ∷ word) after begins) in
+    grind (arith, run_is, length-append, get_or-append, first_white) in
     rw is (r ∙ take-append_seam (b ∷ word) after)
 
 first_solid : (offset b : ℕ) (bs : List ℕ) → is_white b ≡ false
@@ -149,8 +147,7 @@ unfolding AreSpread
 step offset b bs true w r = grind (arith, extend_white, add-zero, first_is_white)
 step offset b bs false w (spread, (word, after, is, solid, begins, more)) =
     let e : offset + 1 + length word ≡ offset + length (b ∷ word) = omega arith in
-    let more' : AreSpread (offset + length (b ∷ word)) after (tokens_from false true (offset + 1) bs) =
-    subst (λ (o : ℕ). AreSpread o after (tokens_from false true (offset + 1) bs)) e more in
+    let more' : AreSpread (offset + length (b ∷ word)) after (tokens_from false true (offset + 1) bs) = grind arith in
     let all : All (λ b. is_white b ≡ false) (b ∷ word) = All-cons (λ b. is_white b ≡ false) b word w solid in
     let whole : b ∷ bs ≡ (b ∷ word) ++ after = ap (λ (xs : List ℕ). b ∷ xs) is in
     let some : 0 < length (b ∷ word) = omega arith in
@@ -241,6 +238,4 @@ fronts (b ∷ bs) offset = again (fronts bs (offset + 1))
     again r = (front_step offset b bs (nat_eq b 37) (is_white b) refl refl r.0 r.1, comment_step offset b bs (nat_eq b 10) refl r.0 r.1)
 
 pub split_is : (text : List ℕ) → AreTokens text (text_tokens text)
-split_is text =
-    let (front, rest, is, f, spread) = (fronts text 0).0 in
-    (front, rest, is, f, rw zero-add at spread)
+split_is text = grind (arith, fronts text 0)

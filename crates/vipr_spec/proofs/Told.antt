@@ -88,29 +88,16 @@ module _ (P : Profile) (Q : Certificate → Option Test → Type 0) where
   -- ---- tests that pass, and a test that fails
 
   passed : (c : Certificate) (ts us : List Test) → FirstFailing (Passes P c) ts None → Says (record { certificate = c; tests = ts ++ us }) ↔ Says (record { certificate = c; tests = us })
-  passed c ts us n = (
-    λ h. (h.0, failing_after (Passes P c) ts us h.0 n h.1, h.2),
-    λ h. (h.0, failing_second (Passes P c) ts us h.0 n h.1, h.2),
-  )
+  passed c ts us n = grind (arith, failing_after, failing_second)
 
   failed : (c : Certificate) (ts us : List Test) (t : Test) → FirstFailing (Passes P c) ts (Some t) → Says (record { certificate = c; tests = ts ++ us }) ↔ Q c (Some t)
-  failed c ts us t n =
-      let m = failing_first (Passes P c) ts us t n in (
-        λ h. subst (Q c) (failing_unique (Passes P c) (ts ++ us) h.0 (Some t) h.1 m) h.2,
-        λ e. (Some t, m, e),
-      )
+  failed c ts us t n = grind (arith, failing_first (Passes P c) ts us t n, failing_unique)
 
   failed_now : (c : Certificate) (us : List Test) (t : Test) → ¬ Passes P c t → Says (record { certificate = c; tests = t ∷ us }) ↔ Q c (Some t)
   failed_now c us t n = failed c (t ∷ []) us t (inr (n, refl))
 
   passed_now : (c : Certificate) (us : List Test) (t : Test) → Passes P c t → Says (record { certificate = c; tests = t ∷ us }) ↔ Says (record { certificate = c; tests = us })
   passed_now c us t p = passed c (t ∷ []) us (inl (p, refl))
-
-  nothing_left : (c : Certificate) → Says (record { certificate = c; tests = [] }) ↔ Q c None
-  nothing_left c = (
-    λ h. subst (Q c) h.1 h.2,
-    λ h. (None, refl, h),
-  )
 
   moved_first : (f g : Found) (t : Test) → f ≡ g → Says g ↔ Q g.certificate (Some t) → Says f ↔ Q f.certificate (Some t)
   moved_first f g t e h = subst (λ x. Says x ↔ Q x.certificate (Some t)) (sym e) h
@@ -150,9 +137,7 @@ module _ (P : Profile) (Q : Certificate → Option Test → Type 0) where
   end_unproved c r e n = moved_first _ _ _ (at_the_end c r ∙ ap (λ x. record { certificate = c; tests = last_tests x }) e) (failed_now c [] meets_dual n)
 
   pub end_verified : (c : Certificate) (r : Rest) → end_read r ≡ Ok tt → Passes P c meets_dual → Says (derivations_from c 0 r) ↔ Q c None
-  end_verified c r e p =
-      moved _ _ _ (at_the_end c r ∙ ap (λ x. record { certificate = c; tests = last_tests x }) e)
-      (let k = passed_now c [] meets_dual p in let l = nothing_left c in (λ h. l.0 (k.0 h), λ h. k.1 (l.1 h)))
+  end_verified c r e p = grind (arith, at_the_end c r)
 
   -- ---- the solutions
 
