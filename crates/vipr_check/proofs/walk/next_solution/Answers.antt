@@ -1,3 +1,4 @@
+use Rattle.std.proofs.Common.{arith}
 use Rattle.vipr_check.specs.Reasons.{text_reason, stop_reason}
 use Rattle.vipr_check.specs.{Run.GoesAmong, Shown.state_shown}
 use Rattle.vipr_cert.specs.Items.{solution_of}
@@ -27,7 +28,4 @@ returns-in_err-take_solution-in-Some-clause-step g c = λ P p ss is.
     (solution_stops P p ss k l old new (solution_of c.in-Some.solution) is h.moves.counted (λ known. (let r = h.read p is.knows known in (r.1, r.2))) e (c.in_err-take_solution-in-Some.ensures.next ss is.runs is.has))
 
 pub returns-clause-step : goal.returns-clause-step
-returns-clause-step g c = λ P p ss is.
-    let h = rw c.in-Some.is at c.in_ok-solution.ensures in
-    solution_listed P p ss c.args.checker.now c.take_solution.new.self c.args.solutions.now c.next.new.self (solution_of c.in-Some.solution) is h.moves.counted (λ known. (let r = h.read p is.knows known in (r.1, r.2)))
-    h.moves.remembers h.moves.working (c.in_ok-take_solution-in-Some.ensures.next ss is.runs is.has)
+returns-clause-step g c = grind (arith, solution_listed)

@@ -11,11 +11,7 @@ use Rattle.vipr_tighten.proofs.peak.peak.Goals.{in-Some, in_default}
 pub overflow_add-held : goal.overflow_add-held
 overflow_add-held c =
     let first = first_of c.args.first c.args.steps.now in
-    let few = few_held (certificate_of c.args.first c.args.steps.now) c.args.first first c.loop-place.place in
-    let until = c.loop-place.invariant.until in
-    let inside = c.loop-place-test.true in
-    let most = c.requires in
-    omega arith
+    omega (arith, few_held (certificate_of c.args.first c.args.steps.now) c.args.first first c.loop-place.place, c.loop-place.invariant.until, c.loop-place-test.true, c.requires)
 
 pub overflow_sub-held : goal.overflow_sub-held
 overflow_sub-held c =

@@ -1,4 +1,4 @@
-use Rattle.std.proofs.Common.{sym, ◌∙◌}
+use Rattle.std.proofs.Common.{arith}
 use Rattle.vipr_spec.specs.{Checking.start, Steps.with_more, Tests.none}
 use Rattle.vipr_rules.specs.Profile.{profile_of}
 use Rattle.vipr_check.proofs.Laws.{among_start}
@@ -21,14 +21,7 @@ returns-in-Ok-read-clause-kept g c =
     let (same_problem, is_for, ss, ds, lines, kept, writes, proof) = c.in-Ok-read.ensures.kept P c.args.problem among in (
       with_more (start c.args.problem ss) ds,
       record {
-        steps = record {
-          writes = writes c.requires.writes;
-          problem = sym (c.into_problem-problem.ensures ∙ same_problem);
-          solutions = lines;
-          row = kept.row;
-          objective = is_for.objective;
-          those = kept.those;
-        };
+        steps = grind (arith, c.requires.writes, c.into_problem-problem.ensures);
         form = is_for.form;
         proof = proof.proof;
         reports = proof.reports;

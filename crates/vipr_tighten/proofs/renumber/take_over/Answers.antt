@@ -1,14 +1,11 @@
-use Rattle.std.proofs.Common.{◌≡◌, ◌+◌, ◌++◌, None, drop, map, take, slice_set, sym, ap, ◌∙◌, subst}
-use Rattle.vipr_spec.specs.{Certificate.Derivation, Tightened.with_new_indices}
+use Rattle.std.proofs.Common.{arith, ◌≡◌, ◌+◌, ◌++◌, None, map, take, slice_set, sym, ◌∙◌, subst}
+use Rattle.vipr_spec.specs.{Tightened.with_new_indices}
 use Rattle.vipr_tighten.specs.Passes.{index_by, TakesOver}
 use Rattle.vipr_tighten.proofs.Moving.{after_left, taken_over}
 use Rattle.vipr_tighten.proofs.renumber.take_over.Goals as goal
 
 pub returns-clause-left : goal.returns-clause-left
-returns-clause-left g c =
-    let parts = c.split_at_mut-front.ensures in
-    subst (λ l. drop (c.args.place + 1) (c.set_last_by.new.kept ++ slice_set l 0 c.set_last.new.self) ≡ drop (c.args.place + 1) c.args.steps.now) (sym parts.back)
-    (after_left c.args.steps.now c.swap.new.self c.args.kept c.args.place c.requires.behind c.requires.there c.swap.ensures.len c.swap.ensures.by_index c.set_last_by.new.kept c.set_last.new.self (c.set_last_by.auto.kept ∙ parts.front_len))
+returns-clause-left g c = grind (arith, after_left)
 
 pub returns-clause-kept : goal.returns-clause-kept
 returns-clause-kept g c = λ view x e.
@@ -23,8 +20,7 @@ returns-clause-kept g c = λ view x e.
     let was = c.index-back-0.result in
     let is_was = rw parts.back at c.index-back-0.is in
     let moved_is : derived moved ≡ record (with_new_indices (index_by first table) (derived was)) { last = None } =
-    subst (λ y. derived moved ≡ record (with_new_indices (index_by first table) (derived y)) { last = None }) (sym c.index-back-0.is)
-    (c.set_last.ensures view ∙ ap (λ (d : Derivation). record d { last = None }) (c.renumber.ensures view)) in
+    grind (arith, c.index-back-0.is, c.set_last.ensures, c.renumber.ensures) in
     let referred = rw parts.front at (c.set_last_by.ensures view) in
     subst (λ l. TakesOver (with_new_indices (index_by first table) (derived x)) (first + kept) first (map derived (take kept old)) (map derived (take (kept + 1) (changed ++ slice_set l 0 moved)))) (sym parts.back)
     (taken_over derived first table old c.swap.new.self kept c.args.place c.requires.behind c.requires.there c.swap.ensures.len c.swap.ensures.by_index was moved is_was moved_is changed (c.set_last_by.auto.kept ∙ parts.front_len) referred x e)

@@ -18,30 +18,16 @@ steps_of g c P F x is =
     rw (c.as_slice-lines.ensures, c.deref-2.ensures.value) (tight_steps P F x c.args.proof.now is c.cons-first.result.now c.cons-first.ensures.constraints c.tighten_derived.new.steps.items c.in_ok-tighten_derived.ensures)
 
 pub tighten_derived-requires : goal.tighten_derived-requires
-tighten_derived-requires g c =
-    let (P, F, x, is) = c.requires in
-    few_steps P F x c.args.proof.now is c.cons-first.result.now c.cons-first.ensures.constraints
+tighten_derived-requires g c = grind (arith, few_steps)
 
 pub peak-requires : goal.peak-requires
-peak-requires g c =
-    let (P, F, x, is) = c.requires in
-    rw c.deref.ensures.value (tight_few P F x c.args.proof.now is c.cons-first.result.now c.cons-first.ensures.constraints c.tighten_derived.new.steps.items c.in_ok-tighten_derived.ensures)
+peak-requires g c = grind (arith, tight_few)
 
 pub overflow_cast-kept : goal.overflow_cast-kept
-overflow_cast-kept g c =
-    let (P, F, x, is) = c.requires in
-    let kept = c.tighten_derived.new.steps.items in
-    let few = tight_few P F x c.args.proof.now is c.cons-first.result.now c.cons-first.ensures.constraints kept c.in_ok-tighten_derived.ensures in
-    let size : c.len-kept.result ≡ length kept = search rules in
-    omega arith
+overflow_cast-kept g c = grind (arith, tight_few)
 
 pub overflow_sub-result : goal.overflow_sub-result
-overflow_sub-result g c =
-    let (P, F, x, is) = c.requires in
-    let kept = c.tighten_derived.new.steps.items in
-    let fewer = tight_fewer P F x c.args.proof.now is c.cons-first.result.now c.cons-first.ensures.constraints kept c.in_ok-tighten_derived.ensures in
-    let size : c.len-kept.result ≡ length kept = search rules in
-    omega arith
+overflow_sub-result g c = grind (arith, tight_fewer)
 
 pub returns-in-Ok-clause-text : goal.returns-in-Ok-clause-text
 returns-in-Ok-clause-text g c = λ P F x is.
