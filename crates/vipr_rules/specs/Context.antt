@@ -1,5 +1,5 @@
 -- What a derivation is tested against, and the constraints before it
-use Rattle.std.specs.Prelude.{◌≡◌, ◌≢◌, ◌↔◌, ℕ, Bool, false, cond, List, length}
+use Rattle.std.specs.Prelude.{◌≡◌, ◌↔◌, ℕ, Bool, false, cond, List, length}
 use Rattle.std.specs.Prelude.{Option, None, Some, IsTrue, nat_lt, option_copied}
 use Rattle.std.specs.FinSet as set
 use Rattle.std.specs.Ordering.{nat_cmp}
