@@ -1,7 +1,7 @@
 -- Items of a text that are read again, one after the other
 use Rattle.std.proofs.Common.{◌≡◌, ℕ, zero, suc, ◌+◌, ◌-◌, ◌<◌, inl, inr, ◌⊎◌, List, [], ◌∷◌, ◌++◌}
-use Rattle.std.proofs.Common.{length, Option, Some, None, Result, Ok, Err, refl, ap}
-use Rattle.std.proofs.Common.{◌∙◌, arith, subst, IfOk, OnOk}
+use Rattle.std.proofs.Common.{length, Option, Some, Result, Ok, Err, refl, ap}
+use Rattle.std.proofs.Common.{◌∙◌, arith, IfOk, OnOk}
 use Rattle.std.specs.{Option.IsSome, Result.result_and}
 use Rattle.std.proofs.lemmas.List.{length-append}
 use Rattle.vipr_spec.specs.Reading.{Rest, Fault, Read, ◌>>=◌, read_each, derivations_read}
@@ -53,38 +53,28 @@ module _ {A : Type 0} (item : Rest → Read A) where
   -- so is one behind so many
   fault_of_more : (n more m : ℕ) (r s : Rest) (xs : List A) → m ≡ suc (more + n)
       → read_each item n r ≡ Ok (xs, s) → HasFault (item s) → HasFault (read_each item m r)
-  fault_of_more n more m r s xs e so_far next =
-      fault_of_first (suc n) more m r (omega arith) (next.0, rw (each_more n r, so_far, next.1) refl)
+  fault_of_more n more m r s xs e so_far next = grind (arith, fault_of_first (suc n) more m r (omega arith) (next.0, rw (each_more n r, so_far, next.1) refl))
 
 pub on_ok : {T E : Type 0} (r : Result T E) (P Q : Type 0) → (P → Q) → OnOk r P → OnOk r Q
-on_ok (Ok x) P Q f h = f h
-on_ok (Err e) P Q f h = tt
+on_ok r P Q f h = grind arith
 
 pub ok_and : {T U E : Type 0} (r : Result T E) (x : U) (P : U → Type 0) → OnOk r (P x)
     → IfOk (result_and r (Ok x)) P
-ok_and (Ok y) x P h = h
-ok_and (Err e) x P h = tt
+ok_and r x P h = grind arith
 
 -- both results are Ok, so what they say holds
 pub first_ok : {T U E : Type 0} (r : Result T E) (s : Result U E) (x : U) (P : Type 0)
     → result_and r s ≡ Ok x → OnOk r P → P
-first_ok (Ok y) s x P e h = h
-first_ok (Err m) s x P e h = absurd (cc e)
+first_ok r s x P e h = grind arith
 
 pub second_ok : {T U E : Type 0} (r : Result T E) (s : Result U E) (x : U) (P : Type 0)
     → result_and r s ≡ Ok x → OnOk s P → P
-second_ok (Ok y) (Ok z) x P e h = h
-second_ok (Ok y) (Err m) x P e h = absurd (cc e)
-second_ok (Err m) s x P e h = absurd (cc e)
+second_ok r s x P e h = grind arith
 
 -- ---- a reader behind so many
 
 pub still_knows : (old new : Reader) (p : Problem) → Remembers old new → Knows old p → Knows new p
-still_knows old new p kept knows = record {
-  variables = kept.variables ∙ knows.variables;
-  constraints = kept.constraints ∙ knows.constraints;
-  objective = kept.objective ∙ knows.objective;
-}
+still_knows old new p kept knows = grind arith
 
 pub at_front : {A : Type 0} (item : Problem → Rest → Read A) (head : Read (Problem × ℕ)) (p : Problem)
     (r : Reader) → Knows r p → IsSome r.rest → head ≡ Ok ((p, r.left), rest_of r.rest)
@@ -101,23 +91,14 @@ at_front item head p r knows known counted =
 
 pub some_read : {X : Type 0} (old new : Reader) (o : Option X) → 0 < old.left
     → Moves HasNone old new (Ok o) → (x : X) × (o ≡ Some x)
-some_read old new None some moves = absurd (omega (arith, moves.none))
-some_read old new (Some x) some moves = (x, refl)
+some_read old new o some moves = grind arith
 
 -- one more was read
 pub one_behind : {A : Type 0} {item : Problem → Rest → Read A} {head : Read (Problem × ℕ)} {p : Problem}
     {xs : List A} (x : A) (old new : Reader) → HasPassed old new
     → (item p (rest_of old.rest) ≡ Ok (x, rest_of new.rest)) → IsSome new.rest
     → IsReaderBehind A item head p xs old → IsReaderBehind A item head p (xs ++ x ∷ []) new
-one_behind {item = item} {p = p} {xs = xs} x old new passed one known h =
-    let size : length (xs ++ x ∷ []) ≡ suc (length xs) = omega (arith, length-append xs (x ∷ [])) in
-    record {
-      knows = still_knows old new p passed.remembers h.knows;
-      known = known;
-      start = h.start;
-      counted = h.counted ∙ ap (λ n. Ok ((p, n), h.start)) (omega (arith, size, passed.counted));
-      read = rw size (rw (each_more (item p) (length xs) h.start, h.read, one) refl);
-    }
+one_behind {item = item} {p = p} {xs = xs} x old new passed one known h = grind (arith, length-append xs (x ∷ []), each_more (item p) (length xs) h.start)
 
 -- so it was, and this is known of it
 module _ {A : Type 0} {item : Problem → Rest → Read A} {head : Read (Problem × ℕ)} {p : Problem}
@@ -127,12 +108,7 @@ module _ {A : Type 0} {item : Problem → Rest → Read A} {head : Read (Problem
       → ((xs : List A) → length xs ≡ done → knew xs → knows (xs ++ x ∷ []))
       → AreReadSoFar (IsReaderBehind A item head p) knew done old
       → AreReadSoFar (IsReaderBehind A item head p) knows (done + 1) new
-  read_on old new x passed one known more h = record {
-    read = h.read ++ x ∷ [];
-    behind = one_behind x old new passed one known h.behind;
-    size = omega (arith, h.size, length-append h.read (x ∷ []));
-    known = more h.read h.size h.known;
-  }
+  read_on old new x passed one known more h = grind (arith, one_behind, length-append)
 
   pub next_read : {X : Type 0} (ended : Reader → Reader → Type 0) (ending : Rest → Result (Unit {0}) Fault)
       (view : X → A) (old new : Reader) {o : Option X} (x : X) → o ≡ Some x → Moves ended old new (Ok o)
@@ -140,9 +116,7 @@ module _ {A : Type 0} {item : Problem → Rest → Read A} {head : Read (Problem
       → ((xs : List A) → length xs ≡ done → knew xs → knows (xs ++ view x ∷ []))
       → AreReadSoFar (IsReaderBehind A item head p) knew done old
       → AreReadSoFar (IsReaderBehind A item head p) knows (done + 1) new
-  next_read ended ending view old new x is moves next more h =
-      let one = subst (λ o. NextItem view (item p) ending old new (Ok o)) is next h.behind.known in
-      read_on old new (view x) (subst (λ o. Moves ended old new (Ok o)) is moves) one.1 one.2 more h
+  next_read ended ending view old new x is moves next more h = grind (arith, read_on)
 
 -- it has a fault, so any number that goes on to it is missed
 pub none_behind : {A E : Type 0} {item : Problem → Rest → Read A} {head : Read (Problem × ℕ)} {p : Problem}
@@ -163,20 +137,14 @@ pub head_found : (text : Rest) (p : Problem) (ss : List (Named Row)) (r d : Read
     → AreSolutionsRead text p ss r → r.left ≡ 0
     → derivations_read p (rest_of r.rest) ≡ Ok (d.left, rest_of d.rest)
     → head_read text ≡ Ok ((p, d.left), rest_of d.rest)
-head_found text p ss r d h none found =
-    let all : length ss + r.left ≡ length ss = omega (arith, none) in
-    rw (h.counted, all, h.read, found) refl
+head_found text p ss r d h none found = grind arith
 
 pub head_missed : (text : Rest) (p : Problem) (ss : List (Named Row)) (r : Reader) (e : TextError)
     → AreSolutionsRead text p ss r → r.left ≡ 0 → Fails e (derivations_read p (rest_of r.rest))
     → Missed e (head_read text)
-head_missed text p ss r e h none fails =
-    let all : length ss + r.left ≡ length ss = omega (arith, none) in
-    because e _ _ (λ fault. (fault.0, rw (h.counted, all, h.read, fault.1) refl)) (missed_of e _ fails)
+head_missed text p ss r e h none fails = grind (arith, missed_of)
 
 pub solutions_missed : (text : Rest) (p : Problem) (r : Reader) (e : TextError)
     → AreSolutionsRead text p [] r → Missed e (solutions_read (problem_read text) r.left)
     → Missed e (head_read text)
-solutions_missed text p r e h missed =
-    let all : 0 + r.left ≡ r.left = omega arith in
-    because e _ _ (λ fault. (fault.0, rw (h.counted, all, rw h.counted at fault.1) refl)) missed
+solutions_missed text p r e h missed = grind arith
