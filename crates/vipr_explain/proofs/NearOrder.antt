@@ -1,6 +1,6 @@
 -- The order of the constraints that come near to a claim, lists in that order, and their first ones
 use Rattle.std.proofs.Common.{◌≡◌, ℕ, zero, suc, ◌+◌, ◌<◌, Bool, true, false, cond, not, ◌&&◌, ◌||◌}
-use Rattle.std.proofs.Common.{nat_lt, List, [], ◌∷◌, length, take, drop, Option, Some, None, refl}
+use Rattle.std.proofs.Common.{nat_lt, List, [], ◌∷◌, length, take, drop, Option, None, refl}
 use Rattle.std.proofs.Common.{sym, ap, ◌∙◌, subst, inl, inr, arith, All, Contains}
 use Rattle.std.proofs.lemmas.List.{length-take-le, length-drop, take-append-drop}
 use Rattle.std.proofs.lemmas.List.Elements.{All-nil, All-cons, All-weaker, All-append, All-take}
@@ -8,18 +8,18 @@ use Rattle.std.proofs.lemmas.List.Elements.{All-drop, All-contains, Contains-app
 use Rattle.std.proofs.lemmas.List.Elements.{Contains-append_right, Contains-append_cases}
 use Rattle.std.proofs.lemmas.Bool.{cases_lt}
 use Rattle.std.proofs.lemmas.Cmp.{back_total, on_total, then_total}
-use Rattle.std.specs.declared.cmp.Ordering.TheVariants.{Less, Equal, Greater}
+use Rattle.std.specs.declared.cmp.Ordering.TheVariants.{Less}
 use Rattle.std.specs.Cmp.{IsTotalOrder, Lexicographic.options_total, bool_cmp_total, nat_cmp_total}
 use Rattle.std.specs.{List.position_or_len, Option.option_cmp, declared.cmp.Ordering.Ordering}
 use Rattle.std.specs.Ordering.{bool_cmp, flip_args, is_lt, nat_cmp, on, ordering_reverse, ordering_then}
 use Rattle.std.specs.Ordering.{then_cmp}
-use Rattle.std.specs.Prelude.{◌⊎◌, ◌==◌, insert, if◌then◌else◌}
+use Rattle.std.specs.Prelude.{◌⊎◌, insert, if◌then◌else◌}
 use Rattle.vipr_spec.specs.Certificate.{Certificate, constraint_at}
 use Rattle.vipr_spec.specs.{Fraction.ℚ, FractionOrder.cmp_ℚ}
 use Rattle.vipr_spec.proofs.Laws.{cmp_total}
 use Rattle.vipr_rules.specs.declared.claim.Target.{Target}
 use Rattle.vipr_page.specs.Algebra.{size}
-use Rattle.vipr_explain.specs.Near.{closer_by, misses_less, rank_of, comes_before, with_near, in_order}
+use Rattle.vipr_explain.specs.Near.{misses_less, rank_of, comes_before, with_near, in_order}
 use Rattle.vipr_explain.specs.Near.{AreInOrder, IsLike, IsNear, AreLike, of_none, of_like, of_unlike}
 use Rattle.vipr_explain.specs.Near.{AreNearest, HasPlace}
 use Rattle.vipr_explain.specs.declared.near.Near.{Near}
@@ -42,35 +42,17 @@ order_total = then_total (on_total (λ n. not n.is_strong) bool_cmp_total) (then
     (back_total (on_total rank_of nat_cmp_total)))
 
 module _ (a b : ℕ) where
-  rank_is : (s t : Bool) → s ≡ is_lt (cond s Less (cond t Equal Greater))
-  rank_is true t = refl
-  rank_is false true = refl
-  rank_is false false = refl
-
-  gap_is : (o : Ordering) → closer_by o (nat_lt b a) ≡ is_lt (ordering_then o (nat_cmp b a))
-  gap_is Less = refl
-  gap_is Equal = rank_is (nat_lt b a) (b == a)
-  gap_is Greater = refl
-
   leads_is : (s t : Bool) (x y : Option ℚ)
       → (if s then not t || nat_lt b a else not t && misses_less x y (nat_lt b a))
       ≡ is_lt (ordering_then (bool_cmp (not s) (not t)) (ordering_then
       (option_cmp (flip_args (on size cmp_ℚ)) (gap_left t y) (gap_left s x)) (nat_cmp b a)))
-  leads_is true true x y = gap_is Equal
-  leads_is true false x y = refl
-  leads_is false true x y = refl
-  leads_is false false (Some x) (Some y) = gap_is (cmp_ℚ (size x) (size y))
-  leads_is false false (Some x) None = refl
-  leads_is false false None (Some y) = refl
-  leads_is false false None None = gap_is Equal
+  leads_is s t x y = grind arith
 
 before_is : (n m : Near) → comes_before n m ≡ is_lt (order n m)
 before_is n m = leads_is (rank_of n) (rank_of m) n.is_strong m.is_strong n.gap m.gap
 
 less_of : (o : Ordering) → is_lt o ≡ true → o ≡ Less
-less_of Less h = refl
-less_of Equal h = absurd (cc h)
-less_of Greater h = absurd (cc h)
+less_of o h = grind arith
 
 before : (n m : Near) → comes_before n m ≡ true → order n m ≡ Less
 before n m h = less_of (order n m) (sym (before_is n m) ∙ h)

@@ -11,14 +11,13 @@ use Rattle.std.proofs.lemmas.List.{get_or_append_left, get_or-map, length-map, t
 use Rattle.vipr_spec.specs.Constraint.{Profile, Constraint as Meant, Condition, condition, at}
 use Rattle.vipr_spec.specs.Constraint.{NamesBelow}
 use Rattle.vipr_spec.specs.Certificate.{Problem, Derivation, Certificate, count, constraint_at}
-use Rattle.vipr_spec.specs.Certificate.{Named as Given, variables}
-use Rattle.vipr_spec.specs.Certificate.{reason_at, sol, RefersTo, RestsOn, RestsOnNothing, NamesEarlier}
-use Rattle.vipr_spec.specs.Certificate.{no_constraint, is_assumption}
+use Rattle.vipr_spec.specs.Certificate.{Named as Given, variables, reason_at, sol, RestsOn}
+use Rattle.vipr_spec.specs.Certificate.{RestsOnNothing, NamesEarlier, no_constraint}
 use Rattle.vipr_spec.specs.Reading.{Rest, derivation_read, end_read}
-use Rattle.vipr_spec.specs.Steps.{with_more, with_next, RefersBack, RestsBy}
+use Rattle.vipr_spec.specs.Steps.{with_more, with_next, RefersBack}
 use Rattle.vipr_spec.proofs.Laws.{constraint_before, constraint_next, constraints_listed, count_next}
 use Rattle.vipr_spec.proofs.Laws.{last_next, reason_before, reason_given, reason_next}
-use Rattle.vipr_spec.proofs.Laws.{reason_past, rests_given, rests_more, rests_next}
+use Rattle.vipr_spec.proofs.Laws.{reason_past, rests_more}
 use Rattle.vipr_read.specs.Items.{Items as Reader, HasEnded, Moves, NextItem}
 use Rattle.vipr_linear.specs.Constraint.{condition_of, constraint_of}
 use Rattle.vipr_linear.specs.declared.constraint.Constraint.{Constraint}
@@ -37,7 +36,7 @@ use Rattle.vipr_explain.specs.Near.{IsNextEntry, HasPassedAll, HasReplayed, Sear
 use Rattle.vipr_explain.specs.Near.{IsStepOf, LacksGoal, passed_to, up_to}
 use Rattle.vipr_explain.specs.{declared.changes.Replay.Replay, declared.near.Join.Join}
 use Rattle.vipr_explain.specs.{declared.near.Near.Near, declared.near.NearSearch.NearSearch}
-use Rattle.vipr_explain.proofs.{Again.one_behind, Lacks.fault_first, NearOrder.next_near}
+use Rattle.vipr_explain.proofs.{Again.one_behind, NearOrder.next_near}
 
 -- ---- one constraint more
 
@@ -100,10 +99,7 @@ given_near p more given same i n l at =
 
 pub rests_on_none : (c : Certificate) (i a : ℕ) → i < length c.problem.constraints
     → IsTrue (contains (set.empty {R = nat_cmp}) a) ↔ RestsOn c i a
-rests_on_none c i a l = (
-  λ t. (let f = contains-empty nat_cmp a in absurd (cc (t, f))),
-  λ r. absurd (rests_given c i a (reason_given c i l) r),
-)
+rests_on_none c i a l = grind (arith, contains-empty, reason_given)
 
 pub back_start : (p : Problem) → RefersBack (without_solutions p [])
 back_start p k = subst (NamesEarlier k) (sym none) tt
@@ -188,28 +184,12 @@ passed_next P p ds d e s t i join index joins target rows scratch names kept add
 -- what a solution cuts off
 pub kept_by_solution : (c : Certificate) (step' : Step) → reason_of step'.reason ≡ sol → RefersBack c
     → IsNextEntry c (derivation_of step') (entry_resting_on step' set.empty)
-kept_by_solution c step' by back =
-    let d = derivation_of step' in
-    let earlier : NamesEarlier (count c) (Some d.reason) = subst (λ r. NamesEarlier (count c) (Some r)) (sym by) tt in
-    record {
-      earlier = earlier;
-      live = λ i r. absurd (subst (λ q. RefersTo (Some q) i) by r);
-      entry = record {
-        says = constraint_next c d;
-        rests = λ a. (
-          λ t. (let f = contains-empty nat_cmp a in absurd (cc (t, f))),
-          λ r. absurd (subst (λ q. RestsBy c (count c) (Some q) a) by ((rests_next c d a back earlier).0 r)),
-        );
-        is_assumed = ap is_assumption (sym (reason_next c d));
-        last = sym (last_next c d);
-      };
-    }
+kept_by_solution c step' by back = grind (arith, constraint_next, contains-empty, reason_next, last_next)
 
 -- ---- up to the derivation of a constraint
 
 pub before_it : (end : Option ℕ) (given all n : ℕ) → n < passed_to end given all → n < up_to end given all
-before_it (Some k) given all n l = omega (arith, l)
-before_it None given all n l = l
+before_it end given all n l = grind arith
 
 -- the next one is that of constraint k
 pub step_of : (text : Rest) (p : Problem) (before : List Derivation) (k : ℕ) (old new : Reader)
@@ -224,8 +204,7 @@ step_of text p before k old new None moves next behind some at = absurd (omega (
 
 pub goal_missed : (P : Profile) (text : Rest) (end : Option ℕ) → HasFault (head_read text)
     → LacksGoal P text end
-goal_missed P text (Some k) fault = inl (fault_first (head_read text) _ fault)
-goal_missed P text None fault = fault
+goal_missed P text end fault = grind arith
 
 -- none is behind those that were passed, or that is of another constraint
 pub no_step : (P : Profile) (text : Rest) (p : Problem) (k : ℕ) (r : Reader) (s : NearSearch)
@@ -239,18 +218,8 @@ no_step P text p k r s h none =
       count = length so_far.read + r.left;
       rest = so_far.behind.start;
       head = so_far.behind.counted;
-      outside = elim (cases_lt k (length p.constraints)) [
-        | inl l ↦ inl l
-        | inr l ↦ inr (elim (cases_lt 0 r.left) [
-          | inl some ↦ (let at : s.replay.rows.next ≡ k = omega (arith, next, so_far.size, reach) in absurd (omega (arith, none at)))
-          | inr all ↦ omega (arith, so_far.size, reach)
-        ])
-      ];
+      outside = grind arith;
     }
 
 pub not_by_solution : (r : Reason) → r ≢ by.Sol → reason_of r ≢ sol
-not_by_solution by.Asm h e = absurd (cc e)
-not_by_solution (by.Lin es) h e = absurd (cc e)
-not_by_solution (by.Rnd es) h e = absurd (cc e)
-not_by_solution (by.Uns i1 l1 i2 l2) h e = absurd (cc e)
-not_by_solution by.Sol h e = h refl
+not_by_solution r h e = grind arith

@@ -1,10 +1,9 @@
 -- The tokens of a text, as they are read one by one
 use Rattle.std.proofs.Common.{◌≡◌, ℕ, ◌+◌, ◌-◌, ◌<◌, ◌≤◌, zero, suc, false, true, List, [], ◌∷◌, length, take}
-use Rattle.std.proofs.Common.{drop, get_or, inl, inr, refl, sym, ap, ◌∙◌, arith}
+use Rattle.std.proofs.Common.{drop, get_or, refl, sym, ap, ◌∙◌, arith}
 use Rattle.std.proofs.lemmas.List.{length-take-le}
 use Rattle.std.specs.{List.suffix_len, Prelude.not}
-use Rattle.std.proofs.lemmas.{Bool.Decides.eqb_tells, List.Sums.count_by_more_no, List.Sums.suffix_len-take_yes}
-use Rattle.std.proofs.lemmas.Bool.{cases_lt, false≢true}
+use Rattle.std.proofs.lemmas.{List.Sums.count_by_more_no, List.Sums.suffix_len-take_yes}
 use Rattle.vipr_spec.specs.Tokens.{Token, is_white, tokens_after_front, tokens_from}
 use Rattle.vipr_spec.proofs.Laws.{token_whole}
 use Rattle.vipr_scan.specs.declared.place.Position.TheVariants.{Front, Comment, Past}
@@ -22,8 +21,7 @@ pub byte_passed : (p q : Position) (offset b : ℕ) (bytes : List ℕ) → 0 < l
     → tokens_in p fails o (b ∷ rest) ≡ tokens_in q fails (o + 1) rest)
     → words_at p offset bytes ≡ words_at q (offset + 1) (drop 1 bytes)
 byte_passed p q offset b [] some byte gap = absurd (omega (arith, some))
-byte_passed p q offset b (x ∷ bytes) some byte gap =
-    ap (λ y. words_at p offset (y ∷ bytes)) (sym byte) ∙ gap false offset bytes
+byte_passed p q offset b (x ∷ bytes) some byte gap = grind arith
 
 -- nothing is left
 pub none_left : (p : Position) (n : ℕ) (rest : List ℕ) → length rest ≡ 0 → words_at p n rest ≡ []
@@ -37,10 +35,7 @@ none_left p n (b ∷ bs) e = absurd (omega (arith, e))
 pub nothing_there : (rest : List ℕ) (size : ℕ) → size ≡ 0
     → (0 < length rest → is_white (get_or rest 0 0) ≡ false)
     → (size < length rest → is_white (get_or rest size 0) ≡ true) → length rest ≡ 0
-nothing_there rest size none solid white = elim (cases_lt 0 (length rest)) [
-  | inl lt ↦ absurd (false≢true (sym (solid lt) ∙ ap (λ n. is_white (get_or rest n 0)) (sym none) ∙ white (omega (arith, none, lt))))
-  | inr le ↦ omega arith
-]
+nothing_there rest size none solid white = grind arith
 
 -- ---- a token
 
@@ -61,28 +56,19 @@ word_taken text ts n size p mid new w past at some within solid white are bytes 
       tokens = sym are ∙ ap (λ q. words_at q n xs) past ∙ all;
       bytes = bytes;
       span = span ∙ ap (sized size) at.place ∙ ap (λ k. sized k (place_at text n)) (sym (length-take-le size xs within));
-      left = record {
-        n = n + size;
-        at = behind;
-        tokens = ap (λ q. words_at q (n + size) new.rest.now) same ∙ ap (λ ys. words_at Past (n + size) ys) rest;
-      };
+      left = grind arith;
     }
 
 no_feed : (b : ℕ) → is_white b ≡ false → is_line_feed b ≡ false
 unfolding is_white
-no_feed b solid = elim (eqb_tells b 10) [
-  | inl is ↦ absurd (false≢true (sym solid ∙ ap is_white is.1))
-  | inr not ↦ not.0
-]
+no_feed b solid = grind arith
 
 -- bytes that are no white space end no line
 pub along_line : (text : List ℕ) (n size : ℕ) → n + size ≤ length text
     → ((k : ℕ) → k < size → is_white (get_or text (n + k) 0) ≡ false)
     → (line_behind (take (n + size) text) ≡ line_behind (take n text))
     × (column_behind (take (n + size) text) ≡ column_behind (take n text) + size)
-along_line text n zero within solid =
-    let same : n + zero ≡ n = omega arith in
-    (ap (λ m. line_behind (take m text)) same, ap (λ m. column_behind (take m text)) same ∙ omega arith)
+along_line text n zero within solid = grind arith
 along_line text n (suc size) within solid =
     let so_far = along_line text n size (omega (arith, within)) (λ k l. solid k (omega (arith, l))) in
     let byte = no_feed _ (solid size (omega arith)) in

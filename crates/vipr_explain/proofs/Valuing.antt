@@ -1,11 +1,11 @@
 -- What is kept of the listed solutions, one solution after another
-use Rattle.std.proofs.Common.{◌≡◌, ℕ, zero, suc, List, [], ◌∷◌, ◌++◌, map, filter, length, IsTrue}
-use Rattle.std.proofs.Common.{refl, sym, ap, ap₂, subst, subst₂, ◌∙◌}
+use Rattle.std.proofs.Common.{arith, ◌≡◌, ℕ, zero, suc, List, [], ◌∷◌, ◌++◌, map, filter, length}
+use Rattle.std.proofs.Common.{IsTrue, refl, sym, ap, ap₂, subst, ◌∙◌}
 use Rattle.std.proofs.lemmas.List.Elements.{filter-append}
 use Rattle.std.proofs.{Math.Nat.mul_comm, lemmas.List.map-append}
 use Rattle.std.specs.Prelude.{◌↔◌}
 use lib.IntN.{*ℤ_comm}
-use Rattle.vipr_spec.specs.Fraction.{ℚ, over, ◌+ℚ◌, ◌*ℚ◌, IsBounded, SumFits}
+use Rattle.vipr_spec.specs.Fraction.{ℚ, over, ◌+ℚ◌, ◌*ℚ◌}
 use Rattle.vipr_spec.specs.Constraint.{Row, value, ValueFits}
 use Rattle.vipr_spec.specs.{Certificate.Named, Certificate.Problem, Soundness.IsBestValue}
 use Rattle.vipr_explain.specs.Values.{ObjectiveFits, of_fitting, of_unfit, value_of, is_first}
@@ -23,22 +23,13 @@ value_turned zero f g = refl
 value_turned (suc n) f g = ap₂ (λ x y. x +ℚ y) (value_turned n f g) (product_turned (f n) (g n))
 
 pub fits_turned : (n : ℕ) (f g : ℕ → ℚ) → ValueFits n f g → ValueFits n g f
-fits_turned n f g fits j l = (
-  subst IsBounded (product_turned (f j) (g j)) (fits j l).0,
-  subst₂ SumFits (value_turned j f g) (product_turned (f j) (g j)) (fits j l).1,
-)
+fits_turned n f g fits j l = grind (arith, product_turned, value_turned)
 
 -- ---- one solution more
 
 pub with_unfit : (p : Problem) (ss : List (Named Row)) (s : Named Row) (k : ListedValues)
     → ¬ ObjectiveFits p s → AreValues p ss k → AreValues p (ss ++ s ∷ []) k
-with_unfit p ss s k unfit h = record {
-  valued = h.valued;
-  are = of_unfit s unfit h.are;
-  first = h.first;
-  best = h.best;
-  exchanged = h.exchanged;
-}
+with_unfit p ss s k unfit h = grind (arith, of_unfit)
 
 pub with_fitting : (p : Problem) (ss : List (Named Row)) (s : Named Row) (k l : ListedValues)
     → ObjectiveFits p s → l.first.items ≡ k.first.items ++ filter is_first (value_of p (length ss, s) ∷ [])
