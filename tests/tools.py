@@ -24,6 +24,9 @@ from texts import TOP, Checks
 import all as gate
 import literals
 
+sys.path.insert(0, str(TOP / 'tools'))
+import shorten  # noqa: E402
+
 CHECKS = Checks('tools')
 check = CHECKS.check
 CRATES = {'low': '', 'vipr_c staticlib': 'low', 'vipr_command': 'low', 'vipr': 'vipr_command low'}
@@ -301,10 +304,38 @@ def plants(place):
                                    '`n < 2` is `n < 3`', 'no `note(n);`', "`all[n] == b'0'` is `all[n] != b'0'`"], f'the changes of a function: {out}')
 
 
+def shorter(room):
+    """tools/shorten.py tries other proofs of the same statements, and keeps no attempt that a check refuses or can't read."""
+    stated = 'pub one : (b : Bool) → f b ≡ b'
+    path = room / 'Ones.antt'
+    path.write_text('\n'.join(('use Rattle.std.proofs.Common.{arith, rules}', '', stated, 'one true = refl', 'one false =',
+                               '    let e = known true in', '    e ∙ other false', '')))
+    file = shorten.File(path, set())
+    lemma = next(shorten.lemmas(path.read_text()))
+    made = shorten.attempts(lemma, {'known', 'other'})
+    bodies = [it.text.removeprefix(f'{stated}\n') for it in made]
+    wanted = 'one true = refl\none false = grind (arith, known true, other false)', 'one b = grind (arith, known, other)'
+    check(all(it in bodies for it in wanted) and all(it.text.startswith(f'{stated}\n') for it in made), f'attempts: {bodies}')
+    for error, left in (('`one__{}`: not proved', len(made) - 1), ('not in scope', len(made) - 1), ('', len(made))):
+        class Copy:
+            """Says of the first attempt what is wrong with it."""
+
+            @staticmethod
+            def check(modules):
+                rows = modules['Try_Ones'].split('\n')
+                at = next((n for n, it in enumerate(rows, 1) if bodies[0].split('=')[-1] in it), 0)
+                name = next((it[5:].split(' ')[0] for it in rows[at - 3::-1] if it.startswith('one__')), '')
+                line = f'./proofs/Try_Ones.antt:{at}:1: error: {error.format(name)}\n' if error and at else ''
+                return f'{line}crate x: modules loaded=0 checked=1\n'
+        good = shorten.proved(Copy, {file: made})
+        check(len(good) == left and (made[0] in good) == (not error), f'attempts with {error!r}: {len(good)} of {len(made)}')
+
+
 def main():
     with tempfile.TemporaryDirectory(prefix='vipr-tools-') as name:
         place = Place(Path(name))
         scripts()
+        shorter(place.room)
         numbers(place)
         build(place)
         make(place)
