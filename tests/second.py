@@ -38,22 +38,22 @@ AT_ONCE = 100
 # wrong versions of the checker's tests: what it is, and what to replace in Check.v or Read.v by what
 WRONG = {
     'sign of L in a sum': (
-        'let u := fst x * sign (what (snd x)) in',
-        'let u := match sense (what (snd x)) with L => fst x | _ => fst x * sign (what (snd x)) end in'),
+        'let u := snd e * sign (what (at_in t (fst e))) in',
+        'let u := snd e * match sense (what (at_in t (fst e))) with E => 0 | _ => 1 end in'),
     'floor for ceiling': ('(Qceiling (side_ a))) d', '(Qfloor (side_ a))) d'),
-    'an assumption kept out of the wrong branch': ('without l1 c1', 'without l2 c1'),
-    'cutoff by the worst solution': ('(if better v (f i) then v else f i)', '(if better v (f i) then f i else v)'),
+    'an assumption kept out of the wrong branch': ('without l1 i1', 'without l2 i1'),
+    'cutoff by the worst solution': ('if better v (f a) then v else f a', 'if better v (f a) then f a else v'),
     'a split with a gap': ('Qeq_bool high (low + 1)', 'Qle_bool (low + 1) high'),
     'an equation rounded': (
         '| E => negb (is_whole (side_ a)) || dominates a d', '| E => dominates (with_side a (Qfloor (side_ a))) d'),
     'a goal with assumptions': (
-        'found t || forallb (fun x => Indices.is_empty (snd x)) (rests s) && goals e a', 'found t || goals e a'),
+        'found t || goals e a && Indices.is_empty (rests s)', 'found t || goals e a'),
     'a fractional coefficient rounded': ('(is_zero q || i && is_whole q)', '(is_zero q || i)'),
     'an integer variable left out': (
         '(fun t j => put false j true t) (integers p)',
         '(fun t j => if N.eqb j 0 then t else put false j true t) (integers p)'),
     'a dropped reference used': (
-        'if N.ltb i (next t) && live (next t) s then', 'if N.ltb i (next t) then'),
+        'N.ltb i (next t) && live (next t) (at_in t i)', 'N.ltb i (next t)'),
 }
 
 
