@@ -13,16 +13,19 @@ let fault what file =
   Printf.eprintf "fault %s %s\n%!" what file;
   3
 
+(* What is new in memory has as much room as the text, and garbage is collected early. *)
+let answer profile text =
+  Gc.set { (Gc.get ()) with minor_heap_size = max 32_768 (String.length text / 8); space_overhead = 40; allocation_policy = 2 };
+  Core.check_bytes profile (text, 0)
+
 let check profile file =
-  match Core.check_bytes profile (contents file, 0) with
+  match answer profile (contents file) with
   | Core.Verified -> Printf.printf "verified %s\n%!" file; 0
   | Core.Refused -> Printf.printf "refused %s\n%!" file; 1
   | exception (Sys_error _ | End_of_file) -> fault "read" file
   | exception (Out_of_memory | Stack_overflow) -> fault "memory" file
 
-(* Garbage is collected early: a run takes the less memory. *)
 let () =
-  Gc.set { (Gc.get ()) with minor_heap_size = 32_768; space_overhead = 40; allocation_policy = 2 };
   match List.tl (Array.to_list Sys.argv) with
   | "--profile" :: "1" :: (_ :: _ as files) -> exit (List.fold_left max 0 (List.map (check Core.First) files))
   | "--profile" :: "2" :: (_ :: _ as files) -> exit (List.fold_left max 0 (List.map (check Core.Second) files))
