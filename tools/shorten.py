@@ -217,8 +217,9 @@ class File:
         self.brought = [it for it in ('rules', 'arith') if it not in named]
         facts, self.left = (named & known) - PLAIN, []
         for lemma in lemmas(self.text):
-            self.left += attempts(lemma, facts)
+            # (what else is declared means what it is defined as)
             if lemma.equations and is_fact(lemma.type):
+                self.left += attempts(lemma, facts)
                 facts.add(lemma.name)
 
     def scratch(self, tried):

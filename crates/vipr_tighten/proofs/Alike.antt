@@ -34,10 +34,6 @@ pub record AreAlike (c d : Certificate) : Type 0 where
   pub reasons : map (λ (x : Derivation). Some x.reason) c.derivations ≡ map (λ (x : Derivation). Some x.reason) d.derivations
   pub lasts : map (λ (x : Derivation). x.last) c.derivations ≡ map (λ (x : Derivation). x.last) d.derivations
 
--- how many constraints are held, if there are m in the problem
-held_by : ℕ → (ℕ → Option Reason) → (ℕ → Option ℕ) → ℕ → ℕ
-held_by m reasons lasts k = grind arith
-
 module _ (c d : Certificate) (alike : AreAlike c d) where
   reason_alike : (i : ℕ) → reason_at c i ≡ reason_at d i
   reason_alike i = grind (arith, reasons_listed, nones)
@@ -51,5 +47,4 @@ module _ (c d : Certificate) (alike : AreAlike c d) where
       ∙ length-map d.derivations (λ (x : Derivation). x.last)
 
   pub peak_alike : peak c ≡ peak d
-  unfolding held_by
   peak_alike = grind (arith, reason_alike, count_alike, lasts_listed, nones)
