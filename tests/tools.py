@@ -309,8 +309,9 @@ def shorter(room):
     stated = 'pub one : (b : Bool) → f b ≡ b'
     path = room / 'Ones.antt'
     path.write_text('\n'.join(('use Rattle.std.proofs.Common.{arith, rules}', '', stated, 'one true = refl', 'one false =',
-                               '    let e = known true in', '    e ∙ other false', '')))
+                               '    let e = known true in', '    e ∙ other false', '', 'two : Bool → ℕ', 'two true = 1', 'two false = 2', '')))
     file = shorten.File(path, set())
+    check({it.lemma.name for it in file.left} == {'one'}, 'a value is left to a tactic, or no lemma is tried')
     lemma = next(shorten.lemmas(path.read_text()))
     made = shorten.attempts(lemma, {'known', 'other'})
     bodies = [it.text.removeprefix(f'{stated}\n') for it in made]

@@ -202,7 +202,8 @@ def attempts(lemma, facts):
 def is_fact(lines):
     """Whether a declaration with this type states something."""
     stated = outside(' '.join(it.strip() for it in lines).split(' : ', 1)[1], ' → ')[-1]
-    is_type = stated.split(' ', 1)[0] in ('List', 'Bool', 'Option', 'Type')
+    # (a word with arguments is most often a predicate)
+    is_type = ' ' not in stated or stated.split(' ', 1)[0] in ('List', 'Option', 'Result', 'Type')
     return bool(re.search(r'[≡≤⊥×⊎≢]| < ', stated)) or stated[:1].isupper() and not is_type
 
 
