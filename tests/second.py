@@ -48,7 +48,7 @@ WRONG = {
         '| E => negb (is_whole (side_ a)) || dominates a d', '| E => dominates (with_side a (Qfloor (side_ a))) d'),
     'a goal with assumptions': (
         'found t || goals e a && Indices.is_empty (rests s)', 'found t || goals e a'),
-    'a fractional coefficient rounded': ('(is_zero q || i && is_whole q)', '(is_zero q || i)'),
+    'a fractional coefficient rounded': ('=> is_zero q || i && is_whole q)', '=> is_zero q || i)'),
     'an integer variable left out': (
         '(fun t j => put false j true t) (integers p)',
         '(fun t j => if N.eqb j 0 then t else put false j true t) (integers p)'),
