@@ -2,8 +2,7 @@
 use Rattle.std.proofs.Common.{◌≡◌, ℕ, ◌-◌, List, [], ◌∷◌, map, length, Option, Some, None, arith}
 use Rattle.std.proofs.Common.{refl, sym, ◌∙◌, ap, ap₂, subst}
 use Rattle.std.proofs.lemmas.List.{length-map}
-use Rattle.vipr_spec.specs.Certificate.{Reason, Derivation, Certificate, NamesEarlier}
-use Rattle.vipr_spec.specs.Certificate.{reason_at, peak}
+use Rattle.vipr_spec.specs.Certificate.{Derivation, Certificate, NamesEarlier, reason_at, peak}
 use Rattle.vipr_spec.specs.Steps.{RefersBack}
 use Rattle.vipr_spec.proofs.Laws.{reasons_listed, lasts_listed}
 
