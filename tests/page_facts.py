@@ -258,6 +258,13 @@ class Facts:
             if index not in self.problem.integers:
                 yield 'variable', index
 
+    def was_dropped(self, index):
+        """Whether an earlier constraint was dropped before the derivation that is refused."""
+        if index < self.given:
+            return False
+        step = self.derivations[index - self.given]
+        return step.reason != 'asm' and step.last is not None and step.last < self.number()
+
     def last_use(self, index):
         """The last derivation that names a constraint, as far as the text can be read."""
         users = [self.given + at for at, it in enumerate(self.derivations) if index in (*it.indices, *(entry[0] for entry in it.entries))]
@@ -381,7 +388,8 @@ def place_of(text, at):
 
 
 def constraint_shown(facts, index, name, text, line):
-    """A constraint as it is listed: its name, its algebra, and its line."""
+    """A constraint as it is listed: its name, its algebra unless it was dropped, and its line."""
     same(f'the name of [{index}]', name, shown_name(facts.constraint(index).name))
-    same(f'[{index}]', text, algebra(facts, facts.plain(index)))
+    if text is not None:
+        same(f'[{index}]', text, algebra(facts, facts.plain(index)))
     same(f'the line of [{index}]', line, place_of(facts.text, facts.names['CON', index].at)[0])

@@ -17,7 +17,7 @@ from page_facts import (
 
 
 FORMS = []
-LISTED = r'\[(\d+)\] (\S+)  (.+)  \(line (\d+)\)'
+LISTED = r'\[(\d+)\] (\S+)(?:  (.+)|, which was dropped)  \(line (\d+)\)'
 
 
 def form(pattern, kind=None):
@@ -375,6 +375,7 @@ def named(facts, index, name, text, line, what):
     own = facts.number()
     if what is None:
         true(index < own, f'[{index}] is not earlier')
+        same(f'whether [{index}] was dropped', text is None, facts.was_dropped(index))
         constraint_shown(facts, index, name, text, line)
     else:
         same(f'what [{index}] is', what, {True: 'this derivation itself', False: 'which is not before this derivation'}[index == own])
@@ -390,14 +391,14 @@ def entries_left(page, count):
 CASES = '  case 1 gives ', '     assuming  ', '  case 2 gives ', '     assuming  '
 
 
-@form(rf'(  case [12] gives |     assuming  )(?:{LISTED} (asm|lin|rnd|uns|sol|given)|\[(\d+)\], (this derivation itself|which is not before this derivation))')
+@form(rf'(  case [12] gives |     assuming  )(?:{LISTED}(?: (asm|lin|rnd|uns|sol|given))?|\[(\d+)\], (this derivation itself|which is not before this derivation))')
 def case(page, label: str, index, name: str, text: str, line, word, later, what: str):
     facts = page.facts
     index = later if index is None else index
     same('the case', (label, index), (CASES[len(page.cases)], facts.own().indices[len(page.cases)]))
     page.cases.append(index)
     named(facts, index, name, text, line, what)
-    if word is not None:
+    if word is not None or index < facts.number() and not facts.was_dropped(index):
         same('its reason', word, 'given' if index < facts.given else facts.derivations[index - facts.given].reason)
 
 
@@ -431,16 +432,13 @@ def source(page, name: str, words: str):
     page.sources += 1
     same('the variable', name, variable(facts, index))
     terms = [f'{Fraction(multiplier)} x {facts.constraint(at).row[index]} of [{at}]'
-             for at, multiplier in facts.own().entries if index in facts.constraint(at).row]
+             for at, multiplier in facts.own().entries if Fraction(multiplier) and index in facts.constraint(at).row]
     listed = [it for it in re.sub(r' ?\.\.$', '', words).split(', ') if it not in ('', 'no entry')]
     same('the entries of a coefficient', listed, terms[:len(listed)] if len(listed) == len(terms) else [it for it in terms if it in listed][:len(listed)])
-    entries = facts.own().entries
-    shown_ones = [it for it, _ in entries[:MOST_ENTRIES]]
-    is_unknown = any(it >= facts.given and it not in shown_ones for it, _ in entries)
     is_cut = words.endswith('..')
     true(is_cut or listed == terms, f'it comes from {terms}')
-    true(not is_cut or len(terms) > len(listed) or is_unknown, 'nothing is left out')
-    true(len(terms) == len(listed) or len(listed) >= MOST_SHOWN or is_unknown, 'more is left out than has to be')
+    true(not is_cut or len(terms) > len(listed), 'nothing is left out')
+    true(len(terms) == len(listed) or len(listed) >= MOST_SHOWN, 'more is left out than has to be')
     same('whether there is none', words == 'no entry', not terms and not is_cut)
 
 
@@ -528,7 +526,7 @@ def fits(one, other):
 def dropped(page, index):
     facts = page.facts
     same('the constraint', (32, index), (facts.refused, int(facts.details['index'])))
-    true(index >= facts.given and facts.derivations[index - facts.given].last < facts.number(), 'it was not dropped')
+    true(facts.was_dropped(index), 'it was not dropped')
 
 
 @form(r'  = help: or is a constraint other than \[(\d+)\] meant\?')

@@ -1,79 +1,58 @@
 -- The order of the constraints that come near to a claim, lists in that order, and their first ones
-use Rattle.std.proofs.Common.{◌≡◌, ℕ, zero, suc, ◌+◌, ◌<◌, Bool, true, false, cond, not, ◌&&◌, ◌||◌}
-use Rattle.std.proofs.Common.{nat_lt, List, [], ◌∷◌, length, take, drop, Option, None, refl}
-use Rattle.std.proofs.Common.{sym, ap, ◌∙◌, subst, inl, inr, arith, All, Contains}
-use Rattle.std.proofs.lemmas.List.{length-take-le, length-drop, take-append-drop}
+use Rattle.std.proofs.Common.{◌≡◌, ℕ, zero, suc, ◌+◌, ◌<◌, Bool, true, false, cond, not, List, [], ◌∷◌, length}
+use Rattle.std.proofs.Common.{take, drop, refl, sym, ap, ◌∙◌, subst, inl, inr, arith, All, Contains}
+use Rattle.std.proofs.lemmas.List.{length-append, length-take, length-take-le, length-drop, take-append-drop}
 use Rattle.std.proofs.lemmas.List.Elements.{All-nil, All-cons, All-weaker, All-append, All-take}
 use Rattle.std.proofs.lemmas.List.Elements.{All-drop, All-contains, Contains-append_left}
 use Rattle.std.proofs.lemmas.List.Elements.{Contains-append_right, Contains-append_cases}
 use Rattle.std.proofs.lemmas.Bool.{cases_lt}
 use Rattle.std.proofs.lemmas.Cmp.{back_total, on_total, then_total}
-use Rattle.std.specs.declared.cmp.Ordering.TheVariants.{Less}
+use Rattle.std.specs.declared.cmp.Ordering.TheVariants.{Less, Equal, Greater}
 use Rattle.std.specs.Cmp.{IsTotalOrder, Lexicographic.options_total, bool_cmp_total, nat_cmp_total}
-use Rattle.std.specs.{List.position_or_len, Option.option_cmp, declared.cmp.Ordering.Ordering}
-use Rattle.std.specs.Ordering.{bool_cmp, flip_args, is_lt, nat_cmp, on, ordering_reverse, ordering_then}
-use Rattle.std.specs.Ordering.{then_cmp}
+use Rattle.std.specs.{List.position_or_len, declared.cmp.Ordering.Ordering}
+use Rattle.std.specs.Ordering.{is_gt, nat_cmp, ordering_reverse, ordering_then}
 use Rattle.std.specs.Prelude.{◌⊎◌, insert, if◌then◌else◌}
 use Rattle.vipr_spec.specs.Certificate.{Certificate, constraint_at}
-use Rattle.vipr_spec.specs.{Fraction.ℚ, FractionOrder.cmp_ℚ}
 use Rattle.vipr_spec.proofs.Laws.{cmp_total}
 use Rattle.vipr_rules.specs.declared.claim.Target.{Target}
-use Rattle.vipr_page.specs.Algebra.{size}
-use Rattle.vipr_explain.specs.Near.{misses_less, rank_of, comes_before, with_near, in_order}
-use Rattle.vipr_explain.specs.Near.{AreInOrder, IsLike, IsNear, AreLike, of_none, of_like, of_unlike}
-use Rattle.vipr_explain.specs.Near.{AreNearest, HasPlace}
+use Rattle.vipr_explain.specs.Near.{gap_left, order, comes_before, with_near, AreInOrder, IsLike}
+use Rattle.vipr_explain.specs.Near.{IsNear, AreNearest}
 use Rattle.vipr_explain.specs.declared.near.Near.{Near}
 
--- ---- what comes before what: the strong ones, then by the gap of the others, none last, and then
--- the greater rank
-
-abbrev gap_left : Bool → Option ℚ → Option ℚ
-gap_left true gap = None
-gap_left false gap = gap
-
-abbrev order : Near → Near → Ordering
-order = then_cmp (on (λ n. not n.is_strong) bool_cmp) (then_cmp
-    (flip_args (on (λ n. gap_left n.is_strong n.gap) (option_cmp (flip_args (on size cmp_ℚ)))))
-    (flip_args (on rank_of nat_cmp)))
+-- ---- what comes before what
 
 order_total : IsTotalOrder order
-order_total = then_total (on_total (λ n. not n.is_strong) bool_cmp_total) (then_total
-    (back_total (on_total (λ n. gap_left n.is_strong n.gap) (options_total (back_total (on_total size cmp_total)))))
-    (back_total (on_total rank_of nat_cmp_total)))
+order_total = then_total (then_total (then_total (on_total (λ n. n.is_strong) bool_cmp_total)
+    (on_total gap_left (options_total (back_total cmp_total)))) (on_total (λ n. n.is_free) bool_cmp_total))
+    (on_total (λ n. n.index) nat_cmp_total)
 
-module _ (a b : ℕ) where
-  leads_is : (s t : Bool) (x y : Option ℚ)
-      → (if s then not t || nat_lt b a else not t && misses_less x y (nat_lt b a))
-      ≡ is_lt (ordering_then (bool_cmp (not s) (not t)) (ordering_then
-      (option_cmp (flip_args (on size cmp_ℚ)) (gap_left t y) (gap_left s x)) (nat_cmp b a)))
-  leads_is s t x y = grind arith
+more_of : (o : Ordering) → is_gt o ≡ true → ordering_reverse o ≡ Less
+more_of o h = grind arith
 
-before_is : (n m : Near) → comes_before n m ≡ is_lt (order n m)
-before_is n m = leads_is (rank_of n) (rank_of m) n.is_strong m.is_strong n.gap m.gap
+behind : (n m : Near) → comes_before n m ≡ true → order m n ≡ Less
+behind n m h = order_total.antisymm m n ∙ more_of (order n m) h
 
-less_of : (o : Ordering) → is_lt o ≡ true → o ≡ Less
-less_of o h = grind arith
-
-before : (n m : Near) → comes_before n m ≡ true → order n m ≡ Less
-before n m h = less_of (order n m) (sym (before_is n m) ∙ h)
+before_of : (n m : Near) → order m n ≡ Less → comes_before n m ≡ true
+before_of n m h = ap is_gt (order_total.antisymm n m ∙ ap ordering_reverse h)
 
 before_trans : (l m n : Near) → comes_before l m ≡ true → comes_before m n ≡ true → comes_before l n ≡ true
-before_trans l m n h k = before_is l n ∙ ap is_lt (order_total.trans l m n (before l m h) (before m n k))
+before_trans l m n h k = before_of l n (order_total.trans n m l (behind m n k) (behind l m h))
 
-before_asym : (m n : Near) → comes_before m n ≡ true → comes_before n m ≡ false
-before_asym m n h = before_is n m ∙ ap is_lt (order_total.antisymm n m ∙ ap ordering_reverse (before m n h))
+-- of two of different indices one comes before the other
+tied : (o : Ordering) (a b : ℕ) → ordering_then o (nat_cmp a b) ≡ Equal → a ≡ b
+tied o a b h = grind arith
 
--- what doesn't come before m doesn't come before what does
-behind_first : (l m n : Near) → comes_before l m ≡ true → comes_before n m ≡ false → comes_before n l ≡ false
-behind_first l m n h k = by (comes_before n l) refl
+other_first : (n m : Near) → ¬ (n.index ≡ m.index) → comes_before n m ≡ false → comes_before m n ≡ true
+other_first n m differ h = by (order n m) refl
   where
-    by : (b : Bool) → comes_before n l ≡ b → comes_before n l ≡ false
-    by false e = e
-    by true e = let t = before_trans n l m e h in absurd (cc (t, k))
+    by : (o : Ordering) → order n m ≡ o → comes_before m n ≡ true
+    by Less e = before_of m n e
+    by Equal e = absurd (differ (tied _ n.index m.index e))
+    by Greater e = absurd (let g = ap is_gt e in cc (h, g))
 
 -- ---- one more in a list in that order
 
-pub next_near : (n m : Near) (ns : List Near)
+next_near : (n m : Near) (ns : List Near)
     → with_near n (m ∷ ns) ≡ (if comes_before n m then n ∷ m ∷ ns else m ∷ with_near n ns)
 next_near n m ns = by (comes_before n m)
   where
@@ -89,14 +68,34 @@ all_with_near P n ns p h =
     let i = position_or_len (comes_before n) ns in
     All-append P (take i ns) (n ∷ drop i ns) (All-take P i ns h) (All-cons P n (drop i ns) p (All-drop P i ns h))
 
-order_with_near : (n : Near) (ns : List Near) → AreInOrder ns → AreInOrder (with_near n ns)
-order_with_near n [] o = (All-nil (λ m. comes_before m n ≡ false), tt)
-order_with_near n (m ∷ ns) o =
-    let rest = order_with_near n ns o.1 in
+order_with_near : (n : Near) (ns : List Near) → All (λ m. ¬ (n.index ≡ m.index)) ns → AreInOrder ns
+    → AreInOrder (with_near n ns)
+order_with_near n [] d o = (All-nil (λ m. comes_before n m ≡ true), tt)
+order_with_near n (m ∷ ns) d o =
+    let differ = All-contains (λ m. ¬ (n.index ≡ m.index)) (m ∷ ns) m d (0, omega arith, refl) in
+    let rest = order_with_near n ns (All-drop (λ m. ¬ (n.index ≡ m.index)) 1 (m ∷ ns) d) o.1 in
     subst AreInOrder (sym (next_near n m ns)) ((elim (comes_before n m) as (λ b. comes_before n m ≡ b → AreInOrder (if b then n ∷ m ∷ ns else m ∷ with_near n ns)) [
-      | true ↦ λ e. (All-cons (λ l. comes_before l n ≡ false) m ns (before_asym n m e) (All-weaker (λ l. comes_before l m ≡ false) (λ l. comes_before l n ≡ false) (λ l. behind_first n m l e) ns o.0), o)
-      | false ↦ λ e. (all_with_near (λ l. comes_before l m ≡ false) n ns e o.0, rest)
+      | true ↦ λ e. (All-cons (λ l. comes_before n l ≡ true) m ns e (All-weaker (λ l. comes_before m l ≡ true) (λ l. comes_before n l ≡ true) (λ l. before_trans n m l e) ns o.0), o)
+      | false ↦ λ e. (all_with_near (λ l. comes_before m l ≡ true) n ns (other_first n m differ e) o.0, rest)
     ]) refl)
+
+-- what all of these come before stays behind so many with one more
+still_out : (n m : Near) (ns : List Near) → All (λ l. comes_before l m ≡ true) ns
+    → All (λ l. comes_before l m ≡ true) (take (length ns) (with_near n ns))
+still_out n m [] h = All-nil (λ l. comes_before l m ≡ true)
+still_out n m (x ∷ ns) h =
+    let P : Near → Type 0 = λ l. comes_before l m ≡ true in
+    let first = All-contains P (x ∷ ns) x h (0, omega arith, refl) in
+    let rest = still_out n m ns (All-drop P 1 (x ∷ ns) h) in
+    subst (λ xs. All P (take (suc (length ns)) xs)) (sym (next_near n x ns)) ((elim (comes_before n x) as (λ b. comes_before n x ≡ b → All P (take (suc (length ns)) (if b then n ∷ x ∷ ns else x ∷ with_near n ns))) [
+      | true ↦ λ e. All-cons P n (take (length ns) (x ∷ ns)) (before_trans n x m e first) (All-take P (length ns) (x ∷ ns) h)
+      | false ↦ λ e. All-cons P x (take (length ns) (with_near n ns)) first rest
+    ]) refl)
+
+one_more : (n : Near) (ns : List Near) → length ns < length (with_near n ns)
+one_more n ns =
+    let i = position_or_len (comes_before n) ns in
+    omega (arith, length-append (take i ns) (n ∷ drop i ns), length-take i ns, length-drop i ns)
 
 has_near : (n : Near) (ns : List Near) → Contains (with_near n ns) n
 has_near n ns =
@@ -111,58 +110,68 @@ still_has n m ns c =
       | inr h ↦ Contains-append_right (take i ns) (n ∷ drop i ns) m (Contains-append_right (n ∷ []) (drop i ns) m h)
     ]
 
--- ---- all of them, and the first ones
-
-order_all : (ns : List Near) → AreInOrder (in_order ns)
-order_all [] = tt
-order_all (n ∷ ns) = order_with_near n (in_order ns) (order_all ns)
+-- ---- the first ones
 
 order_first : (k : ℕ) (ns : List Near) → AreInOrder ns → AreInOrder (take k ns)
 order_first zero ns o = tt
 order_first (suc k) [] o = tt
-order_first (suc k) (n ∷ ns) o = (All-take (λ m. comes_before m n ≡ false) k ns o.0, order_first k ns o.1)
+order_first (suc k) (n ∷ ns) o = (All-take (λ m. comes_before n m ≡ true) k ns o.0, order_first k ns o.1)
 
--- one that is left out comes before none of the first ones
+-- each of the first ones comes before one that is left out
 left_out : (k : ℕ) (ns : List Near) (n : Near) → AreInOrder ns → Contains (drop k ns) n
-    → All (λ m. comes_before n m ≡ false) (take k ns)
-left_out zero ns n o c = All-nil (λ m. comes_before n m ≡ false)
-left_out (suc k) [] n o c = All-nil (λ m. comes_before n m ≡ false)
-left_out (suc k) (m ∷ ns) n o c = All-cons (λ l. comes_before n l ≡ false) m (take k ns)
-    (All-contains (λ l. comes_before l m ≡ false) (drop k ns) n (All-drop (λ l. comes_before l m ≡ false) k ns o.0) c)
+    → All (λ m. comes_before m n ≡ true) (take k ns)
+left_out zero ns n o c = All-nil (λ m. comes_before m n ≡ true)
+left_out (suc k) [] n o c = All-nil (λ m. comes_before m n ≡ true)
+left_out (suc k) (m ∷ ns) n o c = All-cons (λ l. comes_before l n ≡ true) m (take k ns)
+    (All-contains (λ l. comes_before m l ≡ true) (drop k ns) n (All-drop (λ l. comes_before m l ≡ true) k ns o.0) c)
     (left_out k ns n o.1 c)
 
 first_or_out : (k : ℕ) (ns : List Near) (n : Near) → AreInOrder ns → Contains ns n
-    → Contains (take k ns) n ⊎ ((length (take k ns) ≡ k) × All (λ m. comes_before n m ≡ false) (take k ns))
+    → Contains (take k ns) n ⊎ ((length (take k ns) ≡ k) × All (λ m. comes_before m n ≡ true) (take k ns))
 first_or_out k ns n o c = elim (Contains-append_cases (take k ns) (drop k ns) n (subst (λ l. Contains l n) (sym (take-append-drop k ns)) c)) [
   | inl h ↦ inl h
   | inr h ↦ inr (length-take-le k ns (let l = length-drop k ns in let w = h.1 in omega arith), left_out k ns n o h)
 ]
 
--- ---- the constraints that are like what is wanted
+-- ---- the nearest constraints
 
-module _ (c : Certificate) (t : Target) where
-  each_like : (k : ℕ) (ns : List Near) → AreLike c t k ns → (i : ℕ) → i < k → IsLike t (constraint_at c i)
-      → (n : Near) × (n.index ≡ i) × IsNear c t n × Contains (in_order ns) n
-  each_like k ns of_none i l like = absurd (omega arith)
-  each_like k ns (of_like {k = j} {ns = ms} {n = n} at is before) i l like = elim (cases_lt i j) [
-    | inl m ↦ (let x = each_like j ms before i m like in (x.0, x.1, x.2, still_has n x.0 (in_order ms) x.3))
-    | inr m ↦ (n, omega (arith, at), is, has_near n (in_order ms))
-  ]
-  each_like k ns (of_unlike {k = j} unlike before) i l like = elim (cases_lt i j) [
-    | inl m ↦ each_like j ns before i m like
-    | inr m ↦ absurd (unlike (let e : i ≡ j = omega arith in subst (λ h. IsLike t (constraint_at c h)) e like))
-  ]
+module _ (c : Certificate) (t : Target) (k : ℕ) (ns : List Near) (so_far : AreNearest c t k ns) where
+  abbrev IsBelow : ℕ → Near → Type 0
+  IsBelow k n = (n.index < k) × IsNear c t n
 
-  pub nearest_order : (k : ℕ) (ns : List Near) → AreNearest c t k ns → AreInOrder ns
-  nearest_order k ns h = subst AreInOrder (sym h.2) (order_first 3 (in_order h.0) (order_all h.0))
+  up : All (IsBelow (k + 1)) ns
+  up = All-weaker (IsBelow k) (IsBelow (k + 1)) (λ n h. (omega (arith, h.0), h.1)) ns so_far.near
 
-  pub nearest_all : (k : ℕ) (ns : List Near) → AreNearest c t k ns → (i : ℕ) → i < k
-      → IsLike t (constraint_at c i) → HasPlace c t ns i
-  nearest_all k ns h i l like =
-      let n = each_like k h.0 h.1 i l like in
+  pub nearest_unlike : ¬ IsLike t (constraint_at c k) → AreNearest c t (k + 1) ns
+  nearest_unlike unlike = record {
+    near = up;
+    order = so_far.order;
+    few = so_far.few;
+    all = λ i l like. elim (cases_lt i k) [
+      | inl m ↦ so_far.all i m like
+      | inr m ↦ absurd (unlike (let e : i ≡ k = omega arith in subst (λ h. IsLike t (constraint_at c h)) e like))
+    ];
+  }
+
+  pub nearest_like : (n : Near) → n.index ≡ k → IsNear c t n → AreNearest c t (k + 1) (take 3 (with_near n ns))
+  nearest_like n at is =
+      let more = with_near n ns in
+      let differ = All-weaker (IsBelow k) (λ m. ¬ (n.index ≡ m.index)) (λ m h e. (let l = h.0 in omega arith)) ns so_far.near in
+      let order = order_with_near n ns differ so_far.order in
       record {
-        near = n.0;
-        index_is = n.1;
-        is = n.2;
-        place = subst (λ ms. Contains ms n.0 ⊎ ((length ms ≡ 3) × All (λ m. comes_before n.0 m ≡ false) ms)) (sym h.2) (first_or_out 3 (in_order h.0) n.0 (order_all h.0) n.3);
+        near = All-take (IsBelow (k + 1)) 3 more (all_with_near (IsBelow (k + 1)) n ns (omega (arith, at), is) up);
+        order = order_first 3 more order;
+        few = omega (arith, length-take 3 more);
+        all = λ i l like. elim (cases_lt i k) [
+          | inl m ↦ (let h = so_far.all i m like in record {
+            near = h.near;
+            index_is = h.index_is;
+            is = h.is;
+            place = elim h.place [
+              | inl there ↦ first_or_out 3 more h.near order (still_has n h.near ns there)
+              | inr out ↦ inr (length-take-le 3 more (omega (arith, out.0, one_more n ns)), subst (λ j. All (λ l. comes_before l h.near ≡ true) (take j more)) out.0 (still_out n h.near ns out.1))
+            ];
+          })
+          | inr m ↦ record { near = n; index_is = omega (arith, at); is = is; place = first_or_out 3 more n order (has_near n ns) }
+        ];
       }

@@ -1,13 +1,13 @@
 -- The search for the constraints that come nearest to a claim, one constraint after another
-use Rattle.std.proofs.Common.{◌≡◌, ℕ, zero, suc, ◌+◌, ◌<◌, Bool, true, false, List, []}
-use Rattle.std.proofs.Common.{◌∷◌, ◌++◌, length, map, take, get_or, Option, None, Some, refl, sym, ap}
+use Rattle.std.proofs.Common.{◌≡◌, ℕ, ◌+◌, ◌<◌, Bool, true, false, List, []}
+use Rattle.std.proofs.Common.{◌∷◌, ◌++◌, length, map, get_or, Option, None, Some, refl, sym, ap}
 use Rattle.std.proofs.Common.{◌∙◌, append_assoc, subst, inl, inr, arith, IsTrue}
-use Rattle.std.specs.Prelude.{◌↔◌, ◌≢◌, if◌then◌else◌, All, option_and_then, option_map, Ok}
+use Rattle.std.specs.Prelude.{◌↔◌, ◌≢◌, All, option_and_then, option_map, Ok}
 use Rattle.std.specs.FinSet.{FinSet, contains, contains-empty, same_set, nat_cmp-IsAntisymmetric}
 use Rattle.std.specs.{Cmp.nat_cmp_total, Ordering.nat_cmp}
 use Rattle.std.specs.FinSet as set
 use Rattle.std.proofs.lemmas.Bool.{cases_lt}
-use Rattle.std.proofs.lemmas.List.{get_or_append_left, get_or-map, length-map, take-take}
+use Rattle.std.proofs.lemmas.List.{get_or_append_left, get_or-map, length-map}
 use Rattle.vipr_spec.specs.Constraint.{Profile, Constraint as Meant, Condition, condition, at}
 use Rattle.vipr_spec.specs.Constraint.{NamesBelow}
 use Rattle.vipr_spec.specs.Certificate.{Problem, Derivation, Certificate, count, constraint_at}
@@ -28,15 +28,14 @@ use Rattle.vipr_cert.specs.declared.items.Reason.TheVariants as by
 use Rattle.vipr_table.specs.Table.{DerivedBelow, step}
 use Rattle.vipr_table.specs.{History.IsTableOf, declared.rows.Entry.Entry}
 use Rattle.vipr_table.proofs.Laws.{DerivedBelow-step, IsTableOf-step}
-use Rattle.vipr_rules.specs.{Apply.entry_resting_on, Claim.IsTargetIn, declared.claim.Target.Target}
+use Rattle.vipr_rules.specs.{Apply.entry_resting_on, Claim.IsTargetIn}
 use Rattle.vipr_explain.specs.Found.{AreDerivationsRead, HasFault, head_read}
-use Rattle.vipr_explain.specs.Near.{AreKeptSteps, IsLike, comes_before, with_near, in_order, IsNear, AreNearest}
-use Rattle.vipr_explain.specs.Near.{IsOpenJoin, join_of, of_like, of_unlike, without_solutions}
-use Rattle.vipr_explain.specs.Near.{IsNextEntry, HasPassedAll, HasReplayed, SearchesTo, HasNoStep}
-use Rattle.vipr_explain.specs.Near.{IsStepOf, LacksGoal, passed_to, up_to}
+use Rattle.vipr_explain.specs.Near.{AreNearest, IsOpenJoin, join_of, without_solutions, IsNextEntry}
+use Rattle.vipr_explain.specs.Near.{HasPassedAll, HasReplayed, SearchesTo, HasNoStep, IsStepOf}
+use Rattle.vipr_explain.specs.Near.{LacksGoal, passed_to, up_to}
+use Rattle.vipr_explain.specs.declared.near.NearSearch.{NearSearch}
 use Rattle.vipr_explain.specs.{declared.changes.Replay.Replay, declared.near.Join.Join}
-use Rattle.vipr_explain.specs.{declared.near.Near.Near, declared.near.NearSearch.NearSearch}
-use Rattle.vipr_explain.proofs.{Again.one_behind, NearOrder.next_near}
+use Rattle.vipr_explain.proofs.{Again.one_behind}
 
 -- ---- one constraint more
 
@@ -52,31 +51,6 @@ free_is c i s b is rests = (
     none : (a : ℕ) (b : Bool) → contains s a ≡ b → ¬ RestsOn c i a → contains s a ≡ contains (set.empty {R = nat_cmp}) a
     none a true e n = absurd (n ((rests a).0 e))
     none a false e n = e ∙ sym (contains-empty nat_cmp a)
-
--- what is behind the first ones makes no difference to them
-take_near : (k : ℕ) (n : Near) (ns : List Near) → take k (with_near n (take k ns)) ≡ take k (with_near n ns)
-take_near zero n ns = refl
-take_near (suc k) n [] = refl
-take_near (suc k) n (m ∷ ns) =
-    let first : List Near → Bool → List Near = λ ms b. take (suc k) (if b then n ∷ m ∷ ms else m ∷ with_near n ms) in
-    let rest = take_near k n ns in
-    ap (take (suc k)) (next_near n m (take k ns)) ∙ (elim (comes_before n m) as (λ b. first (take k ns) b ≡ first ns b) [
-      | true ↦ ap (λ ms. n ∷ ms) (take_behind k)
-      | false ↦ ap (λ ms. m ∷ ms) rest
-    ]) ∙ sym (ap (take (suc k)) (next_near n m ns))
-  where
-    take_behind : (j : ℕ) → take j (m ∷ take j ns) ≡ take j (m ∷ ns)
-    take_behind zero = refl
-    take_behind (suc j) = ap (λ ms. m ∷ ms) (take-take j (suc j) ns (omega arith))
-
-pub nearest_unlike : (c : Certificate) (t : Target) (i : ℕ) (ns : List Near)
-    → ¬ IsLike t (constraint_at c i) → AreNearest c t i ns → AreNearest c t (i + 1) ns
-nearest_unlike c t i ns unlike near = (near.0, of_unlike unlike near.1, near.2)
-
-pub nearest_like : (c : Certificate) (t : Target) (n : Near) (ns : List Near) → IsNear c t n
-    → AreNearest c t n.index ns → AreNearest c t (n.index + 1) (take 3 (with_near n ns))
-nearest_like c t n ns is near =
-    (n ∷ near.0, of_like refl is near.1, ap (λ ms. take 3 (with_near n ms)) near.2 ∙ take_near 3 n (in_order near.0))
 
 -- ---- the constraints of the problem
 
@@ -125,9 +99,9 @@ back_next c d back earlier k = elim (cases_lt k (count c)) [
 -- the next one was passed
 pub replayed_next : (p : Problem) (ds : List Derivation) (d : Derivation) (e : Entry) (s t : Replay)
     → t.rows ≡ step s.rows e → length t.scratch.sums ≡ length s.scratch.sums
-    → NamesBelow (variables p) (condition d.stated).row → AreKeptSteps p (ds ++ d ∷ []) t.kept.items
+    → NamesBelow (variables p) (condition d.stated).row
     → IsNextEntry (without_solutions p ds) d e → HasReplayed p ds s → HasReplayed p (ds ++ d ∷ []) t
-replayed_next p ds d e s t rows scratch names kept next so_far =
+replayed_next p ds d e s t rows scratch names next so_far =
     let c = without_solutions p ds in
     let now = with_next c d in
     record {
@@ -135,7 +109,6 @@ replayed_next p ds d e s t rows scratch names kept next so_far =
       back = back_next c d so_far.back next.earlier;
       below = subst (DerivedBelow (variables p)) (sym rows) (DerivedBelow-step (variables p) s.rows e so_far.below (subst (λ (x : Condition). NamesBelow (variables p) x.row) (sym (constraint_next c d) ∙ next.entry.says) names));
       scratch = scratch ∙ so_far.scratch;
-      kept = kept;
     }
 
 -- it is kept so, and its constraint was added
@@ -143,7 +116,6 @@ pub passed_next : (P : Profile) (p : Problem) (ds : List Derivation) (d : Deriva
     (s t : NearSearch) (i : ℕ) (join : Option Join) → i ≡ s.replay.rows.next
     → join ≡ join_of d.reason → t.target ≡ s.target → t.replay.rows ≡ step s.replay.rows e
     → length t.replay.scratch.sums ≡ length s.replay.scratch.sums → NamesBelow (variables p) (condition d.stated).row
-    → AreKeptSteps p (ds ++ d ∷ []) t.replay.kept.items
     → ((c : Certificate) → constraint_at c i ≡ condition_of e.constraint
     → ((a : ℕ) → IsTrue (contains e.assumptions a) ↔ RestsOn c i a)
     → AreNearest c s.target i s.near.items → AreNearest c s.target (i + 1) t.near.items)
@@ -152,7 +124,7 @@ pub passed_next : (P : Profile) (p : Problem) (ds : List Derivation) (d : Deriva
     → All (IsOpenJoin c) s.joins.items → All (IsOpenJoin c) t.joins.items)
     → IsNextEntry (without_solutions p ds) d e → HasPassedAll P p ds s
     → HasPassedAll P p (ds ++ d ∷ []) t
-passed_next P p ds d e s t i join index joins target rows scratch names kept added keeps next so_far =
+passed_next P p ds d e s t i join index joins target rows scratch names added keeps next so_far =
     let c = without_solutions p ds in
     let now = with_next c d in
     let here : count c ≡ i = sym (index ∙ so_far.replayed.rows.next) in
@@ -166,7 +138,7 @@ passed_next P p ds d e s t i join index joins target rows scratch names kept add
     subst (λ k. IsTrue (contains e.assumptions a) ↔ RestsOn (with_more now more) k a) here (λ h. kept.1 ((next.entry.rests a).0 h), λ r. (next.entry.rests a).1 (kept.0 r)) in
     record {
       target = subst (IsTargetIn P p) (sym target) so_far.target;
-      replayed = replayed_next p ds d e s.replay t.replay rows scratch names kept next so_far.replayed;
+      replayed = replayed_next p ds d e s.replay t.replay rows scratch names next so_far.replayed;
       near = λ more.
           let all = with_more now more in
           let before = subst (λ xs. AreNearest (without_solutions p xs) s.target (count c) s.near.items) (moved more) (so_far.near (d ∷ more)) in

@@ -3,10 +3,9 @@ use Rattle.std.specs.Prelude.{◌≡◌, ◌↔◌, ℕ, ⊤, List, [], ◌∷�
 use Rattle.std.specs.Prelude.{option_map}
 use Rattle.vipr_spec.specs.{Certificate.Derivation, Constraint.Profile}
 use Rattle.vipr_cert.specs.Items.{derivation_of}
-use Rattle.vipr_explain.specs.Near.{IsNearSearch, IsStepOf}
-use Rattle.vipr_explain.specs.declared.goal.ProvedGoal.{ProvedGoal}
 use Rattle.vipr_explain.specs.declared.goal.UnprovedClaim.{UnprovedClaim}
-use Rattle.vipr_explain.specs.{Found.text_rest, Refused.AreNamesOf, Values.ListsSolution}
+use Rattle.vipr_explain.specs.{Found.text_rest, Near.IsReadTo, Near.IsStepOf, Refused.AreNamesOf}
+use Rattle.vipr_explain.specs.{Values.ListsSolution, declared.goal.ProvedGoal.ProvedGoal}
 
 -- the constraint of this index was read, if there is one
 pub record IsGoalFound (text : List ℕ) (index : ℕ) (g : ProvedGoal) : Type 0 where
@@ -24,7 +23,7 @@ IsGoalRead text _ _ = ⊥
 
 -- the nearest constraints of a text, those that are shown, and whether it lists a solution
 pub record IsUnproved (P : Profile) (text : List ℕ) (u : UnprovedClaim) : Type 0 where
-  pub search : IsNearSearch P (text_rest text) u.known.problem u.search
+  pub search : IsReadTo P (text_rest text) None u.known.problem u.search None
   pub text_is : u.known.text.now ≡ text
   pub names : AreNamesOf text (map (λ n. n.index) u.search.near.items) u.known.marks
   pub solution : IsTrue u.has_solution ↔ ListsSolution (text_rest text)

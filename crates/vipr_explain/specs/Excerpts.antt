@@ -1,7 +1,20 @@
 -- A part of a line round a place in a text
-use Rattle.std.specs.Prelude.{◌≡◌, ℕ, ◌-◌, min, Bool, not, ◌||◌, ◌==◌, nat_lt, List, length, take}
-use Rattle.std.specs.Prelude.{drop, take_while}
+use Rattle.std.specs.Prelude.{◌≡◌, ℕ, ◌+◌, ◌-◌, min, Bool, not, ◌||◌, ◌==◌, nat_lt, List, length}
+use Rattle.std.specs.Prelude.{take, count_by, drop, reverse, take_while}
 use Rattle.vipr_explain.specs.{declared.excerpt.Excerpt.Excerpt, declared.text.Span.Span}
+use Rattle.vipr_explain.specs.Words.{in_u64}
+
+abbrev pub is_line_feed : ℕ → Bool
+is_line_feed b = b == 10
+
+-- the line of the byte behind these, counted from 1
+abbrev pub line_behind : List ℕ → ℕ
+line_behind bytes = in_u64 (count_by is_line_feed bytes + 1)
+
+-- the column of that byte, counted from 1: those at the end that are no line feed are in its line
+abbrev pub column_behind : List ℕ → ℕ
+column_behind bytes =
+    in_u64 (length (take_while (λ b. not (is_line_feed b)) (reverse bytes)) + 1)
 
 -- the bytes of a text that this token has
 abbrev pub part_of : List ℕ → Span → List ℕ
@@ -11,9 +24,9 @@ part_of text span = take span.size (drop span.offset text)
 abbrev pub most_shown : ℕ
 most_shown = 60
 
--- how many bytes are shown before a place: those of its line, but not more than 60
-abbrev pub shown_before : Span → ℕ
-shown_before span = min (span.column - 1) most_shown
+-- how many bytes are shown before a column: those of its line, but not more than 60
+abbrev pub shown_before : ℕ → ℕ
+shown_before column = min (column - 1) most_shown
 
 -- no end of a line
 abbrev pub is_in_line : ℕ → Bool
@@ -24,8 +37,10 @@ line_of bytes = take_while is_in_line bytes
 
 -- the part of the line round this place of this text, which has so many bytes
 pub record IsExcerptAt (text : List ℕ) (span : Span) (p : Excerpt) : Type 0 where
-  pub place : p.span ≡ span
+  pub line : p.line ≡ line_behind (take span.offset text)
+  pub column : p.column ≡ column_behind (take span.offset text)
+  pub size : p.size ≡ span.size
   pub before : p.before.now
-      ≡ take (shown_before span) (drop (span.offset - shown_before span) text)
+      ≡ take (shown_before p.column) (drop (span.offset - shown_before p.column) text)
   pub behind : p.behind.now ≡ take most_shown (line_of (drop span.offset text))
   pub cut : p.is_cut ≡ nat_lt most_shown (length (line_of (drop span.offset text)))

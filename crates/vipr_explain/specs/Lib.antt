@@ -1,5 +1,4 @@
 pub mod Marked
-pub mod Places
 pub mod Excerpts
 pub mod Found
 pub mod Progress

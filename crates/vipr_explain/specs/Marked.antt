@@ -43,12 +43,11 @@ is_behind kind.Claim section.Derivations = true
 is_behind kind.Solutions section.Derivations = true
 is_behind _ _ = false
 
--- whether this is a part of an item, or wanted behind the last one
-abbrev pub is_past_head : Wanted → Bool
-is_past_head wanted.Keyword = false
-is_past_head wanted.Count = false
-is_past_head wanted.BoundCount = false
-is_past_head _ = true
+-- whether a token names an item
+abbrev pub is_name : Wanted → Bool
+is_name wanted.Name = true
+is_name wanted.Claim = true
+is_name _ = false
 
 -- whether a token is this part of an item, by what is wanted there and how far the text was read
 abbrev pub is_part_at : ItemPart → Wanted → TextProgress → Bool
@@ -78,21 +77,15 @@ part_of_item s end index = if index == end then s.part else part_of_used s.used 
 -- whether no item of this kind up to this index is to come, and no use is looked for
 abbrev pub is_past : Sought → TextProgress → ℕ → Bool
 is_past s p end = is_none s.used && (is_behind s.kind p.section
-    || (is_past_head p.wanted && (is_of s.kind p.section && nat_lt end (index_of p))))
+    || (is_name p.wanted && (is_of s.kind p.section && nat_lt end (index_of p))))
 
--- behind a token at this place of an item that is looked for, by what is wanted there
-abbrev pub marked_at : Wanted → Bool → ℕ → Span → List ItemPlace → List ItemPlace
-marked_at wanted.Name is_part index span marks = marks ++ mark_at index span ∷ []
-marked_at wanted.Claim is_part index span marks = marks ++ mark_at index span ∷ []
-marked_at _ true index span marks = with_part span marks
-marked_at _ false index span marks = marks
-
--- the same if the item is of this kind, and one of these
+-- behind a token at this place, if it names an item that is looked for, or is the part of one
 abbrev pub marked : Sought → ℕ → TextProgress → Span → List ItemPlace → List ItemPlace
 marked s end p span marks =
-    if is_of s.kind p.section && list_any (λ i. i == index_of p) s.items.now
-    then marked_at p.wanted (is_part (part_of_item s end (index_of p)) p) (index_of p) span marks
-    else marks
+    if (is_name p.wanted || is_part (part_of_item s end (index_of p)) p)
+    && (is_of s.kind p.section && list_any (λ i. i == index_of p) s.items.now)
+    then (if is_name p.wanted then marks ++ mark_at (index_of p) span ∷ []
+    else with_part span marks) else marks
 
 -- the last derivation that refers to a constraint, behind a token where this is wanted
 abbrev pub user_at : Option ℕ → Wanted → ℕ → ℕ → ℕ → ℕ
@@ -119,8 +112,8 @@ marking_behind s m word span = (
 
 -- those of a text
 abbrev pub marking_in : Sought → List ℕ → Marking
-marking_in s text = walked (stops_marking s) (marking_behind s) text (at_start, [], 0)
-    (text_tokens text)
+marking_in s text =
+    walked (stops_marking s) (marking_behind s) (at_start, [], 0) (text_tokens text)
 
 -- this is what is looked for in a text
 pub record AreMarksIn (text : List ℕ) (s : Sought) (marks : Marks) : Type 0 where

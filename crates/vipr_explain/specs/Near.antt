@@ -1,10 +1,10 @@
 -- The constraints that come nearest to a claim: what is known of each, and their order
 use Rattle.std.specs.Prelude.{◌≡◌, ◌≢◌, ◌↔◌, ◌⊎◌, ◌+◌, ◌-◌, ◌<◌, ◌≤◌, ◌++◌, ℕ, ℤ, Bool, true, false}
-use Rattle.std.specs.Prelude.{not, min, Ok, ◌&&◌, ◌||◌, IsTrue, List, [], ◌∷◌, length, take, insert}
-use Rattle.std.specs.Prelude.{Option, Some, None, All, Contains, if◌then◌else◌, ⊤, nat_lt, ◌^◌}
-use Rattle.std.specs.Prelude.{option_and_then}
-use Rattle.std.specs.declared.cmp.Ordering.TheVariants.{Less, Equal, Greater}
-use Rattle.std.specs.{FinSet.contains, List.position_or_len, declared.cmp.Ordering.Ordering}
+use Rattle.std.specs.Prelude.{min, Ok, IsTrue, List, [], ◌∷◌, length, insert, Option, Some}
+use Rattle.std.specs.Prelude.{None, All, Contains, if◌then◌else◌, ⊤, option_and_then, option_map}
+use Rattle.std.specs.declared.cmp.Ordering.{Ordering}
+use Rattle.std.specs.Ordering.{bool_cmp, flip_args, is_gt, nat_cmp, on, then_cmp}
+use Rattle.std.specs.{FinSet.contains, List.position_or_len, Option.option_cmp}
 use Rattle.vipr_spec.specs.Fraction.{ℚ, whole, neg_ℚ, ◌+ℚ◌, SumFits}
 use Rattle.vipr_spec.specs.FractionOrder.{cmp_ℚ}
 use Rattle.vipr_spec.specs.Constraint.{Profile, Sense, at_most, equal, at_least, Condition}
@@ -15,8 +15,7 @@ use Rattle.vipr_spec.specs.Certificate.{RestsOn, RestsOnNothing, NamesEarlier, R
 use Rattle.vipr_spec.specs.Steps.{with_more, with_next, RefersBack, Refuses, StepDetail}
 use Rattle.vipr_spec.specs.Reading.{Rest, Read, ◌>>=◌, read_each, derivation_read}
 use Rattle.vipr_read.specs.Items.{Items as Reader}
-use Rattle.vipr_linear.specs.Constraint.{condition_of, constraint_of}
-use Rattle.vipr_cert.specs.Items.{reason_of}
+use Rattle.vipr_linear.specs.Constraint.{condition_of}
 use Rattle.vipr_table.specs.History.{IsEntryOf, IsTableOf}
 use Rattle.vipr_table.specs.{Table.DerivedBelow, declared.rows.Entry.Entry}
 use Rattle.vipr_rules.specs.declared.claim.Target.TheVariants.{Absurdity, Bound, WholeBound}
@@ -24,7 +23,7 @@ use Rattle.vipr_rules.specs.declared.claim.Target.TheVariants.{Nothing}
 use Rattle.vipr_rules.specs.{Claim.IsMetBy, Claim.IsTargetIn, declared.claim.Target.Target}
 use Rattle.vipr_page.specs.Algebra.{size}
 use Rattle.vipr_explain.specs.Found.{AreDerivationsRead, AreReadSoFar, HasFault, head_read}
-use Rattle.vipr_explain.specs.declared.near.{NearSearch.NearSearch, Numbered.Numbered}
+use Rattle.vipr_explain.specs.declared.near.NearSearch.{NearSearch}
 use Rattle.vipr_explain.specs.{declared.changes.Replay.Replay, declared.near.Join.Join}
 use Rattle.vipr_explain.specs.{declared.near.Near.Near, declared.near.OpenJoin.OpenJoin}
 
@@ -79,42 +78,29 @@ MissesBy Nothing d gap = gap ≡ None
 
 -- ---- their order
 
--- whether a gap that compares so with another one is less; one that is as large is, if it is freer
-abbrev pub closer_by : Ordering → Bool → Bool
-closer_by Less is_freer = true
-closer_by Equal is_freer = is_freer
-closer_by Greater is_freer = false
+-- how far what isn't strong enough misses the bound
+abbrev pub gap_left : Near → Option ℚ
+gap_left n = if n.is_strong then None else option_map size n.gap
 
--- a gap that isn't known comes last
-abbrev pub misses_less : Option ℚ → Option ℚ → Bool → Bool
-misses_less (Some g) (Some h) is_freer = closer_by (cmp_ℚ (size g) (size h)) is_freer
-misses_less (Some g) None is_freer = true
-misses_less None (Some h) is_freer = false
-misses_less None None is_freer = is_freer
+-- What is strong enough is more, and then what misses the bound by less, of which none is least. Of
+-- two alike the one that rests on nothing is more, or else the later one.
+abbrev pub order : Near → Near → Ordering
+order = then_cmp (then_cmp (then_cmp (on (λ n. n.is_strong) bool_cmp)
+    (on gap_left (option_cmp (flip_args cmp_ℚ)))) (on (λ n. n.is_free) bool_cmp))
+    (on (λ n. n.index) nat_cmp)
 
--- of two alike the one that rests on nothing comes first, or else the later one
-abbrev pub rank_of : Near → ℕ
-rank_of n = if n.is_free then n.index + 2 ^ 32 else n.index
-
--- what is strong enough comes first, and then what misses the bound by less
+-- what is more comes first
 abbrev pub comes_before : Near → Near → Bool
-comes_before n m = let is_freer = nat_lt (rank_of m) (rank_of n) in
-    if n.is_strong then not m.is_strong || is_freer
-    else not m.is_strong && misses_less n.gap m.gap is_freer
+comes_before n m = is_gt (order n m)
 
 -- n in front of the first of these that it comes before
 abbrev pub with_near : Near → List Near → List Near
 with_near n ns = insert ns (position_or_len (comes_before n) ns) n
 
--- these, which came from the last one on
-abbrev pub in_order : List Near → List Near
-in_order [] = []
-in_order (n ∷ ns) = with_near n (in_order ns)
-
--- none of these comes before one in front of it
+-- each of these comes before those behind it
 abbrev pub AreInOrder : List Near → Type 0
 AreInOrder [] = ⊤
-AreInOrder (n ∷ ns) = All (λ m. comes_before m n ≡ false) ns × AreInOrder ns
+AreInOrder (n ∷ ns) = All (λ m. comes_before n m ≡ true) ns × AreInOrder ns
 
 -- ---- what is known of each
 
@@ -139,24 +125,19 @@ pub record IsNear (c : Certificate) (t : Target) (n : Near) : Type 0 where
   pub rests : (a : ℕ) → IsTrue (contains n.assumptions a) ↔ RestsOn c n.index a
   pub free : IsTrue n.is_free ↔ RestsOnNothing c n.index
 
--- these are all of the first k constraints that are like what is wanted, from the last one on
-pub data AreLike (c : Certificate) (t : Target) : ℕ → List Near → Type 0 where
-  of_none : AreLike c t 0 []
-  of_like : {k : ℕ} {ns : List Near} {n : Near} → n.index ≡ k → IsNear c t n → AreLike c t k ns
-      → AreLike c t (k + 1) (n ∷ ns)
-  of_unlike : {k : ℕ} {ns : List Near} → ¬ IsLike t (constraint_at c k) → AreLike c t k ns
-      → AreLike c t (k + 1) ns
-
--- these are the first three of them in their order, or all if there are fewer
-abbrev pub AreNearest : Certificate → Target → ℕ → List Near → Type 0
-AreNearest c t k ns = (all : List Near) × AreLike c t k all × (ns ≡ take 3 (in_order all))
-
--- constraint i is among these, or there are three, and it comes before none of them
+-- constraint i is among these, or there are three, and each of them comes before it
 pub record HasPlace (c : Certificate) (t : Target) (ns : List Near) (i : ℕ) : Type 0 where
   pub near : Near
   pub index_is : near.index ≡ i
   pub is : IsNear c t near
-  pub place : Contains ns near ⊎ ((length ns ≡ 3) × All (λ m. comes_before near m ≡ false) ns)
+  pub place : Contains ns near ⊎ ((length ns ≡ 3) × All (λ m. comes_before m near ≡ true) ns)
+
+-- these are the nearest of the first k constraints, at most three, in their order
+pub record AreNearest (c : Certificate) (t : Target) (k : ℕ) (ns : List Near) : Type 0 where
+  pub near : All (λ n. (n.index < k) × IsNear c t n) ns
+  pub order : AreInOrder ns
+  pub few : length ns ≤ 3
+  pub all : (i : ℕ) → i < k → IsLike t (constraint_at c i) → HasPlace c t ns i
 
 -- ---- the search
 
@@ -175,23 +156,13 @@ pub record IsNextEntry (c : Certificate) (d : Derivation) (e : Entry) : Type 0 w
 abbrev pub IsRefusedNext : Profile → Certificate → Derivation → Type 0
 IsRefusedNext P c d = (d.reason ≢ sol) × (n : ℕ) × (x : StepDetail) × Refuses P c d n x
 
--- one of these derivations, with its constraint's index
-abbrev pub IsKeptStep : Problem → List Derivation → Numbered → Type 0
-IsKeptStep p ds n = (d : Derivation) × (front back : List Derivation) × (ds ≡ front ++ d ∷ back)
-    × (count (without_solutions p front) ≡ n.index)
-    × (constraint_of n.constraint ≡ d.stated) × (reason_of n.reason ≡ d.reason)
-
-abbrev pub AreKeptSteps : Problem → List Derivation → List Numbered → Type 0
-AreKeptSteps p ds kept = All (IsKeptStep p ds) kept
-
--- The table has all these derivations of a problem, and no variable but those of the problem; the
--- scratch has a place for each. Some are kept for themselves.
+-- the table has all these derivations of a problem, and no variable but those of the problem; the
+-- scratch has a place for each
 pub record HasReplayed (p : Problem) (ds : List Derivation) (r : Replay) : Type 0 where
   pub rows : IsTableOf (without_solutions p ds) r.rows
   pub back : RefersBack (without_solutions p ds)
   pub below : DerivedBelow (variables p) r.rows
   pub scratch : length r.scratch.sums ≡ variables p
-  pub kept : AreKeptSteps p ds r.kept.items
 
 -- the first k constraints of a problem with these derivations were passed; whatever comes behind
 -- them, the nearest of them are kept
@@ -221,10 +192,6 @@ abbrev pub SearchesTo : Profile → Rest → Problem → Option ℕ → Reader �
 SearchesTo P text p end r s = (n : ℕ) × SearchesPartWay P text p n r s
     × (n ≡ passed_to end (length p.constraints) (n + r.left))
 
--- all of them were
-abbrev pub IsNearSearch : Profile → Rest → Problem → NearSearch → Type 0
-IsNearSearch P text p s = (r : Reader) × SearchesTo P text p None r s
-
 -- a text has no derivation of constraint k
 pub record HasNoStep (text : Rest) (k : ℕ) : Type 0 where
   pub problem : Problem
@@ -239,10 +206,16 @@ IsStepOf text p before k (Some d) = (r : Reader) × AreDerivationsRead text p (b
     × (count (without_solutions p before) ≡ k)
 IsStepOf text p before k None = HasNoStep text k
 
--- the derivations before that of constraint k are kept so, and this is that one
-abbrev pub IsStepRead : Rest → ℕ → Problem → Replay → Option Derivation → Type 0
-IsStepRead text k p r d =
-    (before : List Derivation) × HasReplayed p before r × IsStepOf text p before k d
+abbrev pub IsStepAt : Rest → Problem → List Derivation → Option ℕ → Option Derivation → Type 0
+IsStepAt text p before (Some k) d = IsStepOf text p before k d
+IsStepAt text p before None d = d ≡ None
+
+-- those before constraint k, or all, were read and passed, and this is that of k
+pub record IsReadTo (P : Profile) (text : Rest) (end : Option ℕ) (p : Problem) (s : NearSearch)
+    (d : Option Derivation) : Type 0 where
+  pub reader : Reader
+  pub searches : SearchesTo P text p end reader s
+  pub step : IsStepAt text p searches.1.read end d
 
 -- so many derivations of a text are read, and the next one breaks a rule
 pub record BreaksRule (P : Profile) (text : Rest) : Type 0 where

@@ -1,13 +1,13 @@
 -- What is found of a derivation or a listed solution that is refused
-use Rattle.std.specs.Prelude.{◌≡◌, ◌↔◌, ◌⊎◌, ℕ, ⊤, List, [], ◌∷◌, All, IsSome, IsTrue, Option, Some}
-use Rattle.std.specs.Prelude.{None, find, option_map, ◌==◌, if◌then◌else◌, slice_get}
+use Rattle.std.specs.Prelude.{◌≡◌, ◌↔◌, ℕ, ⊤, List, [], ◌∷◌, IsTrue, Option, Some}
+use Rattle.std.specs.Prelude.{None, option_map, ◌==◌, if◌then◌else◌, slice_get}
 use Rattle.std.specs.{FinMap.entries, Option.option_or}
 use Rattle.vipr_spec.specs.Constraint.{Constraint, Ints, IsSplit, Profile, two}
-use Rattle.vipr_spec.specs.Certificate.{Derivation, Named, Problem}
+use Rattle.vipr_spec.specs.Certificate.{Named, Problem}
 use Rattle.vipr_spec.specs.{Causes.dropped, Fraction.ℚ, Reading.problem_read}
 use Rattle.vipr_linear.specs.Constraint.{condition_of, constraint_of}
 use Rattle.vipr_cert.specs.Items.{derivation_of}
-use Rattle.vipr_table.specs.{History.IsTableOf, Table.entry_at}
+use Rattle.vipr_table.specs.{Table.entry_at}
 use Rattle.vipr_check.specs.{declared.detail.Detail.Detail, declared.detail.StepDetail.StepDetail}
 use Rattle.vipr_check.specs.{declared.verdict.Place.Place, declared.verdict.Verdict.Verdict}
 use Rattle.vipr_check.specs.declared.detail.Detail.TheVariants as detail
@@ -17,14 +17,13 @@ use Rattle.vipr_check.specs.declared.verdict.Verdict.TheVariants as verdict
 use Rattle.vipr_page.specs.{Differences.row_differences, RowFaults.row_faults}
 use Rattle.vipr_explain.specs.Excerpts.{IsExcerptAt, part_of}
 use Rattle.vipr_explain.specs.Marked.{AreMarksIn, IsItemPlace, place_found}
-use Rattle.vipr_explain.specs.Near.{AreKeptSteps, IsStepOf, LacksBefore, LacksGoal, LacksStep}
-use Rattle.vipr_explain.specs.Near.{without_solutions}
+use Rattle.vipr_explain.specs.Near.{IsReadTo, LacksBefore, LacksGoal, LacksStep, without_solutions}
 use Rattle.vipr_explain.specs.declared.shown.PlacedItems.{PlacedItems}
 use Rattle.vipr_explain.specs.declared.step.RefusedStep.{RefusedStep}
 use Rattle.vipr_explain.specs.{Changes.FollowEach, Found.LacksListed, Found.text_rest}
 use Rattle.vipr_explain.specs.{declared.excerpt.Excerpt.Excerpt, declared.marks.ItemPart.ItemPart}
 use Rattle.vipr_explain.specs.{declared.marks.ItemPlace.ItemPlace, declared.marks.Marks.Marks}
-use Rattle.vipr_explain.specs.{declared.marks.Sought.Sought, declared.near.Numbered.Numbered}
+use Rattle.vipr_explain.specs.{declared.marks.Sought.Sought, declared.near.NearSearch.NearSearch}
 use Rattle.vipr_explain.specs.{declared.step.StepFacts.StepFacts, declared.text.Span.Span}
 use Rattle.vipr_explain.specs.declared.marks.ItemSort.TheVariants as kind
 use Rattle.vipr_explain.specs.declared.marks.ItemPart.TheVariants as part
@@ -75,33 +74,24 @@ pub record AreNamedBy (text : List ℕ) (integers : Ints) (cause : ℕ) (what : 
   pub marked : AreMarksIn text sought marks
   pub facts : AreFacts integers what found
 
--- the derivation of constraint k, which is refused for this cause, behind those before it, of which
--- the live ones are kept
+-- the derivation of constraint k, which is refused for this cause, behind those before it, which
+-- were passed
 pub record IsRefusedStep (P : Profile) (text : List ℕ) (cause k : ℕ) (detail : StepDetail)
     (s : RefusedStep) : Type 0 where
-  pub before : List Derivation
-  pub own : IsStepOf (text_rest text) s.known.problem before k (Some (derivation_of s.own))
-  pub rows : IsTableOf (without_solutions s.known.problem before) s.rows
+  pub search : NearSearch
+  pub read : IsReadTo P (text_rest text) (Some k) s.known.problem search
+      (Some (derivation_of s.own))
+  pub rows : s.rows ≡ search.replay.rows
   pub text_is : s.known.text.now ≡ text
   pub named : AreNamedBy text s.known.problem.integers cause detail s.known.marks s.facts
-  pub kept : AreKeptSteps s.known.problem before s.kept.items
-  pub changes : FollowEach P (without_solutions s.known.problem before) (derivation_of s.own)
-      s.changes
+  pub changes : FollowEach P (without_solutions s.known.problem read.searches.1.read)
+      (derivation_of s.own) s.changes
 
--- a constraint of the problem, or a derived one that is live, or one that was kept
-abbrev pub kept_as : RefusedStep → ℕ → Option Numbered
-kept_as s index = find (λ n. n.index == index) s.kept.items
-
+-- a constraint of the problem, or a derived one that is live
 abbrev pub known_constraint : RefusedStep → ℕ → Option Constraint
 known_constraint s index =
     option_or (option_map (λ n. n.item) (slice_get s.known.problem.constraints index))
-    (option_or (option_map (λ e. constraint_of e.constraint) (entry_at s.rows index))
-    (option_map (λ d. constraint_of d.constraint) (kept_as s index)))
-
--- each constraint that is named is known, or is that of the derivation itself
-abbrev pub KnowsAll : RefusedStep → ℕ → Type 0
-KnowsAll s own = All (λ m. (m.index ≡ own) ⊎ IsSome (known_constraint s m.index))
-    s.known.marks.places.items
+    (option_map (λ e. constraint_of e.constraint) (entry_at s.rows index))
 
 -- the name of a constraint of the problem, or of another one whose place is known
 abbrev pub known_name : PlacedItems → ℕ → Option (List ℕ)

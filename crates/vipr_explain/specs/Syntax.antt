@@ -1,20 +1,18 @@
 -- The token at a fault of a text
-use Rattle.std.specs.Prelude.{◌≡◌, ℕ, true, false, not, List, [], nat_le, if◌then◌else◌}
+use Rattle.std.specs.Prelude.{◌≡◌, ℕ, true, false, not, List, nat_le, if◌then◌else◌}
 use Rattle.vipr_spec.specs.Tokens.{text_tokens}
-use Rattle.vipr_explain.specs.Excerpts.{IsExcerptAt, part_of}
 use Rattle.vipr_explain.specs.declared.syntax.FaultToken.{FaultToken}
-use Rattle.vipr_explain.specs.declared.syntax.TextFault.{TextFault}
-use Rattle.vipr_explain.specs.{Places.place_behind, Progress.at_start, Progress.passed}
-use Rattle.vipr_explain.specs.{Words.walked, declared.text.Span.Span, declared.wanted.Wanted.Wanted}
+use Rattle.vipr_explain.specs.{Excerpts.IsExcerptAt, Excerpts.part_of, Progress.at_start}
+use Rattle.vipr_explain.specs.{Progress.passed, Words.walked, declared.syntax.TextFault.TextFault}
+use Rattle.vipr_explain.specs.{declared.text.Span.Span, declared.wanted.Wanted.Wanted}
 use Rattle.vipr_explain.specs.declared.wanted.Wanted.TheVariants as wanted
 
+abbrev pub nothing_read : Span
+nothing_read = record { offset = 0; size = 0 }
+
 abbrev pub found_at_start : FaultToken
-found_at_start = record {
-  progress = at_start;
-  name = place_behind [];
-  word = place_behind [];
-  is_end = true;
-}
+found_at_start =
+    record { progress = at_start; name = nothing_read; word = nothing_read; is_end = true }
 
 abbrev pub named_at : Wanted → Span → Span → Span
 named_at wanted.Name name span = span
@@ -34,7 +32,7 @@ found_behind offset f word span = if nat_le offset span.offset
 -- the first token that begins at this byte or behind it, or the last one of the text
 abbrev pub found_at : List ℕ → ℕ → FaultToken
 found_at text offset =
-    walked (λ f. not f.is_end) (found_behind offset) text found_at_start (text_tokens text)
+    walked (λ f. not f.is_end) (found_behind offset) found_at_start (text_tokens text)
 
 -- what is found of the token at this byte of a text
 pub record IsFoundAt (text : List ℕ) (offset : ℕ) (f : TextFault) : Type 0 where

@@ -9,7 +9,7 @@ ghost use Rattle.vipr_rules.specs.Profile.{profile_of};
 ghost use Rattle.vipr_explain.specs.Changes.{FollowEach, FollowsWith, changed, changed_entries};
 ghost use Rattle.vipr_explain.specs.Near.{HasReplayed, without_solutions};
 
-use crate::near::{Join, Numbered};
+use crate::near::Join;
 use crate::shown::PlacedItems;
 use crate::sought::{Candidates, Sum};
 use crate::text::Subject;
@@ -42,12 +42,11 @@ pub(crate) struct Changes {
     pub(crate) addition: Option<Change>,
 }
 
-/// The derivations before one that is refused, as the rules keep them, and some by themselves.
+/// The derivations before one that is refused, as the rules keep them.
 #[derive(Drop)]
 pub(crate) struct Replay {
     pub(crate) rows: Table,
     pub(crate) scratch: Combination,
-    pub(crate) kept: Vec<Numbered>,
 }
 
 impl Change {
@@ -176,7 +175,6 @@ impl Replay {
             Ok(scratch) => Ok(Replay {
                 rows: Table::new(alloc, problem.cons().len() as u32),
                 scratch,
-                kept: Vec::new(alloc),
             }),
             Err(error) => Err(error),
         }
@@ -194,7 +192,6 @@ impl Replay {
             → IfOk result (FollowEach (profile_of subject.entry.profile)
             (without_solutions problem.now ds) (derivation_of step.now)) }
         ensures rows { self.new.rows ≡ self.old.rows }
-        ensures kept { self.new.kept ≡ self.old.kept }
     {
         let sum = Sum {
             subject,

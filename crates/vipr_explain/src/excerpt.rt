@@ -1,6 +1,7 @@
 //! A part of a line with carets below a place in it.
 ghost use Rattle.std.specs.Prelude.{◌≡◌, length, decimal, take, drop};
-ghost use Rattle.vipr_explain.specs.Excerpts.{IsExcerptAt, is_in_line, line_of, part_of};
+ghost use Rattle.vipr_explain.specs.Excerpts.{IsExcerptAt, column_behind, is_in_line, line_behind};
+ghost use Rattle.vipr_explain.specs.Excerpts.{line_of, part_of};
 ghost use Rattle.vipr_page.specs.Page.{line_byte};
 
 use crate::text::Span;
@@ -14,11 +15,13 @@ const MOST_SHOWN: u64 = 60;
 /// How many carets or dashes are shown below a place.
 const MOST_MARKS: usize = 40;
 
-/// A place in the text: what is before it in its line, what is there, and whether more is behind
-/// that; and how many bytes belong to the place.
+/// A place in the text: its line and column, counted from 1, and how many bytes belong to it; what
+/// is before it in its line, what is there, and whether more is behind that.
 #[derive(Clone, Copy)]
 pub(crate) struct Excerpt<'a> {
-    span: Span,
+    line: u64,
+    column: u64,
+    size: usize,
     before: &'a [u8],
     behind: &'a [u8],
     is_cut: bool,
@@ -29,10 +32,14 @@ impl<'a> Excerpt<'a> {
     pub(crate) fn of(text: &'a [u8], span: Span) -> Excerpt<'a>
         ensures { IsExcerptAt text.now span result }
     {
-        let count = span.column.saturating_sub(1).min(MOST_SHOWN);
+        let front = first(text, span.offset);
+        let column = column_behind(front);
+        let count = column.saturating_sub(1).min(MOST_SHOWN);
         let line = line_of(from(text, span.offset));
         Excerpt {
-            span,
+            line: line_behind(front),
+            column,
+            size: span.size,
             before: first(from(text, span.offset.saturating_sub(count)), count),
             behind: first(line, MOST_SHOWN),
             is_cut: line.len() as u64 > MOST_SHOWN,
@@ -41,8 +48,8 @@ impl<'a> Excerpt<'a> {
 
     /// Writes the place in a file of this name, with carets and a label below it.
     pub(crate) fn write<L: Display + Drop>(&self, page: &mut Page, file: &[u8], label: L) {
-        let line = self.span.line;
-        let column = self.span.column;
+        let line = self.line;
+        let column = self.column;
         let margin = digits_of(line);
         write_copies(page, " ", margin, "--> ");
         let file = StrangeBytes(file);
@@ -53,7 +60,7 @@ impl<'a> Excerpt<'a> {
 
     /// Writes another place below this one, which is not in a later line.
     pub(crate) fn write_other(&self, page: &mut Page, other: Excerpt<'_>, label: &str) {
-        other.write_marked(page, digits_of(self.span.line), "-", label);
+        other.write_marked(page, digits_of(self.line), "-", label);
     }
 
     // Writes the line of the place, with marks and a label below it.
@@ -64,17 +71,13 @@ impl<'a> Excerpt<'a> {
         mark: &str,
         label: L,
     ) {
-        let indent = margin.saturating_sub(digits_of(self.span.line));
+        let indent = margin.saturating_sub(digits_of(self.line));
         write_copies(page, " ", indent, "");
-        let token = &self.behind[..self.span.size.min(self.behind.len())];
+        let token = &self.behind[..self.size.min(self.behind.len())];
         self.write_front(page, "|");
         write!(page, "{}", StrangeBytes(token));
         self.write_rest(page);
-        let front = if self.span.column > MOST_SHOWN + 1 {
-            2
-        } else {
-            0
-        };
+        let front = if self.column > MOST_SHOWN + 1 { 2 } else { 0 };
         let width = width_of_all(self.before).saturating_add(front);
         let marks = width_of_all(token);
         write_copies(page, " ", margin, " | ");
@@ -86,8 +89,8 @@ impl<'a> Excerpt<'a> {
 
     /// Writes what is before the place in its line.
     pub(crate) fn write_front(&self, page: &mut Page, mark: &str) {
-        let line = self.span.line;
-        let is_behind = self.span.column > MOST_SHOWN + 1;
+        let line = self.line;
+        let is_behind = self.column > MOST_SHOWN + 1;
         let front = if is_behind { ".." } else { "" };
         let before = StrangeBytes(self.before);
         write!(page, "{line} {mark} {front}{before}");
@@ -95,7 +98,7 @@ impl<'a> Excerpt<'a> {
 
     /// Writes what is behind the place in its line.
     pub(crate) fn write_rest(&self, page: &mut Page) {
-        let rest = StrangeBytes(&self.behind[self.span.size.min(self.behind.len())..]);
+        let rest = StrangeBytes(&self.behind[self.size.min(self.behind.len())..]);
         let end = if self.is_cut { ".." } else { "" };
         write!(page, "{rest}{end}\n");
     }
@@ -108,6 +111,26 @@ pub(crate) fn part_of(text: &[u8], span: Span) -> &[u8]
     first(from(text, span.offset), span.size as u64)
 }
 
+/// The line of the byte behind these, counted from 1.
+pub(crate) fn line_behind(bytes: &[u8]) -> u64
+    ensures { result ≡ line_behind bytes.now }
+{
+    let feeds = bytes.iter().filter(|byte| **byte == b'\n').count();
+    (feeds as u64).saturating_add(1)
+}
+
+// The column of the byte behind these, counted from 1.
+fn column_behind(bytes: &[u8]) -> u64
+    ensures { result ≡ column_behind bytes.now }
+{
+    let before = bytes
+        .iter()
+        .rev()
+        .take_while(|byte| **byte != b'\n')
+        .count();
+    (before as u64).saturating_add(1)
+}
+
 // The bytes of a text from an offset on.
 fn from(text: &[u8], offset: u64) -> &[u8]
     ensures { result.now ≡ drop offset text.now }
@@ -115,8 +138,8 @@ fn from(text: &[u8], offset: u64) -> &[u8]
     &text[offset.min(text.len() as u64) as usize..]
 }
 
-// The first bytes: so many, if there are.
-fn first(bytes: &[u8], count: u64) -> &[u8]
+/// The first bytes: so many, if there are.
+pub(crate) fn first(bytes: &[u8], count: u64) -> &[u8]
     ensures { result.now ≡ take count bytes.now }
 {
     &bytes[..count.min(bytes.len() as u64) as usize]

@@ -8,7 +8,7 @@ ghost use Rattle.vipr_explain.specs.{Near.LacksGoal, Refused.AreNamesOf, Values.
 use crate::excerpt::Excerpt;
 use crate::items::open_problem;
 use crate::marks::Marks;
-use crate::near::{Join, Near, NearSearch, find_near, find_step, is_turned};
+use crate::near::{Join, Near, NearSearch, is_turned, search_to};
 use crate::shown::{PlacedItems, find_names, write_line};
 use crate::solution::{ListedValues, is_exchanged};
 use crate::text::{Reread, Subject};
@@ -47,8 +47,8 @@ impl<'a> ProvedGoal<'a> {
             (profile_of subject.entry.profile) (text_rest subject.entry.text.now) (Some index))) }
     {
         let marks = find_names(subject, [index].as_slice())?;
-        let (problem, replay, step) = or_drop!(find_step(subject, index, [].as_slice()), marks);
-        drop(replay);
+        let (problem, search, step) = or_drop!(search_to(subject, Some(index)), marks);
+        drop(search);
         let text = subject.text;
         let known = PlacedItems {
             text,
@@ -133,7 +133,8 @@ impl<'a> UnprovedClaim<'a> {
         let has_solution = solutions.left() > 0;
         drop(solutions);
         drop(problem);
-        let (problem, search) = find_near(subject)?;
+        let (problem, search, step) = search_to(subject, None)?;
+        drop(step);
         match near_names(subject, search.near.as_slice()) {
             Ok(marks) => Ok(UnprovedClaim {
                 search,
@@ -316,7 +317,7 @@ fn write_near(page: &mut Page, known: &UnprovedClaim<'_>, near: &Near) {
         let (sign, side) = (sign_of(constraint.sense), constraint.rhs);
         items.write_name(page, near.index);
         write!(page, "  objective {sign} {side}");
-        write_line(page, items.marks.place(near.index));
+        write_line(page, items.text, items.marks.place(near.index));
         if near.is_strong {
             page.put(", strong enough");
         } else if let Some(gap) = near.gap {

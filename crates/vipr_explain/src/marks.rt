@@ -1,7 +1,7 @@
 //! The places of items' names in a text, and of one more token of each.
 ghost use Rattle.std.specs.Prelude.{◌≡◌, fold, max, option_copied, IfOk, OnOk};
 ghost use Rattle.vipr_explain.specs.Marked.{AreMarksIn, IsItemPlace, is_behind, is_of, is_part};
-ghost use Rattle.vipr_explain.specs.Marked.{is_past, is_past_head, later_user, marked};
+ghost use Rattle.vipr_explain.specs.Marked.{is_past, is_name, later_user, marked};
 ghost use Rattle.vipr_explain.specs.Marked.{part_of_item, place_found, with_part};
 
 use crate::text::{Span, Subject};
@@ -201,15 +201,19 @@ fn mark(
         (places.new.items ≡ marked sought.entry end progress.now span places.old.items) }
 {
     let index = progress.index();
-    if sought.kind.is_of(progress.section) && sought.items.contains(&index) {
-        let part = sought.part_of(end, index);
-        if let Wanted::Name | Wanted::Claim = progress.wanted {
+    let is_name = is_name(progress.wanted);
+    // (most tokens are neither, and the items may be many)
+    if (is_name || sought.part_of(end, index).is_at(progress))
+        && sought.kind.is_of(progress.section)
+        && sought.items.contains(&index)
+    {
+        if is_name {
             places.push(ItemPlace {
                 index,
                 name: span,
                 part: span,
             })?;
-        } else if part.is_at(progress) {
+        } else {
             mark_part(places, span);
         }
     }
@@ -243,19 +247,16 @@ fn is_past(sought: Sought<'_>, progress: &TextProgress, end: u32) -> bool
 {
     sought.used.is_none()
         && (sought.kind.is_behind(progress.section)
-            || is_past_head(progress.wanted)
+            || is_name(progress.wanted)
                 && sought.kind.is_of(progress.section)
                 && progress.index() > end)
 }
 
-// Whether this is a part of an item, or wanted behind the last one.
-fn is_past_head(wanted: Wanted) -> bool
-    ensures { result ≡ is_past_head wanted }
+// Whether a token names an item.
+fn is_name(wanted: Wanted) -> bool
+    ensures { result ≡ is_name wanted }
 {
-    match wanted {
-        Wanted::Keyword | Wanted::Count | Wanted::BoundCount => false,
-        _ => true,
-    }
+    matches!(wanted, Wanted::Name | Wanted::Claim)
 }
 
 // The greatest of indices, 0 if there is none.

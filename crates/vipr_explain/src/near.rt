@@ -5,29 +5,26 @@ ghost use Rattle.std.specs.Prelude.{option_and_then, option_map};
 ghost use Rattle.std.specs.{FinSet.contains, List.position_or_len};
 ghost use Rattle.vipr_spec.specs.Constraint.{at, NamesBelow};
 ghost use Rattle.vipr_spec.specs.Certificate.{Certificate, Derivation as DerivationMeant, RestsOn};
-ghost use Rattle.vipr_spec.specs.Certificate.{Problem as ProblemMeant};
 ghost use Rattle.vipr_spec.specs.Certificate.{constraint_at, count, reason_at, variables};
 ghost use Rattle.vipr_spec.specs.{Fraction.most, Fraction.whole, Steps.RefersBack};
 ghost use Rattle.vipr_linear.specs.Constraint.{condition_of, sense_of};
 ghost use Rattle.vipr_cert.specs.Items.{derivation_of, reason_of};
 ghost use Rattle.vipr_table.specs.{History.IsTableOf, Table.DerivedBelow, Table.step as table_step};
 ghost use Rattle.vipr_rules.specs.declared.error.RuleError.TheVariants.{Memory as NoMemory};
-ghost use Rattle.vipr_rules.specs.{Profile.profile_of, declared.claim.Target.Target as TargetMeant};
+ghost use Rattle.vipr_rules.specs.{Profile.profile_of};
 ghost use Rattle.vipr_scan.specs.declared.error.TextError.TheVariants.{Memory};
 ghost use Rattle.vipr_explain.specs.Found.{AreDerivationsRead, Because, text_rest};
-ghost use Rattle.vipr_explain.specs.Near.{AreInOrder, AreKeptSteps, AreNearest, HasPassedAll};
-ghost use Rattle.vipr_explain.specs.Near.{HasPlace, HasSearched, IsGapTo, IsOpenJoin, IsLike};
-ghost use Rattle.vipr_explain.specs.Near.{IsNearSearch, IsNextEntry, IsStepRead, IsRefusedNext};
-ghost use Rattle.vipr_explain.specs.Near.{IsRoundedSide, LacksBefore, MissesBy, comes_before};
-ghost use Rattle.vipr_explain.specs.Near.{is_turned, join_of, misses_less, rank_of, SearchesTo};
-ghost use Rattle.vipr_explain.specs.Near.{passed_to, with_near, without_solutions};
-ghost use Rattle.vipr_explain.specs.declared.near.Near.{Near as NearMeant};
+ghost use Rattle.vipr_explain.specs.Near.{AreNearest, HasPassedAll};
+ghost use Rattle.vipr_explain.specs.Near.{HasSearched, IsGapTo, IsOpenJoin, IsLike, IsNextEntry};
+ghost use Rattle.vipr_explain.specs.Near.{IsReadTo, IsRefusedNext, IsRoundedSide, LacksBefore};
+ghost use Rattle.vipr_explain.specs.Near.{MissesBy, comes_before, gap_left, is_turned, join_of};
+ghost use Rattle.vipr_explain.specs.Near.{SearchesTo, passed_to, with_near, without_solutions};
 
 use crate::changes::Replay;
 use crate::items::open_derivations;
 use crate::text::{Reread, Subject};
 use std::alloc::AllocError;
-use std::cmp::Ordering;
+use std::cmp::Reverse;
 use vipr_bytes::Bytes;
 use vipr_cert::{Derivation, Problem, Reason, References};
 use vipr_check::Table;
@@ -74,14 +71,6 @@ pub(crate) struct OpenJoin {
     pub(crate) second: bool,
 }
 
-/// A derivation that was passed: its constraint's index, what it states, and why.
-#[derive(Drop)]
-pub(crate) struct Numbered {
-    pub(crate) index: u32,
-    pub(crate) constraint: Constraint,
-    pub(crate) reason: Reason,
-}
-
 /// A search for the three constraints that come nearest to a claim. Those that are strong enough
 /// come first, then those that miss it by less. If two are alike, the one that rests on nothing
 /// comes first, or else the later one.
@@ -91,106 +80,51 @@ pub(crate) struct NearSearch {
     pub(crate) near: Vec<Near>,
     /// The derivations that join two branches and still rest on an assumption of theirs.
     pub(crate) joins: Vec<OpenJoin>,
-    replay: Replay,
+    pub(crate) replay: Replay,
 }
 
-/// The problem of a text, and the constraints that come nearest to its claim.
-pub(crate) fn find_near(subject: Subject<'_>) -> Reread<(Problem, NearSearch)>
-    ensures near { IfOk result (λ x. IsNearSearch (profile_of subject.entry.profile)
-        (text_rest subject.entry.text.now) x.0 x.1) }
+/// The problem of a text; a search among its constraints and the derivations before that of one, or
+/// all; and that one, if the text has it.
+pub(crate) fn search_to(
+    subject: Subject<'_>,
+    end: Option<u32>,
+) -> Reread<(Problem, NearSearch, Option<Derivation>)>
+    ensures read { IfOk result (λ x. IsReadTo (profile_of subject.entry.profile)
+        (text_rest subject.entry.text.now) end x.0 x.1 (option_map derivation_of x.2)) }
     ensures missing { IfErr result (λ m. Because m (LacksBefore
-        (profile_of subject.entry.profile) (text_rest subject.entry.text.now) None)) }
+        (profile_of subject.entry.profile) (text_rest subject.entry.text.now) end)) }
 {
     let (problem, mut derivations) = open_derivations(subject.alloc, subject.text)?;
-    let search = search_to(subject, &problem, &mut derivations, None, [].as_slice());
+    let found = search_in(subject, &problem, &mut derivations, end);
     drop(derivations);
-    let search = or_drop!(search, problem);
-    Ok((problem, search))
+    let (search, step) = or_drop!(found, problem);
+    Ok((problem, search, step))
 }
 
-/// The problem of a text; what is kept of the derivations before that of a constraint, with those
-/// that are named whole; and that one, if the text has one.
-pub(crate) fn find_step(
-    subject: Subject<'_>,
-    index: u32,
-    named: &[u32],
-) -> Reread<(Problem, Replay, Option<Derivation>)>
-    ensures step { IfOk result (λ x. IsStepRead (text_rest subject.entry.text.now) index x.0 x.1
-        (option_map derivation_of x.2)) }
-    ensures missing { IfErr result (λ m. Because m (LacksBefore
-        (profile_of subject.entry.profile) (text_rest subject.entry.text.now) (Some index))) }
-{
-    let (problem, mut derivations) = open_derivations(subject.alloc, subject.text)?;
-    let found = step_behind(subject, &problem, &mut derivations, index, named);
-    drop(derivations);
-    let (replay, step) = or_drop!(found, problem);
-    Ok((problem, replay, step))
-}
-
-// What is kept of the derivations before that of a constraint, and that one.
-fn step_behind(
-    subject: Subject<'_>,
-    problem: &Problem,
-    derivations: &mut Derivations<Bytes<'_>>,
-    index: u32,
-    named: &[u32],
-) -> Reread<(Replay, Option<Derivation>)>
-    requires behind { AreDerivationsRead (text_rest subject.text.now) problem.now []
-        derivations.old }
-    requires room { derivations.old.constraints + derivations.old.left < 2 ^ 32 }
-    ensures step { IfOk result (λ x. IsStepRead (text_rest subject.entry.text.now) index
-        problem.now x.0 (option_map derivation_of x.1)) }
-    ensures missing { IfErr result (λ m. Because m (LacksBefore
-        (profile_of subject.entry.profile) (text_rest subject.entry.text.now) (Some index))) }
-{
-    let search = search_to(subject, problem, derivations, Some(index), named)?;
-    let NearSearch {
-        target,
-        near,
-        joins,
-        replay,
-    } = search;
-    drop(joins);
-    drop(near);
-    drop(target);
-    if replay.rows.next() != index || derivations.left() == 0 {
-        return Ok((replay, None));
-    }
-    let step = or_drop!(derivations.next(subject.alloc), replay);
-    Ok((replay, step))
-}
-
-/// The nearest constraints are in order, and one that isn't among them comes before none of them.
-pub(crate) fn nearest_come_first()
-    ensures order { (c : Certificate) (t : TargetMeant) (k : ℕ) (ns : List NearMeant)
-        → AreNearest c t k ns → AreInOrder ns }
-    ensures all { (c : Certificate) (t : TargetMeant) (k : ℕ) (ns : List NearMeant)
-        → AreNearest c t k ns → (i : ℕ) → i < k → IsLike t (constraint_at c i)
-        → HasPlace c t ns i }
-{}
-
-// A search among the constraints of a problem, and the derivations before that of one, or all.
-fn search_to(
+// The same if the problem was read, and none of the derivations.
+fn search_in(
     subject: Subject<'_>,
     problem: &Problem,
     derivations: &mut Derivations<Bytes<'_>>,
     end: Option<u32>,
-    named: &[u32],
-) -> Reread<NearSearch>
+) -> Reread<(NearSearch, Option<Derivation>)>
     requires behind { AreDerivationsRead (text_rest subject.text.now) problem.now []
         derivations.old }
     requires room { derivations.old.constraints + derivations.old.left < 2 ^ 32 }
-    ensures near { IfOk result (SearchesTo (profile_of subject.entry.profile)
-        (text_rest subject.entry.text.now) problem.now end derivations.new) }
+    ensures read { IfOk result (λ x. IsReadTo (profile_of subject.entry.profile)
+        (text_rest subject.entry.text.now) end problem.now x.0 (option_map derivation_of x.1)) }
     ensures missing { IfErr result (λ m. Because m (LacksBefore
         (profile_of subject.entry.profile) (text_rest subject.entry.text.now) end)) }
 {
     let mut search = NearSearch::new(subject, problem)?;
-    or_drop!(
-        search.pass_to(subject, problem, derivations, end, named),
-        search
-    );
-    Ok(search)
+    or_drop!(search.pass_to(subject, problem, derivations, end), search);
+    match end {
+        Some(index) if search.replay.rows.next() == index && derivations.left() > 0 => {
+            let step = or_drop!(derivations.next(subject.alloc), search);
+            Ok((search, step))
+        }
+        _ => Ok((search, None)),
+    }
 }
 
 /// How many derivations are before that of a constraint, or all of them, if a problem has so many
@@ -228,7 +162,6 @@ impl NearSearch {
         problem: &Problem,
         derivations: &mut Derivations<Bytes<'_>>,
         end: Option<u32>,
-        named: &[u32],
     ) -> Reread<()>
         requires behind { AreDerivationsRead (text_rest subject.text.now) problem.now []
             derivations.old }
@@ -244,7 +177,7 @@ impl NearSearch {
         for passed in 0..count {
             match derivations.next(subject.alloc)? {
                 Some(mut step) => {
-                    let kept = self.pass(subject, problem, named, &mut step);
+                    let kept = self.pass(subject, problem, &mut step);
                     drop(step);
                     kept?;
                 }
@@ -275,13 +208,7 @@ impl NearSearch {
     }
 
     // Passes a derivation, whose constraint moves to the table.
-    fn pass(
-        &mut self,
-        subject: Subject<'_>,
-        problem: &Problem,
-        named: &[u32],
-        step: &mut Derivation,
-    ) -> Reread<()>
+    fn pass(&mut self, subject: Subject<'_>, problem: &Problem, step: &mut Derivation) -> Reread<()>
         requires room { self.old.replay.rows.next + 1 < 2 ^ 32 }
         requires names { NamesBelow (variables problem.now) (at step.old.constraint.row) }
         requires searched { (ds : List DerivationMeant)
@@ -297,7 +224,6 @@ impl NearSearch {
     {
         let index = self.replay.rows.next();
         let join = join_of(&step.reason);
-        keep(&mut self.replay.kept, named, index, step)?;
         let entry = entry_of(
             subject,
             problem,
@@ -319,38 +245,6 @@ impl NearSearch {
                 Err(error.into())
             }
         }
-    }
-}
-
-// Keeps the next derivation, if it is one of these.
-fn keep(
-    kept: &mut Vec<Numbered>,
-    named: &[u32],
-    index: u32,
-    step: &Derivation,
-) -> Result<(), AllocError>
-    ensures { (p : ProblemMeant) (ds : List DerivationMeant)
-        → count (without_solutions p ds) ≡ index → AreKeptSteps p ds kept.old.items
-        → OnOk result (AreKeptSteps p (ds ++ derivation_of step.now ∷ []) kept.new.items) }
-{
-    if named.contains(&index) {
-        kept.push(Numbered {
-            index,
-            reason: copy_of(&step.reason)?,
-            constraint: step.constraint.clone()?,
-        })?;
-    }
-    Ok(())
-}
-
-// The same reason once more.
-fn copy_of(reason: &Reason) -> Result<Reason, AllocError>
-    ensures { IfOk result (λ r. reason_of r ≡ reason_of reason.now) }
-{
-    match reason {
-        Reason::Lin(entries) => Ok(Reason::Lin(entries.clone()?)),
-        Reason::Rnd(entries) => Ok(Reason::Rnd(entries.clone()?)),
-        other => other.clone(),
     }
 }
 
@@ -563,43 +457,27 @@ fn whole(k: i128) -> Frac
     Frac::new(k, 1).unwrap()
 }
 
-// Whether a constraint comes nearer than another: it is strong enough, or misses the goal by less,
-// or is as near and rests on no assumption, or else comes later.
+// Whether a constraint comes nearer than another.
 fn is_nearer(near: &Near, other: &Near) -> bool
     ensures { result ≡ comes_before near.now other.now }
 {
-    let is_freer = rank_of(other) < rank_of(near);
-    if near.is_strong {
-        !other.is_strong || is_freer
-    } else {
-        !other.is_strong && misses_less(near.gap, other.gap, is_freer)
-    }
+    near.key().cmp(&other.key()).is_gt()
 }
 
-// The rank of a constraint among those that are as near.
-fn rank_of(near: &Near) -> u64
-    ensures { result ≡ rank_of near.now }
-{
-    let index = u64::from(near.index);
-    if near.is_free {
-        index + (1 << 32)
-    } else {
-        index
-    }
-}
-
-// Whether one gap is less than another, or is as large where that is enough.
-fn misses_less(gap: Option<Frac>, other: Option<Frac>, is_freer: bool) -> bool
-    ensures { result ≡ misses_less gap other is_freer }
-{
-    match (gap, other) {
-        (Some(gap), Some(other)) => match size_of(gap).cmp(&size_of(other)) {
-            Ordering::Less => true,
-            Ordering::Equal => is_freer,
-            Ordering::Greater => false,
-        },
-        (Some(_), None) => true,
-        (None, Some(_)) => false,
-        (None, None) => is_freer,
+impl Near {
+    // What constraints are compared by, of which the nearest one has most: whether it is strong
+    // enough; if it isn't, how far it misses the goal, of which less is more, and none least;
+    // whether it rests on no assumption; and its index.
+    fn key(&self) -> (bool, Option<Reverse<Frac>>, bool, u32)
+        ensures strong { result.0 ≡ self.now.is_strong }
+        ensures gap { option_map (λ gap. gap.0) result.1 ≡ gap_left self.now }
+        ensures free { result.2 ≡ self.now.is_free }
+        ensures index { result.3 ≡ self.now.index }
+    {
+        let gap = match self.gap {
+            Some(gap) if !self.is_strong => Some(Reverse(size_of(gap))),
+            _ => None,
+        };
+        (self.is_strong, gap, self.is_free, self.index)
     }
 }

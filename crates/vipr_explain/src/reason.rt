@@ -192,13 +192,10 @@ pub(crate) fn write_reason(
 // Writes the word of a constraint's reason, `given` if it is of the problem.
 fn write_word(page: &mut Page, refused: &RefusedStep<'_>, index: u32) {
     let known = &refused.known;
-    match (refused.kept(index), known.marks.place(index)) {
-        _ if (index as usize) < known.problem.cons().len() => page.put(" given"),
-        (Some(kept), _) => write!(page, " {}", kept.reason.word()),
-        (None, Some(place)) => {
-            write!(page, " {}", ShownName(part_of(known.text, place.part)));
-        }
-        (None, None) => {}
+    if (index as usize) < known.problem.cons().len() {
+        page.put(" given");
+    } else if let (Some(_), Some(place)) = (refused.constraint(index), known.marks.place(index)) {
+        write!(page, " {}", ShownName(part_of(known.text, place.part)));
     }
 }
 
@@ -225,14 +222,13 @@ pub(crate) fn write_sources(
     write!(page, "      {name} comes from");
     let mut front = " ";
     let mut count: usize = 0;
-    let mut is_whole = true;
     for entry in entries {
         let (index, multiplier) = *entry;
-        let Some(constraint) = refused.constraint(index) else {
-            is_whole = false;
-            continue;
+        // (what has the multiplier 0 brings nothing, and may have been dropped)
+        let coefficient = match refused.constraint(index) {
+            Some(constraint) if !multiplier.is_zero() => constraint.row.coefficient(variable),
+            _ => Frac::zero(),
         };
-        let coefficient = constraint.row.coefficient(variable);
         if !coefficient.is_zero() {
             if count < MOST_SOURCES {
                 write!(page, "{front}{multiplier} x {coefficient} of [{index}]");
@@ -241,7 +237,7 @@ pub(crate) fn write_sources(
             count = count.saturating_add(1);
         }
     }
-    page.put(if count > MOST_SOURCES || !is_whole {
+    page.put(if count > MOST_SOURCES {
         " ..\n"
     } else if count == 0 {
         " no entry\n"

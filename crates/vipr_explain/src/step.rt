@@ -1,19 +1,19 @@
 //! A derivation that is refused.
-ghost use Rattle.std.specs.Prelude.{◌≡◌, ◌↔◌, ◌⊎◌, List, [], All, IfErr, IfOk, IsSome, IsTrue};
-ghost use Rattle.std.specs.Prelude.{Some, is_some, map, option_map};
+ghost use Rattle.std.specs.Prelude.{◌≡◌, ◌↔◌, List, All, IfErr, IfOk, IsTrue};
+ghost use Rattle.std.specs.Prelude.{Some, is_some, option_map};
 ghost use Rattle.vipr_spec.specs.{Certificate.Derivation as DerivationMeant, Fraction.neg_ℚ};
 ghost use Rattle.vipr_linear.specs.Constraint.{constraint_of};
 ghost use Rattle.vipr_cert.specs.Items.{derivation_of};
 ghost use Rattle.vipr_rules.specs.Profile.{profile_of};
 ghost use Rattle.vipr_explain.specs.Found.{Because, text_rest};
 ghost use Rattle.vipr_explain.specs.Near.{HasReplayed, LacksStep, without_solutions};
-ghost use Rattle.vipr_explain.specs.Refused.{AreFacts, AreNamedBy, IsRefusedStep, KnowsAll};
-ghost use Rattle.vipr_explain.specs.Refused.{kept_as, known_constraint, used_by};
+ghost use Rattle.vipr_explain.specs.Refused.{AreFacts, AreNamedBy, IsRefusedStep};
+ghost use Rattle.vipr_explain.specs.Refused.{known_constraint, used_by};
 ghost use Rattle.vipr_explain.specs.{Changes.FollowEach, Marked.AreMarksIn};
 
 use crate::changes::{Changes, Replay};
 use crate::marks::{ItemSort, Marks, Sought};
-use crate::near::{Numbered, find_step, is_turned};
+use crate::near::{NearSearch, is_turned, search_to};
 use crate::reason::{label_of, part_at_fault, step_indices, write_reason, write_sources};
 use crate::shown::{PlacedItems, write_last_use};
 use crate::solution::PAST_LIMIT;
@@ -51,8 +51,6 @@ pub(crate) struct RefusedStep<'a> {
     facts: StepFacts,
     /// Changes with which it follows.
     changes: Changes,
-    /// Those before it that are kept, whether they were dropped or not.
-    kept: Vec<Numbered>,
     profile: Profile,
 }
 
@@ -78,44 +76,24 @@ impl<'a> RefusedStep<'a> {
             (LacksStep (profile_of subject.entry.profile) (text_rest subject.entry.text.now)
             fault.entry.index)) }
     {
-        // (if none was dropped, it is the derivation itself, which isn't before it)
-        let dropped = [used_by(fault).unwrap_or(fault.index)];
-        let found = RefusedStep::find_with(subject, fault, dropped.as_slice())?;
-        let named = found.unknown(subject.alloc, fault.index)?;
-        if named.is_empty() {
-            return Ok(found);
-        }
-        drop(found);
-        RefusedStep::find_with(subject, fault, named.as_slice())
-    }
-
-    // Reads it, and keeps these before it.
-    fn find_with(
-        subject: Subject<'a>,
-        fault: StepFault<'_>,
-        named: &[u32],
-    ) -> Reread<RefusedStep<'a>>
-        ensures found { IfOk result
-            (IsRefusedStep (profile_of subject.entry.profile) subject.entry.text.now
-            fault.entry.cause fault.entry.index fault.entry.what.now) }
-        ensures missing { IfErr result (λ m. Because m
-            (LacksStep (profile_of subject.entry.profile) (text_rest subject.entry.text.now)
-            fault.entry.index)) }
-    {
-        let (problem, mut replay, step) = find_step(subject, fault.index, named)?;
+        let (problem, mut search, step) = search_to(subject, Some(fault.index))?;
         let Some(own) = step else {
-            drop(replay);
+            drop(search);
             drop(problem);
             return Err(TextError::Read);
         };
-        match find_behind(subject, fault, &problem, &mut replay, &own) {
+        match find_behind(subject, fault, &problem, &mut search.replay, &own) {
             Ok((marks, facts, changes)) => {
-                let Replay {
-                    rows,
-                    scratch,
-                    kept,
-                } = replay;
+                let NearSearch {
+                    target,
+                    near,
+                    joins,
+                    replay: Replay { rows, scratch },
+                } = search;
                 drop(scratch);
+                drop(joins);
+                drop(near);
+                drop(target);
                 Ok(RefusedStep {
                     own,
                     rows,
@@ -126,68 +104,28 @@ impl<'a> RefusedStep<'a> {
                     },
                     facts,
                     changes,
-                    kept,
                     profile: subject.profile,
                 })
             }
             Err(error) => {
                 drop(own);
-                drop(replay);
+                drop(search);
                 drop(problem);
                 Err(error.into())
             }
         }
     }
 
-    // All constraints that are named, if one of them isn't known.
-    fn unknown(&self, alloc: Global, own: u32) -> Result<Vec<u32>, AllocError>
-        ensures known { KnowsAll self.now own → IfOk result (λ named. named.items ≡ []) }
-        ensures unknown { ¬ KnowsAll self.now own → IfOk result
-            (λ named. named.items ≡ map (λ m. m.index) self.now.known.marks.places.items) }
-    {
-        if self.knows_all(own) {
-            return Ok(Vec::new(alloc));
-        }
-        let places = &self.known.marks.places;
-        places.iter().map(|place| place.index).collect(alloc)
-    }
-
-    // Whether each of them is known, or is that of the derivation itself.
-    fn knows_all(&self, own: u32) -> bool
-        ensures { IsTrue result ↔ KnowsAll self.now own }
-    {
-        let places = &self.known.marks.places;
-        places.iter().all(|place| self.is_known(own, place.index))
-    }
-
-    // Whether one is.
-    fn is_known(&self, own: u32, index: u32) -> bool
-        ensures { IsTrue result ↔ ((index ≡ own) ⊎ IsSome (known_constraint self.now index)) }
-    {
-        index == own || self.constraint(index).is_some()
-    }
-
-    /// A constraint of the problem, or a derived one that is live, or one that was kept.
+    /// A constraint of the problem, or a derived one that is live.
     pub(crate) fn constraint(&self, index: u32) -> Option<&Constraint>
         ensures known { option_map (λ c. constraint_of c.now) result
             ≡ known_constraint self.now index }
         ensures variant { is_some result ≡ is_some (known_constraint self.now index) }
     {
-        match (
-            self.known.problem.cons().get(index as usize),
-            self.rows.get(index),
-        ) {
-            (Some(named), _) => Some(&named.item),
-            (None, Some(entry)) => Some(&entry.constraint),
-            (None, None) => Some(&self.kept(index)?.constraint),
+        match self.known.problem.cons().get(index as usize) {
+            Some(named) => Some(&named.item),
+            None => Some(&self.rows.get(index)?.constraint),
         }
-    }
-
-    /// The derivation of a constraint, if it is one that was kept.
-    pub(crate) fn kept(&self, index: u32) -> Option<&Numbered>
-        ensures { option_map (λ d. d.now) result ≡ kept_as self.now index }
-    {
-        self.kept.iter().find(|kept| kept.index == index)
     }
 
     /// Writes its page.
@@ -239,7 +177,6 @@ fn changes_for(
         → IfOk result (FollowEach (profile_of subject.entry.profile)
         (without_solutions problem.now ds) (derivation_of step.now)) }
     ensures rows { replay.new.rows ≡ replay.old.rows }
-    ensures kept { replay.new.kept ≡ replay.old.kept }
 {
     match fault.cause {
         cause::NOT_EARLIER
@@ -268,7 +205,6 @@ fn find_behind(
         → IfOk result (λ x. FollowEach (profile_of subject.entry.profile)
         (without_solutions problem.now ds) (derivation_of step.now) x.2) }
     ensures rows { replay.new.rows ≡ replay.old.rows }
-    ensures kept { replay.new.kept ≡ replay.old.kept }
 {
     let changes = changes_for(subject, fault, problem, replay, step)?;
     let wanted = step_indices(subject.alloc, fault, &step.reason, &changes)?;

@@ -27,7 +27,7 @@ impl FaultToken {
     fn start() -> FaultToken
         ensures { result ≡ found_at_start }
     {
-        let nothing = Span::start();
+        let nothing = Span { offset: 0, size: 0 };
         FaultToken {
             progress: TextProgress::start(),
             name: nothing,

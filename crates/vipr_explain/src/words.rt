@@ -1,12 +1,10 @@
 //! The tokens of a text with their places.
-ghost use Rattle.std.specs.Prelude.{◌≡◌, ◌+◌, ◌<◌, ◌≤◌, ℕ, List, length, drop};
-ghost use Rattle.std.specs.Prelude.{IfSome, false, slice_index};
-ghost use Rattle.vipr_spec.specs.Tokens.{Token, is_white, text_tokens};
-ghost use Rattle.vipr_scan.specs.declared.place.Position.TheVariants.{Past};
-ghost use Rattle.vipr_explain.specs.Words.{AreLeft, GivesWord, IsAtByte};
+ghost use Rattle.std.specs.Prelude.{◌≡◌, ◌<◌, ◌≤◌, ◌+◌, List, length, drop, IfSome};
+ghost use Rattle.vipr_spec.specs.Tokens.{Token, text_tokens};
+ghost use Rattle.vipr_explain.specs.Words.{AreLeft, GivesWord, in_u64};
 
 use crate::text::Span;
-use vipr_scan::{Position, run_end, step};
+use vipr_scan::{Position, gap, run_end};
 
 /// A token of a text: its bytes, and its place.
 #[derive(Clone, Copy)]
@@ -19,19 +17,19 @@ pub(crate) struct TextWord<'a> {
 #[derive(Clone, Copy)]
 pub(crate) struct Words<'a> {
     rest: &'a [u8],
-    /// The place of the first byte of the rest, without a byte.
-    here: Span,
+    /// How many bytes are before the rest.
+    offset: u64,
     position: Position,
 }
 
 impl<'a> Words<'a> {
     /// A reader at the start of a text.
     pub(crate) fn of(text: &'a [u8]) -> Words<'a>
-        ensures { AreLeft text.now (text_tokens text.now) result }
+        ensures { AreLeft (text_tokens text.now) result }
     {
         Words {
             rest: text,
-            here: Span::start(),
+            offset: 0,
             position: Position::Front,
         }
     }
@@ -40,58 +38,32 @@ impl<'a> Words<'a> {
     pub(crate) fn next(&mut self) -> Option<TextWord<'a>>
         ensures shorter { IfSome result
             (λ _. length self.new.rest.now < length self.old.rest.now) }
-        ensures given { (text : List ℕ) (ts : List Token) → AreLeft text ts self.old
-            → GivesWord text ts self.new result }
+        ensures given { (ts : List Token) → AreLeft ts self.old → GivesWord ts self.new result }
     {
-        self.pass_gap();
+        let (blanks, position) = gap(self.position, self.rest);
+        self.position = position;
+        self.pass(blanks);
         let size = run_end(self.rest, 0);
         if size == 0 {
             return None;
         }
+        let offset = self.offset;
         let word = TextWord {
             bytes: &self.rest[..size],
-            span: Span { size, ..self.here },
+            span: Span { offset, size },
         };
-        self.pass_word(size);
+        self.pass(size);
         Some(word)
     }
 
-    // Passes the bytes in front of the next token.
-    fn pass_gap(&mut self)
-        ensures within { length self.new.rest.now ≤ length self.old.rest.now }
-        ensures left { (text : List ℕ) (ts : List Token) → AreLeft text ts self.old
-            → AreLeft text ts self.new }
-        ensures token { 0 < length self.new.rest.now → (self.new.position ≡ Past)
-            × (is_white (slice_index self.new.rest.now 0) ≡ false) }
-    {
-        'gap: while self.rest.len() > 0 {
-            let byte = self.rest[0];
-            match step(self.position, byte) {
-                Some(next) => {
-                    self.position = next;
-                    self.here = self.here.after(byte);
-                    self.rest = &self.rest[1..];
-                }
-                None => {
-                    self.position = Position::Past;
-                    return;
-                }
-            }
-        }
-    }
-
-    // Passes so many bytes, none of them white space.
-    fn pass_word(&mut self, size: usize)
-        requires within { size ≤ length self.old.rest.now }
-        requires solid { (k : ℕ) → k < size
-            → is_white (slice_index self.old.rest.now k) ≡ false }
+    // Passes so many bytes.
+    fn pass(&mut self, count: usize)
+        requires { count ≤ length self.old.rest.now }
         ensures position { self.new.position ≡ self.old.position }
-        ensures rest { self.new.rest.now ≡ drop size self.old.rest.now }
-        ensures at { (text : List ℕ) (n : ℕ) → IsAtByte text n self.old
-            → IsAtByte text (n + size) self.new }
+        ensures offset { self.new.offset ≡ in_u64 (self.old.offset + count) }
+        ensures rest { self.new.rest.now ≡ drop count self.old.rest.now }
     {
-        self.here.offset = self.here.offset.saturating_add(size as u64);
-        self.here.column = self.here.column.saturating_add(size as u64);
-        self.rest = &self.rest[size..];
+        self.offset = self.offset.saturating_add(count as u64);
+        self.rest = &self.rest[count..];
     }
 }

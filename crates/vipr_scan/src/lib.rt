@@ -17,7 +17,7 @@ pub use bytes::{is_white, run_end};
 pub use cursor::Cursor;
 pub use error::{Cause, ScanError, TextError};
 pub use kind::{TokenKind, Unfit};
-pub use place::{Position, step};
+pub use place::{Position, gap};
 pub use scan::Scan;
 pub use scanner::Scanner;
 pub use tokens::{Token, Tokens};

@@ -1,11 +1,11 @@
 use Rattle.std.proofs.Common.{[], length, ap, ◌∙◌, refl, sym, subst}
-use Rattle.std.proofs.lemmas.List.{length-replicate, length-map, Elements.All-nil}
+use Rattle.std.proofs.lemmas.List.{length-replicate, length-map}
 use Rattle.vipr_spec.specs.{Certificate.variables, Fraction.zero_ℚ}
 use Rattle.vipr_linear.specs.Constraint.{constraint_of}
 use Rattle.vipr_cert.specs.Items.{named_of}
 use Rattle.vipr_table.specs.{History.IsTableOf, Table.DerivedBelow, Table.empty_table}
 use Rattle.vipr_table.proofs.Laws.{DerivedBelow-empty, IsTableOf-empty}
-use Rattle.vipr_explain.specs.Near.{AreKeptSteps, without_solutions}
+use Rattle.vipr_explain.specs.Near.{without_solutions}
 use Rattle.vipr_explain.proofs.Nearing.{back_start}
 use Rattle.vipr_explain.proofs.changes.Replay.new.Goals as goal
 
@@ -18,6 +18,5 @@ returns-in-Ok c =
       rows = subst (IsTableOf (without_solutions p [])) (sym rows) (IsTableOf-empty (without_solutions p []) refl);
       back = back_start p;
       below = subst (DerivedBelow n) (sym rows) (DerivedBelow-empty n _);
-      kept = subst (AreKeptSteps p []) (sym c.new-in-Ok-2.ensures.items) (All-nil _);
       scratch = ap (λ a. length a.sums) c.in-Ok.ensures ∙ length-replicate (length c.names.result.now) zero_ℚ ∙ ap length c.names.ensures.names;
     }

@@ -5,8 +5,8 @@ use Rattle.vipr_explain.proofs.Lacks.{because, err_is, fault_first}
 use Rattle.vipr_explain.proofs.goal.UnprovedClaim.find.Goals as goal
 
 pub returns-in-Ok-clause-found : goal.returns-in-Ok-clause-found
-returns-in-Ok-clause-found c = record {
-  search = c.in_ok-problem-2.ensures.near;
+returns-in-Ok-clause-found c = let read = c.in_ok-problem-2.ensures.read in record {
+  search = record { reader = read.reader; searches = read.searches; step = refl };
   text_is = refl;
   names = subst (λ (ns : List Near). AreNamesOf c.args.subject.text.now (map (λ n. n.index) ns) c.in-Ok.marks) c.as_slice.ensures.value c.in-Ok.ensures;
   solution = rw c.in_ok-problem.ensures.read.counted (

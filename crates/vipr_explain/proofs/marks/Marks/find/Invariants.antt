@@ -5,7 +5,7 @@ use Rattle.vipr_explain.proofs.marks.Marks.find.Given as goal
 
 abbrev pub invariant-loop-words : goal.invariant-loop-words
 invariant-loop-words l =
-    WalksFrom Marking (stops_marking l.sought) (marking_behind l.sought) l.text (marking_in l.sought l.text) (l.progress, l.places.items, l.user) l.words
+    WalksFrom Marking (stops_marking l.sought) (marking_behind l.sought) (marking_in l.sought l.text) (l.progress, l.places.items, l.user) l.words
 
 abbrev pub decreases-loop-words : goal.decreases-loop-words
 decreases-loop-words l = length l.words.rest.now

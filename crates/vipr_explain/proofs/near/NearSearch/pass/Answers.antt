@@ -10,6 +10,5 @@ returns-in-Ok-clause-passed c = λ ds so_far.
     let both = sym c.and.ensures ∙ c.in-Ok.is in
     on_ok c.place.result _ _ (λ placed. passed_next (profile_of c.args.subject.profile) c.args.problem.now ds (derivation_of c.args.step.now) c.in_ok-entry.entry c.args.self.now _ c.next-index.result
     c.join_of-join.result c.next-index.ensures c.join_of-join.ensures refl placed c.entry_of.ensures.scratch c.requires.names
-    (c.in_ok-keep.ensures c.args.problem.now ds (sym (c.next-index.ensures ∙ so_far.replayed.rows.next)) so_far.replayed.kept)
     (λ d says rests near. first_ok c.add-added.result c.keep_join.result _ _ both (c.add-added.ensures d says rests near))
     (λ d joined rests joins. second_ok c.add-added.result c.keep_join.result _ _ both (c.keep_join.ensures d joined rests joins)) next so_far) c.place.ensures.placed

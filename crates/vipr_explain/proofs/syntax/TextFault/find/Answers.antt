@@ -6,7 +6,7 @@ use Rattle.vipr_explain.proofs.syntax.TextFault.find.Goals.{else-loop-found-test
 pub loop-found-preserved : goal.loop-found-preserved
 loop-found-preserved c =
     let l = c.loop-found in
-    rw c.take.ensures (walks_on c.next.new.self c.in-Some.word l.invariant (ap not c.loop-found-test.true) (c.in-Some.ensures.given c.args.text.now l.invariant.others l.invariant.left))
+    rw c.take.ensures (walks_on c.next.new.self c.in-Some.word l.invariant (ap not c.loop-found-test.true) (c.in-Some.ensures.given l.invariant.others l.invariant.left))
 
 pub returns : goal.returns
 returns c =
@@ -14,7 +14,7 @@ returns c =
     record {
       found = elim c.loop-found-test.branch [
         | else-loop-found-test w ↦ walk_stops l.invariant (ap not w.loop-found-test.false)
-        | then-loop-found-test+in_default w ↦ walk_ends l.invariant (w.in_default.ensures.given c.args.text.now l.invariant.others l.invariant.left)
+        | then-loop-found-test+in_default w ↦ walk_ends l.invariant (w.in_default.ensures.given l.invariant.others l.invariant.left)
       ];
       name = c.part_of.ensures;
       word = c.part_of-2.ensures;
