@@ -200,9 +200,15 @@ fn mark(
     ensures { OnOk result
         (places.new.items ≡ marked sought.entry end progress.now span places.old.items) }
 {
-    let index = progress.index();
     let is_name = is_name(progress.wanted);
-    // (most tokens are neither, and the items may be many)
+    // (most tokens are in rows and sums, and not what is looked for)
+    if !is_name
+        && !sought.part.is_at(progress)
+        && !matches!(progress.wanted, Wanted::Reason | Wanted::LastReference)
+    {
+        return Ok(());
+    }
+    let index = progress.index();
     if (is_name || sought.part_of(end, index).is_at(progress))
         && sought.kind.is_of(progress.section)
         && sought.items.contains(&index)
@@ -246,10 +252,11 @@ fn is_past(sought: Sought<'_>, progress: &TextProgress, end: u32) -> bool
     ensures { result ≡ is_past sought.entry progress.now end }
 {
     sought.used.is_none()
-        && (sought.kind.is_behind(progress.section)
-            || is_name(progress.wanted)
-                && sought.kind.is_of(progress.section)
-                && progress.index() > end)
+        && match progress.wanted {
+            Wanted::Name => sought.kind.is_of(progress.section) && progress.index() > end,
+            Wanted::Keyword => sought.kind.is_behind(progress.section),
+            _ => false,
+        }
 }
 
 // Whether a token names an item.

@@ -174,16 +174,13 @@ impl NearSearch {
     {
         self.pass_problem(subject, problem)?;
         let count = passed_to(end, problem.cons().len() as u32, derivations.left());
+        let mut step = Derivation::blank(subject.alloc);
         for passed in 0..count {
-            match derivations.next(subject.alloc)? {
-                Some(mut step) => {
-                    let kept = self.pass(subject, problem, &mut step);
-                    drop(step);
-                    kept?;
-                }
-                None => {}
+            if or_drop!(derivations.next_into(subject.alloc, &mut step), step) {
+                or_drop!(self.pass(subject, problem, &mut step), step);
             }
         }
+        drop(step);
         Ok(())
     }
 
