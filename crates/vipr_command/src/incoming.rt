@@ -5,7 +5,7 @@ use vipr_bytes::{Bytes, FromRead, ReadOnce, Source};
 
 /// A source that the program reads.
 pub trait Incoming: Source {
-    /// Whether it may be left before its end: nobody knows its bytes.
+    /// Whether it may be left before its end. It may if no clause says which bytes it gives.
     fn may_be_left(&self) -> bool
         ensures { result ≡ is_none (Self.input self.now) };
 }
