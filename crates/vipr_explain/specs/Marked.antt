@@ -1,12 +1,12 @@
 -- The places of items' names, and of one more token of each, among the tokens of a text
 use Rattle.std.specs.Prelude.{◌≡◌, ℕ, ◌&&◌, ◌||◌, ◌==◌, ◌∷◌, ◌++◌, [], Bool, true, false, List}
-use Rattle.std.specs.Prelude.{Option, Some, None, is_none, find, fold, max, nat_lt, if◌then◌else◌}
-use Rattle.std.specs.List.{list_any}
+use Rattle.std.specs.Prelude.{Option, Some, None, is_none, find, fold, max, nat_lt, take}
+use Rattle.std.specs.{Prelude.if◌then◌else◌, List.list_any}
 use Rattle.vipr_spec.specs.Tokens.{text_tokens}
 use Rattle.vipr_explain.specs.Progress.{at_start, count_spelled, index_of, passed}
 use Rattle.vipr_explain.specs.declared.marks.ItemPlace.{ItemPlace}
 use Rattle.vipr_explain.specs.declared.wanted.TextProgress.{TextProgress}
-use Rattle.vipr_explain.specs.{Words.walked, declared.marks.ItemPart.ItemPart}
+use Rattle.vipr_explain.specs.{Excerpts.line_behind, Words.walked, declared.marks.ItemPart.ItemPart}
 use Rattle.vipr_explain.specs.{declared.marks.ItemSort.ItemSort, declared.marks.Marks.Marks}
 use Rattle.vipr_explain.specs.{declared.marks.Sought.Sought, declared.text.Span.Span}
 use Rattle.vipr_explain.specs.{declared.wanted.Section.Section, declared.wanted.Wanted.Wanted}
@@ -16,8 +16,13 @@ use Rattle.vipr_explain.specs.declared.wanted.Section.TheVariants as section
 use Rattle.vipr_explain.specs.declared.wanted.Wanted.TheVariants as wanted
 
 -- an item whose name is here; the part that is looked for isn't known yet
-abbrev pub mark_at : ℕ → Span → ItemPlace
-mark_at index span = record { index = index; name = span; part = span }
+abbrev pub mark_at : List ℕ → ℕ → Span → ItemPlace
+mark_at text index span = record {
+  index = index;
+  name = span;
+  line = line_behind (take span.offset text);
+  part = span;
+}
 
 -- the part of the item that was marked last is here
 abbrev pub with_part : Span → List ItemPlace → List ItemPlace
@@ -85,11 +90,11 @@ abbrev pub is_past : Sought → TextProgress → ℕ → Bool
 is_past s p end = is_none s.used && is_past_at p.wanted s p end
 
 -- behind a token at this place, if it names an item that is looked for, or is the part of one
-abbrev pub marked : Sought → ℕ → TextProgress → Span → List ItemPlace → List ItemPlace
-marked s end p span marks =
+abbrev pub marked : List ℕ → Sought → ℕ → TextProgress → Span → List ItemPlace → List ItemPlace
+marked text s end p span marks =
     if (is_name p.wanted || is_part (part_of_item s end (index_of p)) p)
     && (is_of s.kind p.section && list_any (λ i. i == index_of p) s.items.now)
-    then (if is_name p.wanted then marks ++ mark_at (index_of p) span ∷ []
+    then (if is_name p.wanted then marks ++ mark_at text (index_of p) span ∷ []
     else with_part span marks) else marks
 
 -- the last derivation that refers to a constraint, behind a token where this is wanted
@@ -108,17 +113,17 @@ Marking = TextProgress × List ItemPlace × ℕ
 abbrev pub stops_marking : Sought → Marking → Bool
 stops_marking s m = is_past s m.0 (fold max 0 s.items.now)
 
-abbrev pub marking_behind : Sought → Marking → List ℕ → Span → Marking
-marking_behind s m word span = (
+abbrev pub marking_behind : List ℕ → Sought → Marking → List ℕ → Span → Marking
+marking_behind text s m word span = (
   passed m.0 word,
-  marked s (fold max 0 s.items.now) m.0 span m.1,
+  marked text s (fold max 0 s.items.now) m.0 span m.1,
   later_user s.used m.0 word m.2,
 )
 
 -- those of a text
 abbrev pub marking_in : Sought → List ℕ → Marking
 marking_in s text =
-    walked (stops_marking s) (marking_behind s) (at_start, [], 0) (text_tokens text)
+    walked (stops_marking s) (marking_behind text s) (at_start, [], 0) (text_tokens text)
 
 -- this is what is looked for in a text
 pub record AreMarksIn (text : List ℕ) (s : Sought) (marks : Marks) : Type 0 where

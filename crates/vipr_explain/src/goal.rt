@@ -317,7 +317,7 @@ fn write_near(page: &mut Page, known: &UnprovedClaim<'_>, near: &Near) {
         let (sign, side) = (sign_of(constraint.sense), constraint.rhs);
         items.write_name(page, near.index);
         write!(page, "  objective {sign} {side}");
-        write_line(page, items.text, items.marks.place(near.index));
+        write_line(page, items.marks.place(near.index));
         if near.is_strong {
             page.put(", strong enough");
         } else if let Some(gap) = near.gap {

@@ -1,9 +1,11 @@
 //! The places of items' names in a text, and of one more token of each.
 ghost use Rattle.std.specs.Prelude.{◌≡◌, fold, max, option_copied, IfOk, OnOk};
+ghost use Rattle.vipr_explain.specs.Excerpts.{IsLineIn};
 ghost use Rattle.vipr_explain.specs.Marked.{AreMarksIn, IsItemPlace, is_behind, is_of, is_part};
 ghost use Rattle.vipr_explain.specs.Marked.{is_past, is_name, later_user, marked};
 ghost use Rattle.vipr_explain.specs.Marked.{part_of_item, place_found, with_part};
 
+use crate::excerpt::LineAt;
 use crate::text::{Span, Subject};
 use crate::wanted::{Section, TextProgress, Wanted, count_of};
 use crate::words::Words;
@@ -107,12 +109,13 @@ impl Sought<'_> {
     }
 }
 
-/// The place of an item's name, and of the part of it that is looked for; without one, that of the
-/// name again.
+/// The place of an item's name, its line, and the place of the part of it that is looked for;
+/// without one, that of the name again.
 #[derive(Clone, Copy)]
 pub(crate) struct ItemPlace {
     pub(crate) index: u32,
     pub(crate) name: Span,
+    pub(crate) line: u64,
     pub(crate) part: Span,
 }
 
@@ -139,12 +142,21 @@ impl Marks {
         let mut progress = TextProgress::start();
         let mut places = Vec::new(alloc);
         let mut user = 0;
+        let mut here = LineAt::start();
         let end = greatest(sought.items);
         while !is_past(sought, &progress, end) {
             let Some(word) = words.next() else {
                 break;
             };
-            mark(&mut places, sought, &progress, end, word.span)?;
+            mark(
+                &mut places,
+                text,
+                &mut here,
+                sought,
+                &progress,
+                end,
+                word.span,
+            )?;
             user = later_user(user, sought.used, &progress, word.bytes);
             progress.pass(word.bytes);
         }
@@ -192,13 +204,17 @@ fn find_place(places: &[ItemPlace], index: u32) -> Option<&ItemPlace>
 // those that are looked for.
 fn mark(
     places: &mut Vec<ItemPlace>,
+    text: &[u8],
+    here: &mut LineAt,
     sought: Sought<'_>,
     progress: &TextProgress,
     end: u32,
     span: Span,
 ) -> Result<(), AllocError>
-    ensures { OnOk result
-        (places.new.items ≡ marked sought.entry end progress.now span places.old.items) }
+    requires { IsLineIn text.now here.old }
+    ensures places { OnOk result (places.new.items
+        ≡ marked text.now sought.entry end progress.now span places.old.items) }
+    ensures line { OnOk result (IsLineIn text.now here.new) }
 {
     let is_name = is_name(progress.wanted);
     // (most tokens are in rows and sums, and not what is looked for)
@@ -217,6 +233,7 @@ fn mark(
             places.push(ItemPlace {
                 index,
                 name: span,
+                line: here.go_to(text, span.offset),
                 part: span,
             })?;
         } else {

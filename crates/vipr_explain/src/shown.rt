@@ -2,7 +2,7 @@
 ghost use Rattle.std.specs.Prelude.{◌≡◌, IfOk, option_map};
 ghost use Rattle.vipr_explain.specs.Refused.{AreNamesOf, IsPartPlace, known_name};
 
-use crate::excerpt::{Excerpt, first, line_behind, part_of};
+use crate::excerpt::{Excerpt, part_of};
 use crate::marks::{ItemPart, ItemPlace, ItemSort, Marks, Sought};
 use crate::text::Subject;
 use std::alloc::AllocError;
@@ -56,7 +56,7 @@ impl<'a> PlacedItems<'a> {
             Some(constraint) => write!(page, "  {}", Algebra(&self.problem, constraint)),
             None => page.put(", which was dropped"),
         }
-        write_line(page, self.text, self.marks.place(index));
+        write_line(page, self.marks.place(index));
     }
 }
 
@@ -91,9 +91,9 @@ pub(crate) fn write_last_use(page: &mut Page, known: &PlacedItems<'_>, index: u3
 }
 
 /// Writes the line of a constraint, if its place is known.
-pub(crate) fn write_line(page: &mut Page, text: &[u8], place: Option<ItemPlace>) {
+pub(crate) fn write_line(page: &mut Page, place: Option<ItemPlace>) {
     if let Some(place) = place {
-        let line = line_behind(first(text, place.name.offset));
+        let line = place.line;
         write!(page, "  (line {line})");
     }
 }

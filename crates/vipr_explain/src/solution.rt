@@ -205,7 +205,7 @@ fn write_broken(page: &mut Page, known: &RefusedSolution<'_>, index: u32, left: 
     let constraint = &broken.item;
     let algebra = Algebra(problem, constraint);
     write!(page, "  constraint {index} `{name}`: {algebra}");
-    write_line(page, known.text, known.broken);
+    write_line(page, known.broken);
     write_values(page, problem, &constraint.row, &known.solution.item);
     let sign = sign_of(constraint.sense);
     let right = constraint.rhs;

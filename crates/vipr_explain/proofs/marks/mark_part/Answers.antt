@@ -10,6 +10,7 @@ last_set : (span : Span) (m : ItemPlace) (ms : List ItemPlace) (n : ℕ)
     → slice_set ms n (let r : ItemPlace = record {
       index = m.index;
       name = m.name;
+      line = m.line;
       part = span;
     } in r)
     ≡ with_part span ms
