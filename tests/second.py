@@ -42,7 +42,7 @@ WRONG = {
         'let u := snd e * match sense (what (at_in t (fst e))) with E => 0 | _ => 1 end in'),
     'floor for ceiling': ('(Qceiling (side_ a))) d', '(Qfloor (side_ a))) d'),
     'an assumption kept out of the wrong branch': ('without l1 i1', 'without l2 i1'),
-    'cutoff by the worst solution': ('if better v (f a) then v else f a', 'if better v (f a) then f a else v'),
+    'cutoff by the worst solution': ('(if is_min p then a else b)', '(if is_min p then b else a)'),
     'a split with a gap': ('Qeq_bool high (low + 1)', 'Qle_bool (low + 1) high'),
     'an equation rounded': (
         '| E => negb (is_whole (side_ a)) || dominates a d', '| E => dominates (with_side a (Qfloor (side_ a))) d'),
