@@ -7,9 +7,9 @@ usage: (make build; python3 tests/all.py --anew) > LOG 2>&1     in a clone witho
 
 If LOG has no `make build`, BUILD is the log of one. It may be the log of `make lib`, `make dist` or `make wrong`, too. Its
 line `commit: ..` says which commit that was, and a line `beside: ..` what ran at the same time. Each log may also have the
-yardstick, in lines of this form: `[1 of 1] vipr_spec 24 s, 41 s of processor time`. That is what `time rt lib --jobs 2` takes
-in the crate's folder, alone, on a machine that has kept nothing of it, just before and just after. All are written, in the
-order of the logs. A table has what the prover said of each crate: the last line of its proof, word by word.
+yardstick, in lines that `tools/kit_crates.py itoa` prints, alone, just before and just after: how long the check of a crate
+of the kit takes, which nothing here makes slower. All are written, in the order of the logs. A line `again: ..` says what
+was run once more after a failure. A table has what the prover said of each crate: the last line of its proof, word by word.
 
 --add leaves what the page says of the test command, and adds what the others took since. Without it the page keeps what it
 says of commands that the logs don't have. Both are with their commits and the yardsticks there.
@@ -31,8 +31,8 @@ HEAD = """# What the gate takes
 `tests/gate.py` writes this page from the output of two commands, each in a clone without a build. `make build` is the first build. `python3 tests/all.py --anew` is the test command, which proves everything anew. Other pages link here; README alone rounds what the first build takes.
 """
 STUB = 'No run is written here yet.\n'
-# the crate whose build by two processes, alone, shows how fast a machine is
-YARDSTICK = 'vipr_spec'
+# the kit's crate whose check by one process, alone, shows how fast a machine is
+YARDSTICK = 'itoa'
 # a yardstick of the page that was taken for another command
 ELSEWHERE = re.compile(r'; (at commit `(\w+)`[^;|]*\w)')
 KINDS = ('proof', 'tests', 'edits')
@@ -68,7 +68,8 @@ class Run:
             r'^(\S.*): ([\d.]+) minutes, ([\d.]+) of processor time$', text, re.M)
             if re.search(r'rt ci( --anew)?$', name) or '.py' in name]
         self.yardsticks = [f'{wall} seconds, {spent} of processor time' for wall, spent in re.findall(
-            rf'^\[1 of 1\] {YARDSTICK} (\d+) s, (\d+) s of processor time', text, re.M)]
+            rf'^{YARDSTICK}: logic=proved .*\((\d+) seconds, (\d+) of processor time\)$', text, re.M)]
+        self.again = re.findall(r'^again: (.*)$', text, re.M)
         ends = re.findall(r'^\d+ passed, \d+ failed(?:, \d+ skipped)?$', text, re.M)
         self.result = ends[-1] if ends else ''
         shares = re.findall(r'^(?:rt: )?ok; handles allowed: .*; (.*)$', text, re.M)
@@ -84,6 +85,7 @@ class Run:
     def take(self, other):
         """Takes the yardstick of another log, and the commands that this one hasn't."""
         self.yardsticks += other.yardsticks
+        self.again += other.again
         self.others = {**other.others, **self.others}
         if len(other.built) > len(self.built):
             self.built = other.built
@@ -164,10 +166,10 @@ def page(run):
     """The page of a run, as lines."""
     lines = ['| Run | |', '|---|---|', row('Day', run.said.get('date', '')), row('Commit', f'`{run.said.get("commit", "")}`'),
              row('Kit', f'`{run.said.get("kit", "")}`'), row('Machine', run.said.get('machine', '')),
-             row('Result', f'`{run.result}`'), row('Wrong versions refused', run.edits), row('Proved here', run.share)]
+             row('Result', '; then '.join([f'`{run.result}`', *run.again])), row('Wrong versions refused', run.edits), row('Proved here', run.share)]
     lines += [row(f'SHA-256 of `{name}`', f'`{digits}`') for digits, name in run.sums]
     said = '; then '.join(run.yardsticks) or 'not in this run'
-    lines.append(row('Yardstick', '; '.join([f'the build of `{YARDSTICK}` by two processes, alone: {said}', *run.elsewhere])))
+    lines.append(row('Yardstick', '; '.join([f'the check of `{YARDSTICK}`, a crate of the kit, alone: {said}', *run.elsewhere])))
     lines += ['', 'If the yardstick takes half as long on your machine, so does about everything below. A second figure is from '
               'after the run: a machine that others use changes its speed. A command with a commit of its own was run there.', '',
               '| Command | Minutes | Processor minutes |', '|---|---|---|']
