@@ -20,27 +20,14 @@ module _ {A : Type 0} (item : Rest → Read A) where
   abbrev pub and_next : Read (List A) → Read (List A)
   and_next read = read >>= λ xs. item xs.1 >>= λ x. Ok (xs.0 ++ x.0 ∷ [], x.1)
 
-  abbrev pub behind_first : A → Read (List A) → Read (List A)
-  behind_first x read = read >>= λ xs. Ok (x ∷ xs.0, xs.1)
-
-  first_stays : (x : A) (read : Read (List A)) → behind_first x (and_next read) ≡ and_next (behind_first x read)
-  first_stays x (Err e) = refl
-  first_stays x (Ok xs) = by (item xs.1)
-    where
-      by : (y : Read A) → behind_first x (y >>= λ z. Ok (xs.0 ++ z.0 ∷ [], z.1)) ≡ (y >>= λ z. Ok ((x ∷ xs.0) ++ z.0 ∷ [], z.1))
-      by (Ok z) = refl
-      by (Err e) = refl
-
-  each_behind : (n : ℕ) (y : Read A) → ((r : Rest) → read_each item (suc n) r ≡ and_next (read_each item n r))
-      → (y >>= λ x. behind_first x.0 (read_each item (suc n) x.1)) ≡ and_next (y >>= λ x. behind_first x.0 (read_each item n x.1))
-  each_behind n (Ok x) more = ap (behind_first x.0) (more x.1) ∙ first_stays x.0 (read_each item n x.1)
-  each_behind n (Err e) more = refl
-
   -- one more is the next one behind so many
   each_more : (n : ℕ) (r : Rest) → read_each item (suc n) r ≡ and_next (read_each item n r)
   unfolding read_each
   each_more zero r = refl
-  each_more (suc n) r = each_behind n (item r) (each_more n)
+  each_more (suc n) r = elim (item r) as (λ y. (y >>= λ x. read_each item (suc n) x.1 >>= λ xs. Ok (x.0 ∷ xs.0, xs.1)) ≡ and_next (y >>= λ x. read_each item n x.1 >>= λ xs. Ok (x.0 ∷ xs.0, xs.1))) [
+    | Ok x ↦ grind (arith, each_more n x.1)
+    | Err e ↦ refl
+  ]
 
   -- a fault of so many is one of more
   fault_of_first : (n more m : ℕ) (r : Rest) → m ≡ more + n → HasFault (read_each item n r)
@@ -61,15 +48,6 @@ on_ok r P Q f h = grind arith
 pub ok_and : {T U E : Type 0} (r : Result T E) (x : U) (P : U → Type 0) → OnOk r (P x)
     → IfOk (result_and r (Ok x)) P
 ok_and r x P h = grind arith
-
--- both results are Ok, so what they say holds
-pub first_ok : {T U E : Type 0} (r : Result T E) (s : Result U E) (x : U) (P : Type 0)
-    → result_and r s ≡ Ok x → OnOk r P → P
-first_ok r s x P e h = grind arith
-
-pub second_ok : {T U E : Type 0} (r : Result T E) (s : Result U E) (x : U) (P : Type 0)
-    → result_and r s ≡ Ok x → OnOk s P → P
-second_ok r s x P e h = grind arith
 
 -- ---- a reader behind so many
 

@@ -2,6 +2,5 @@ mod Again
 mod Lacks
 mod Tokens
 mod Walking
-mod NearOrder
 mod Nearing
 mod Valuing

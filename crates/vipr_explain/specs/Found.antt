@@ -9,10 +9,14 @@ use Rattle.vipr_bytes.specs.Known.{text_of}
 use Rattle.vipr_scan.specs.{Giving.rest_of, declared.error.TextError.TextError}
 use Rattle.vipr_read.specs.Items.{Items as Reader, Knows}
 use Rattle.vipr_scan.specs.declared.error.TextError.TheVariants as error
+use Rattle.vipr_explain.specs.{declared.text.Subject.Subject}
 
 -- all that there is to read of a text in memory
 abbrev pub text_rest : List ℕ → Rest
 text_rest bytes = text_of (record { bytes = bytes; fails = false })
+
+abbrev pub rest_in : Subject → Rest
+rest_in s = text_rest s.text.now
 
 -- the reading has a fault
 abbrev pub HasFault : {Y : Type 0} → Result Y Fault → Type 0

@@ -1,42 +1,44 @@
 -- The constraints that come nearest to a claim: what is known of each, and their order
-use Rattle.std.specs.Prelude.{◌≡◌, ◌≢◌, ◌↔◌, ◌⊎◌, ◌+◌, ◌-◌, ◌<◌, ◌≤◌, ◌++◌, ℕ, ℤ, Bool, true, false}
-use Rattle.std.specs.Prelude.{min, Ok, IsTrue, List, [], ◌∷◌, length, insert, Option, Some}
-use Rattle.std.specs.Prelude.{None, All, Contains, if◌then◌else◌, ⊤, option_and_then, option_map}
+use Rattle.std.specs.Prelude.{◌≡◌, ◌≢◌, ◌↔◌, ◌⊎◌, ◌+◌, ◌-◌, ◌<◌, ◌≤◌, ◌++◌, ℕ, zero, suc, ℤ, Bool}
+use Rattle.std.specs.Prelude.{IsOkAnd, true, false, min, IsTrue, List, [], ◌∷◌, length, insert}
+use Rattle.std.specs.Prelude.{take, Option, Some, None, All, if◌then◌else◌, option_and_then}
+use Rattle.std.specs.Prelude.{option_map}
 use Rattle.std.specs.declared.cmp.Ordering.{Ordering}
 use Rattle.std.specs.Ordering.{bool_cmp, flip_args, is_gt, nat_cmp, on, then_cmp}
 use Rattle.std.specs.{FinSet.contains, List.position_or_len, Option.option_cmp}
 use Rattle.vipr_spec.specs.Fraction.{ℚ, whole, neg_ℚ, ◌+ℚ◌, SumFits}
 use Rattle.vipr_spec.specs.FractionOrder.{cmp_ℚ}
-use Rattle.vipr_spec.specs.Constraint.{Profile, Sense, at_most, equal, at_least, Condition}
+use Rattle.vipr_spec.specs.Constraint.{Sense, at_most, equal, at_least, Condition}
 use Rattle.vipr_spec.specs.Constraint.{IsAbsurd, RoundsTo}
 use Rattle.vipr_spec.specs.Certificate.{Problem, variables, Derivation, Certificate, count}
-use Rattle.vipr_spec.specs.Certificate.{constraint_at, reason_at, is_live, Reason, sol, uns}
-use Rattle.vipr_spec.specs.Certificate.{RestsOn, RestsOnNothing, NamesEarlier, RefersTo}
-use Rattle.vipr_spec.specs.Steps.{with_more, with_next, RefersBack, Refuses, StepDetail}
+use Rattle.vipr_spec.specs.Certificate.{constraint_at, reason_at, Reason, sol, uns}
+use Rattle.vipr_spec.specs.Certificate.{RestsOn, RestsOnNothing, NamesEarlier}
+use Rattle.vipr_spec.specs.Steps.{with_next, RefersBack, Refuses, StepDetail}
 use Rattle.vipr_spec.specs.Reading.{Rest, Read, ◌>>=◌, read_each, derivation_read}
+use Rattle.vipr_scan.specs.declared.error.TextError.{TextError}
 use Rattle.vipr_read.specs.Items.{Items as Reader}
 use Rattle.vipr_linear.specs.Constraint.{condition_of}
+use Rattle.vipr_cert.specs.{Items.derivation_of, declared.items.Derivation.Derivation as Step}
 use Rattle.vipr_table.specs.History.{IsEntryOf, IsTableOf}
 use Rattle.vipr_table.specs.{Table.DerivedBelow, declared.rows.Entry.Entry}
 use Rattle.vipr_rules.specs.declared.claim.Target.TheVariants.{Absurdity, Bound, WholeBound}
 use Rattle.vipr_rules.specs.declared.claim.Target.TheVariants.{Nothing}
 use Rattle.vipr_rules.specs.{Claim.IsMetBy, Claim.IsTargetIn, declared.claim.Target.Target}
+use Rattle.vipr_rules.specs.{Profile.profile_of}
 use Rattle.vipr_page.specs.Algebra.{size}
-use Rattle.vipr_explain.specs.Found.{AreDerivationsRead, AreReadSoFar, HasFault, head_read}
-use Rattle.vipr_explain.specs.declared.near.NearSearch.{NearSearch}
+use Rattle.vipr_explain.specs.Found.{AreDerivationsRead, AreReadSoFar, Because, Missed, head_read}
+use Rattle.vipr_explain.specs.{Found.rest_in, declared.near.NearSearch.NearSearch}
 use Rattle.vipr_explain.specs.{declared.changes.Replay.Replay, declared.near.Join.Join}
 use Rattle.vipr_explain.specs.{declared.near.Near.Near, declared.near.OpenJoin.OpenJoin}
+use Rattle.vipr_explain.specs.{declared.text.Subject.Subject}
 
 -- ---- which constraints are like what is wanted
 
--- the constraint d has the row of the bound b, whatever its sense
-abbrev pub IsLikeBound : Condition → Condition → Type 0
-IsLikeBound b d = (j : ℕ) → d.row j ≡ b.row j
-
+-- the constraint d has the row of the bound, whatever its sense
 abbrev pub IsLike : Target → Condition → Type 0
 IsLike Absurdity d = IsAbsurd d
-IsLike (Bound b) d = IsLikeBound (condition_of b) d
-IsLike (WholeBound b) d = IsLikeBound (condition_of b) d
+IsLike (Bound b) d = (j : ℕ) → d.row j ≡ (condition_of b).row j
+IsLike (WholeBound b) d = (j : ℕ) → d.row j ≡ (condition_of b).row j
 IsLike Nothing d = ⊥
 
 -- ---- how far a constraint misses a bound
@@ -46,24 +48,17 @@ abbrev pub RoundsSide : Sense → ℚ → ℚ → Type 0
 RoundsSide equal b side = side ≡ b
 RoundsSide s b side = (k : ℤ) × RoundsTo s b k × (side ≡ whole k)
 
-abbrev pub IsRoundedSide : Condition → ℚ → Type 0
-IsRoundedSide d side = RoundsSide d.sense d.bound side
-
--- the bound less the side; none if the difference doesn't fit
-abbrev pub IsGapBetween : ℚ → ℚ → Option ℚ → Type 0
-IsGapBetween bound side (Some gap) = gap ≡ bound +ℚ neg_ℚ side
-IsGapBetween bound side None = ¬ SumFits bound (neg_ℚ side)
-
 -- one sense is at least and the other one at most
 abbrev pub is_turned : Sense → Sense → Bool
 is_turned at_least at_most = true
 is_turned at_most at_least = true
 is_turned _ _ = false
 
--- of a side that is turned nothing is said
+-- the bound less the side; none if the difference doesn't fit, or the side is turned
 abbrev pub IsGapUnless : Bool → ℚ → ℚ → Option ℚ → Type 0
 IsGapUnless true bound side gap = gap ≡ None
-IsGapUnless false bound side gap = IsGapBetween bound side gap
+IsGapUnless false bound side (Some gap) = gap ≡ bound +ℚ neg_ℚ side
+IsGapUnless false bound side None = ¬ SumFits bound (neg_ℚ side)
 
 abbrev pub IsGapTo : Condition → Sense → ℚ → Option ℚ → Type 0
 IsGapTo b sense side gap = IsGapUnless (is_turned sense b.sense) b.bound side gap
@@ -73,7 +68,7 @@ abbrev pub MissesBy : Target → Condition → Option ℚ → Type 0
 MissesBy Absurdity d gap = gap ≡ None
 MissesBy (Bound b) d gap = IsGapTo (condition_of b) d.sense d.bound gap
 MissesBy (WholeBound b) d gap =
-    (side : ℚ) × IsRoundedSide d side × IsGapTo (condition_of b) d.sense side gap
+    (side : ℚ) × RoundsSide d.sense d.bound side × IsGapTo (condition_of b) d.sense side gap
 MissesBy Nothing d gap = gap ≡ None
 
 -- ---- their order
@@ -97,10 +92,10 @@ comes_before n m = is_gt (order n m)
 abbrev pub with_near : Near → List Near → List Near
 with_near n ns = insert ns (position_or_len (comes_before n) ns) n
 
--- each of these comes before those behind it
-abbrev pub AreInOrder : List Near → Type 0
-AreInOrder [] = ⊤
-AreInOrder (n ∷ ns) = All (λ m. comes_before n m ≡ true) ns × AreInOrder ns
+-- these, from the one that comes first on
+abbrev pub in_order : List Near → List Near
+in_order [] = []
+in_order (n ∷ ns) = with_near n (in_order ns)
 
 -- ---- what is known of each
 
@@ -125,19 +120,17 @@ pub record IsNear (c : Certificate) (t : Target) (n : Near) : Type 0 where
   pub rests : (a : ℕ) → IsTrue (contains n.assumptions a) ↔ RestsOn c n.index a
   pub free : IsTrue n.is_free ↔ RestsOnNothing c n.index
 
--- constraint i is among these, or there are three, and each of them comes before it
-pub record HasPlace (c : Certificate) (t : Target) (ns : List Near) (i : ℕ) : Type 0 where
-  pub near : Near
-  pub index_is : near.index ≡ i
-  pub is : IsNear c t near
-  pub place : Contains ns near ⊎ ((length ns ≡ 3) × All (λ m. comes_before m near ≡ true) ns)
+-- these are the constraints before constraint k that are like what is wanted, the last one first
+abbrev pub AreLike : Certificate → Target → ℕ → List Near → Type 0
+AreLike c t zero like = like ≡ []
+AreLike c t (suc k) like = (¬ IsLike t (constraint_at c k) × AreLike c t k like)
+    ⊎ ((n : Near) × (ns : List Near) × (like ≡ n ∷ ns) × (n.index ≡ k) × IsNear c t n
+    × AreLike c t k ns)
 
--- these are the nearest of the first k constraints, at most three, in their order
-pub record AreNearest (c : Certificate) (t : Target) (k : ℕ) (ns : List Near) : Type 0 where
-  pub near : All (λ n. (n.index < k) × IsNear c t n) ns
-  pub order : AreInOrder ns
-  pub few : length ns ≤ 3
-  pub all : (i : ℕ) → i < k → IsLike t (constraint_at c i) → HasPlace c t ns i
+-- the three nearest of the first k constraints are kept, in their order, and joins of branches
+abbrev pub KeepsNearest : Certificate → ℕ → NearSearch → Type 0
+KeepsNearest c k search = (like : List Near) × AreLike c search.target k like
+    × (search.near.items ≡ take 3 (in_order like)) × All (IsOpenJoin c) search.joins.items
 
 -- ---- the search
 
@@ -148,13 +141,13 @@ without_solutions p ds = record { problem = p; solutions = []; derivations = ds 
 -- this is kept of the derivation d, which comes after the certificate c
 pub record IsNextEntry (c : Certificate) (d : Derivation) (e : Entry) : Type 0 where
   pub earlier : NamesEarlier (count c) (Some d.reason)
-  pub live : (i : ℕ) → RefersTo (Some d.reason) i → IsTrue (is_live c (count c) i)
   pub entry : IsEntryOf (with_next c d) (count c) e
 
 -- the derivation d, which comes after the certificate c, breaks a rule other than that of the
--- listed solutions
-abbrev pub IsRefusedNext : Profile → Certificate → Derivation → Type 0
-IsRefusedNext P c d = (d.reason ≢ sol) × (n : ℕ) × (x : StepDetail) × Refuses P c d n x
+-- listed solutions, or memory ran out
+abbrev pub IsRefusedNext : Subject → Certificate → Derivation → TextError → Type 0
+IsRefusedNext s c d m = Because m ((d.reason ≢ sol) × (n : ℕ) × (x : StepDetail)
+    × Refuses (profile_of s.profile) c d n x)
 
 -- the table has all these derivations of a problem, and no variable but those of the problem; the
 -- scratch has a place for each
@@ -164,86 +157,74 @@ pub record HasReplayed (p : Problem) (ds : List Derivation) (r : Replay) : Type 
   pub below : DerivedBelow (variables p) r.rows
   pub scratch : length r.scratch.sums ≡ variables p
 
--- the first k constraints of a problem with these derivations were passed; whatever comes behind
--- them, the nearest of them are kept
-pub record HasSearched (P : Profile) (p : Problem) (ds : List Derivation) (k : ℕ) (s : NearSearch)
-    : Type 0 where
-  pub target : IsTargetIn P p s.target
-  pub replayed : HasReplayed p ds s.replay
-  pub near : (more : List Derivation)
-      → AreNearest (with_more (without_solutions p ds) more) s.target k s.near.items
-  pub joins : (more : List Derivation)
-      → All (IsOpenJoin (with_more (without_solutions p ds) more)) s.joins.items
+-- the first k constraints of a problem with these derivations were passed, whatever comes behind
+-- them
+pub record HasSearched (s : Subject) (p : Problem) (ds : List Derivation) (k : ℕ)
+    (search : NearSearch) : Type 0 where
+  pub target : IsTargetIn (profile_of s.profile) p search.target
+  pub replayed : HasReplayed p ds search.replay
+  pub kept : (more : List Derivation) → KeepsNearest (without_solutions p (ds ++ more)) k search
 
-abbrev pub HasPassedAll : Profile → Problem → List Derivation → NearSearch → Type 0
-HasPassedAll P p ds s = HasSearched P p ds (count (without_solutions p ds)) s
+abbrev pub HasPassedAll : Subject → Problem → List Derivation → NearSearch → Type 0
+HasPassedAll s p ds search = HasSearched s p ds (count (without_solutions p ds)) search
 
 -- so many derivations of a text were read and passed
-abbrev pub SearchesPartWay : Profile → Rest → Problem → ℕ → Reader → NearSearch → Type 0
-SearchesPartWay P text p done r s =
-    AreReadSoFar (AreDerivationsRead text p) (λ ds. HasPassedAll P p ds s) done r
+abbrev pub SearchesPartWay : Subject → Problem → ℕ → Reader → NearSearch → Type 0
+SearchesPartWay s p done r search =
+    AreReadSoFar (AreDerivationsRead (rest_in s) p) (λ ds. HasPassedAll s p ds search) done r
 
 -- how many of so many derivations are before constraint k, or all, behind those of a problem
 abbrev pub passed_to : Option ℕ → ℕ → ℕ → ℕ
 passed_to (Some k) given all = min (k - given) all
 passed_to None given all = all
 
-abbrev pub SearchesTo : Profile → Rest → Problem → Option ℕ → Reader → NearSearch → Type 0
-SearchesTo P text p end r s = (n : ℕ) × SearchesPartWay P text p n r s
+abbrev pub SearchesTo : Subject → Problem → Option ℕ → Reader → NearSearch → Type 0
+SearchesTo s p end r search = (n : ℕ) × SearchesPartWay s p n r search
     × (n ≡ passed_to end (length p.constraints) (n + r.left))
 
 -- a text has no derivation of constraint k
-pub record HasNoStep (text : Rest) (k : ℕ) : Type 0 where
-  pub problem : Problem
-  pub count : ℕ
-  pub rest : Rest
-  pub head : head_read text ≡ Ok ((problem, count), rest)
-  pub outside : (k < length problem.constraints) ⊎ (length problem.constraints + count ≤ k)
+abbrev pub HasNoStep : Rest → ℕ → Type 0
+HasNoStep text k = IsOkAnd (head_read text) (λ h. (k < length h.0.0.constraints)
+    ⊎ (length h.0.0.constraints + h.0.1 ≤ k))
 
--- this is the one behind these derivations, if the text has it
-abbrev pub IsStepOf : Rest → Problem → List Derivation → ℕ → Option Derivation → Type 0
-IsStepOf text p before k (Some d) = (r : Reader) × AreDerivationsRead text p (before ++ d ∷ []) r
+-- this is that of constraint k, behind these derivations, if the text has it
+abbrev pub IsStepAt : Rest → Problem → List Derivation → Option ℕ → Option Step → Type 0
+IsStepAt text p before (Some k) (Some step) = (r : Reader)
     × (count (without_solutions p before) ≡ k)
-IsStepOf text p before k None = HasNoStep text k
-
-abbrev pub IsStepAt : Rest → Problem → List Derivation → Option ℕ → Option Derivation → Type 0
-IsStepAt text p before (Some k) d = IsStepOf text p before k d
-IsStepAt text p before None d = d ≡ None
+    × AreDerivationsRead text p (before ++ derivation_of step ∷ []) r
+IsStepAt text p before (Some k) None = HasNoStep text k
+IsStepAt text p before None step = step ≡ None
 
 -- those before constraint k, or all, were read and passed, and this is that of k
-pub record IsReadTo (P : Profile) (text : Rest) (end : Option ℕ) (p : Problem) (s : NearSearch)
-    (d : Option Derivation) : Type 0 where
+pub record IsReadTo (s : Subject) (end : Option ℕ) (p : Problem) (search : NearSearch)
+    (step : Option Step) : Type 0 where
   pub reader : Reader
-  pub searches : SearchesTo P text p end reader s
-  pub step : IsStepAt text p searches.1.read end d
+  pub searches : SearchesTo s p end reader search
+  pub is : IsStepAt (rest_in s) p searches.1.read end step
 
--- so many derivations of a text are read, and the next one breaks a rule
-pub record BreaksRule (P : Profile) (text : Rest) : Type 0 where
+-- so many derivations of a text are read, and the next one breaks a rule, or memory ran out
+pub record BreaksRule (s : Subject) (m : TextError) : Type 0 where
   pub problem : Problem
   pub read : List Derivation
   pub derivation : Derivation
   pub reader : Reader
-  pub behind : AreDerivationsRead text problem (read ++ derivation ∷ []) reader
-  pub refused : IsRefusedNext P (without_solutions problem read) derivation
+  pub behind : AreDerivationsRead (rest_in s) problem (read ++ derivation ∷ []) reader
+  pub refused : IsRefusedNext s (without_solutions problem read) derivation m
 
 -- the derivations up to that of a constraint, or all
-abbrev pub up_to : Option ℕ → ℕ → ℕ → ℕ
-up_to (Some k) given all = min (k + 1 - given) all
-up_to None given all = all
-
 abbrev pub read_to : Option ℕ → Rest → Read (List Derivation)
-read_to end r = head_read r >>= λ h.
-    read_each (derivation_read h.0.0) (up_to end (length h.0.0.constraints) h.0.1) h.1
+read_to end r = head_read r >>= λ h. read_each (derivation_read h.0.0)
+    (passed_to (option_map suc end) (length h.0.0.constraints) h.0.1) h.1
 
--- they can't be read, or one breaks a rule
-abbrev pub LacksBefore : Profile → Rest → Option ℕ → Type 0
-LacksBefore P text end = HasFault (read_to end text) ⊎ BreaksRule P text
+-- they can't be read, or one breaks a rule, or memory ran out
+abbrev pub LacksBefore : Subject → Option ℕ → TextError → Type 0
+LacksBefore s end m = Missed m (read_to end (rest_in s)) ⊎ BreaksRule s m
 
 -- so it is of the derivation of constraint k or of one before it, or the text has none of k
-abbrev pub LacksStep : Profile → Rest → ℕ → Type 0
-LacksStep P text k = ((i : ℕ) × (i ≤ k) × LacksBefore P text (Some i)) ⊎ HasNoStep text k
+abbrev pub LacksStep : Subject → ℕ → TextError → Type 0
+LacksStep s k m = LacksBefore s (Some k) m ⊎ HasNoStep (rest_in s) k
 
 -- so it is of the goal; without one it is the head that can't be read
-abbrev pub LacksGoal : Profile → Rest → Option ℕ → Type 0
-LacksGoal P text (Some k) = LacksBefore P text (Some k)
-LacksGoal P text None = HasFault (head_read text)
+abbrev pub LacksGoal : Subject → Option ℕ → TextError → Type 0
+LacksGoal s (Some k) m = LacksBefore s (Some k) m
+LacksGoal s None m = Missed m (head_read (rest_in s))

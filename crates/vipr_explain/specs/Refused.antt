@@ -2,12 +2,14 @@
 use Rattle.std.specs.Prelude.{◌≡◌, ◌↔◌, ℕ, ⊤, List, [], ◌∷◌, IsTrue, Option, Some}
 use Rattle.std.specs.Prelude.{None, option_map, ◌==◌, if◌then◌else◌, slice_get}
 use Rattle.std.specs.{FinMap.entries, Option.option_or}
-use Rattle.vipr_spec.specs.Constraint.{Constraint, Ints, IsSplit, Profile, two}
+use Rattle.vipr_spec.specs.Constraint.{Constraint, Ints, IsSplit, two}
 use Rattle.vipr_spec.specs.Certificate.{Named, Problem}
 use Rattle.vipr_spec.specs.{Causes.dropped, Fraction.ℚ, Reading.problem_read}
+use Rattle.vipr_scan.specs.declared.error.TextError.{TextError}
 use Rattle.vipr_linear.specs.Constraint.{condition_of, constraint_of}
 use Rattle.vipr_cert.specs.Items.{derivation_of}
 use Rattle.vipr_table.specs.{Table.entry_at}
+use Rattle.vipr_rules.specs.Profile.{profile_of}
 use Rattle.vipr_check.specs.{declared.detail.Detail.Detail, declared.detail.StepDetail.StepDetail}
 use Rattle.vipr_check.specs.{declared.verdict.Place.Place, declared.verdict.Verdict.Verdict}
 use Rattle.vipr_check.specs.declared.detail.Detail.TheVariants as detail
@@ -20,7 +22,8 @@ use Rattle.vipr_explain.specs.Marked.{AreMarksIn, IsItemPlace, place_found}
 use Rattle.vipr_explain.specs.Near.{IsReadTo, LacksBefore, LacksGoal, LacksStep, without_solutions}
 use Rattle.vipr_explain.specs.declared.shown.PlacedItems.{PlacedItems}
 use Rattle.vipr_explain.specs.declared.step.RefusedStep.{RefusedStep}
-use Rattle.vipr_explain.specs.{Changes.FollowEach, Found.LacksListed, Found.text_rest}
+use Rattle.vipr_explain.specs.{Changes.FollowEach, Found.Because, Found.LacksListed, Found.rest_in}
+use Rattle.vipr_explain.specs.{declared.step.StepFault.StepFault, declared.text.Subject.Subject}
 use Rattle.vipr_explain.specs.{declared.excerpt.Excerpt.Excerpt, declared.marks.ItemPart.ItemPart}
 use Rattle.vipr_explain.specs.{declared.marks.ItemPlace.ItemPlace, declared.marks.Marks.Marks}
 use Rattle.vipr_explain.specs.{declared.marks.Sought.Sought, declared.near.NearSearch.NearSearch}
@@ -67,31 +70,28 @@ AreFacts integers _ _ = ⊥
 
 -- the places of the constraints that a derivation names, the last use of the one that was dropped,
 -- if that is the cause, and what is behind its fault
-pub record AreNamedBy (text : List ℕ) (integers : Ints) (cause : ℕ) (what : StepDetail)
-    (marks : Marks) (found : StepFacts) : Type 0 where
+pub record AreNamedBy (s : Subject) (p : Problem) (fault : StepFault) (marks : Marks)
+    (found : StepFacts) : Type 0 where
   pub sought : Sought
-  pub used : sought.used ≡ used_by cause what
-  pub marked : AreMarksIn text sought marks
-  pub facts : AreFacts integers what found
+  pub used : sought.used ≡ used_by fault.cause fault.what.now
+  pub marked : AreMarksIn s.text.now sought marks
+  pub facts : AreFacts p.integers fault.what.now found
 
--- the derivation of constraint k, which is refused for this cause, behind those before it, which
--- were passed
-pub record IsRefusedStep (P : Profile) (text : List ℕ) (cause k : ℕ) (detail : StepDetail)
-    (s : RefusedStep) : Type 0 where
+-- the derivation of a constraint, which has this fault, behind those before it, which were passed
+pub record IsRefusedStep (s : Subject) (fault : StepFault) (r : RefusedStep) : Type 0 where
   pub search : NearSearch
-  pub read : IsReadTo P (text_rest text) (Some k) s.known.problem search
-      (Some (derivation_of s.own))
-  pub rows : s.rows ≡ search.replay.rows
-  pub text_is : s.known.text.now ≡ text
-  pub named : AreNamedBy text s.known.problem.integers cause detail s.known.marks s.facts
-  pub changes : FollowEach P (without_solutions s.known.problem read.searches.1.read)
-      (derivation_of s.own) s.changes
+  pub read : IsReadTo s (Some fault.index) r.known.problem search (Some r.own)
+  pub rows : r.search.replay.rows ≡ search.replay.rows
+  pub text_is : r.known.text.now ≡ s.text.now
+  pub named : AreNamedBy s r.known.problem fault r.known.marks r.facts
+  pub changes : FollowEach (profile_of s.profile)
+      (without_solutions r.known.problem read.searches.1.read) (derivation_of r.own) r.changes
 
 -- a constraint of the problem, or a derived one that is live
 abbrev pub known_constraint : RefusedStep → ℕ → Option Constraint
 known_constraint s index =
     option_or (option_map (λ n. n.item) (slice_get s.known.problem.constraints index))
-    (option_map (λ e. constraint_of e.constraint) (entry_at s.rows index))
+    (option_map (λ e. constraint_of e.constraint) (entry_at s.search.replay.rows index))
 
 -- the name of a constraint of the problem, or of another one whose place is known
 abbrev pub known_name : PlacedItems → ℕ → Option (List ℕ)
@@ -101,16 +101,16 @@ known_name k index = option_or (option_map (λ n. n.name) (slice_get k.problem.c
 -- ---- what a text lacks
 
 -- the item at this place can't be read; at the end a derivation can't be, or breaks a rule
-abbrev pub LacksPlace : Profile → List ℕ → Place → Type 0
-LacksPlace P text (at.Byte offset) = ⊥
-LacksPlace P text (at.Sol number) = LacksListed number (problem_read (text_rest text))
-LacksPlace P text (at.Der index) = LacksStep P (text_rest text) index
-LacksPlace P text at.End = LacksBefore P (text_rest text) None
+abbrev pub LacksPlace : Subject → Place → TextError → Type 0
+LacksPlace s (at.Byte offset) m = ⊥
+LacksPlace s (at.Sol number) m = Because m (LacksListed number (problem_read (rest_in s)))
+LacksPlace s (at.Der index) m = LacksStep s index m
+LacksPlace s at.End m = LacksBefore s None m
 
 -- what a verdict is about
-abbrev pub LacksItem : Profile → List ℕ → Verdict → Type 0
-LacksItem P text (verdict.Verified report) = LacksGoal P (text_rest text) report.goal
-LacksItem P text (verdict.Refused refusal) = LacksPlace P text refusal.place
+abbrev pub LacksItem : Subject → Verdict → TextError → Type 0
+LacksItem s (verdict.Verified report) m = LacksGoal s report.goal m
+LacksItem s (verdict.Refused refusal) m = LacksPlace s refusal.place m
 
 -- the part of a solution that is at fault: its name, or a value, if that is at fault alone, as that
 -- of a row with one entry is

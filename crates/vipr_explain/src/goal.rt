@@ -1,9 +1,8 @@
 //! What proves the claim, and which constraints come nearest to it if none does.
 ghost use Rattle.std.specs.Prelude.{IfErr, IfOk, None, Some, map};
-ghost use Rattle.vipr_rules.specs.Profile.{profile_of};
 ghost use Rattle.vipr_explain.specs.Claims.{IsGoalFound, IsGoalRead, IsUnproved};
-ghost use Rattle.vipr_explain.specs.{Found.Because, Found.text_rest, Near.LacksBefore};
-ghost use Rattle.vipr_explain.specs.{Near.LacksGoal, Refused.AreNamesOf, Values.AreListedValues};
+ghost use Rattle.vipr_explain.specs.{Found.rest_in, Near.LacksBefore, Near.LacksGoal};
+ghost use Rattle.vipr_explain.specs.{Refused.AreNamesOf, Values.AreListedValues};
 
 use crate::excerpt::Excerpt;
 use crate::items::open_problem;
@@ -42,9 +41,8 @@ pub(crate) struct ProvedClaim<'a> {
 impl<'a> ProvedGoal<'a> {
     // Reads the constraint of this index.
     fn find(subject: Subject<'a>, index: u32) -> Reread<ProvedGoal<'a>>
-        ensures found { IfOk result (IsGoalFound subject.entry.text.now index) }
-        ensures missing { IfErr result (λ m. Because m (LacksBefore
-            (profile_of subject.entry.profile) (text_rest subject.entry.text.now) (Some index))) }
+        ensures found { IfOk result (IsGoalFound subject.entry index) }
+        ensures missing { IfErr result (LacksBefore subject.entry (Some index)) }
     {
         let marks = find_names(subject, [index].as_slice())?;
         let (problem, search, step) = or_drop!(search_to(subject, Some(index)), marks);
@@ -74,13 +72,9 @@ impl<'a> ProvedGoal<'a> {
 impl<'a> ProvedClaim<'a> {
     /// Reads what proves the claim of a report.
     pub(crate) fn find(subject: Subject<'a>, report: &Report) -> Reread<ProvedClaim<'a>>
-        ensures goal { IfOk result
-            (λ k. IsGoalRead subject.entry.text.now report.now.goal k.goal) }
-        ensures values { IfOk result
-            (λ k. AreListedValues (text_rest subject.entry.text.now) k.values) }
-        ensures missing { IfErr result (λ m. Because m (LacksGoal
-            (profile_of subject.entry.profile) (text_rest subject.entry.text.now)
-            report.now.goal)) }
+        ensures goal { IfOk result (λ k. IsGoalRead subject.entry report.now.goal k.goal) }
+        ensures values { IfOk result (λ k. AreListedValues (rest_in subject.entry) k.values) }
+        ensures missing { IfErr result (LacksGoal subject.entry report.now.goal) }
     {
         let goal = match report.goal {
             Some(goal) => Some(ProvedGoal::find(subject, goal)?),
@@ -124,10 +118,8 @@ pub(crate) struct UnprovedClaim<'a> {
 impl<'a> UnprovedClaim<'a> {
     /// Reads the constraints that come nearest.
     pub(crate) fn find(subject: Subject<'a>) -> Reread<UnprovedClaim<'a>>
-        ensures found { IfOk result
-            (IsUnproved (profile_of subject.entry.profile) subject.entry.text.now) }
-        ensures missing { IfErr result (λ m. Because m (LacksBefore
-            (profile_of subject.entry.profile) (text_rest subject.entry.text.now) None)) }
+        ensures found { IfOk result (IsUnproved subject.entry) }
+        ensures missing { IfErr result (LacksBefore subject.entry None) }
     {
         let (problem, solutions) = open_problem(subject.alloc, subject.text)?;
         let has_solution = solutions.left() > 0;
@@ -243,19 +235,14 @@ fn write_advice(page: &mut Page, known: &UnprovedClaim<'_>) {
                 Goal::Min => "max",
                 Goal::Max => "min",
             };
-            write!(
-                page,
-                "[{index}] is the other way round: is `OBJ {other}` meant?"
-            );
+            write!(page, "[{index}] is the other way round: ");
+            write!(page, "is `OBJ {other}` meant?");
             return;
         }
         (Some(Constraint { row, sense, rhs }), ..)
             if near.is_empty() && row.is_empty() && compares(*sense, Frac::zero(), *rhs) => {
-            write!(
-                page,
-                "add the derivation `NAME {sense} {rhs} 0 {{ lin 0 }} -1`, and 1 to the count \
-                 behind DER"
-            );
+            write!(page, "add the derivation `NAME {sense} {rhs} ");
+            page.put("0 { lin 0 } -1`, and 1 to the count behind DER");
             return;
         }
         (None, ..) if known.has_solution => {
@@ -271,10 +258,8 @@ fn write_left(page: &mut Page, search: &NearSearch, strong: &Near) {
     let assumptions = &strong.assumptions;
     let index = strong.index;
     if assumptions.contains(index) {
-        write!(
-            page,
-            "[{index}] is an assumption itself: is its reason left out?"
-        );
+        write!(page, "[{index}] is an assumption itself: ");
+        page.put("is its reason left out?");
         return;
     }
     for open in &search.joins {
@@ -289,20 +274,16 @@ fn write_left(page: &mut Page, search: &NearSearch, strong: &Near) {
         }
         if first || second {
             let (left, case) = if first { (l1, i2) } else { (l2, i1) };
-            write!(
-                page,
-                "[{index}] is to take [{left}] away by `uns {i1} {l1} {i2} {l2}`, "
-            );
-            write!(page, "but its other case, [{case}], rests on [{left}], too");
+            write!(page, "[{index}] is to take [{left}] away by ");
+            write!(page, "`uns {i1} {l1} {i2} {l2}`, but its other case, ");
+            write!(page, "[{case}], rests on [{left}], too");
             return;
         }
     }
     for left in 0..=index {
         if assumptions.contains(left) {
-            write!(
-                page,
-                "[{left}] is an assumption that is left: is its reason left out, "
-            );
+            write!(page, "[{left}] is an assumption that is left: ");
+            page.put("is its reason left out, ");
             page.put("or a `uns i1 l1 i2 l2` that takes it away as l1 or l2?");
             return;
         }

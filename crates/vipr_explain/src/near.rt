@@ -4,21 +4,20 @@ ghost use Rattle.std.specs.Prelude.{IfErr, IfOk, OnOk, length, take, unsigned_ab
 ghost use Rattle.std.specs.Prelude.{option_and_then, option_map};
 ghost use Rattle.std.specs.{FinSet.contains, List.position_or_len};
 ghost use Rattle.vipr_spec.specs.Constraint.{at, NamesBelow};
-ghost use Rattle.vipr_spec.specs.Certificate.{Certificate, Derivation as DerivationMeant, RestsOn};
-ghost use Rattle.vipr_spec.specs.Certificate.{constraint_at, count, reason_at, variables};
-ghost use Rattle.vipr_spec.specs.{Fraction.most, Fraction.whole, Steps.RefersBack};
+ghost use Rattle.vipr_spec.specs.Certificate.{Certificate, Derivation as Meant, RestsOn};
+ghost use Rattle.vipr_spec.specs.Certificate.{constraint_at, reason_at, variables};
+ghost use Rattle.vipr_spec.specs.{Fraction.most, Fraction.whole};
 ghost use Rattle.vipr_linear.specs.Constraint.{condition_of, sense_of};
 ghost use Rattle.vipr_cert.specs.Items.{derivation_of, reason_of};
-ghost use Rattle.vipr_table.specs.{History.IsTableOf, Table.DerivedBelow, Table.step as table_step};
+ghost use Rattle.vipr_table.specs.Table.{step as table_step};
 ghost use Rattle.vipr_rules.specs.declared.error.RuleError.TheVariants.{Memory as NoMemory};
-ghost use Rattle.vipr_rules.specs.{Profile.profile_of};
 ghost use Rattle.vipr_scan.specs.declared.error.TextError.TheVariants.{Memory};
-ghost use Rattle.vipr_explain.specs.Found.{AreDerivationsRead, Because, text_rest};
-ghost use Rattle.vipr_explain.specs.Near.{AreNearest, HasPassedAll};
-ghost use Rattle.vipr_explain.specs.Near.{HasSearched, IsGapTo, IsOpenJoin, IsLike, IsNextEntry};
-ghost use Rattle.vipr_explain.specs.Near.{IsReadTo, IsRefusedNext, IsRoundedSide, LacksBefore};
-ghost use Rattle.vipr_explain.specs.Near.{MissesBy, comes_before, gap_left, is_turned, join_of};
-ghost use Rattle.vipr_explain.specs.Near.{SearchesTo, passed_to, with_near, without_solutions};
+ghost use Rattle.vipr_explain.specs.Found.{AreDerivationsRead, rest_in};
+ghost use Rattle.vipr_explain.specs.Near.{HasPassedAll, HasReplayed, IsGapTo, IsLike, IsNextEntry};
+ghost use Rattle.vipr_explain.specs.Near.{IsOpenJoin, IsReadTo, IsRefusedNext, KeepsNearest};
+ghost use Rattle.vipr_explain.specs.Near.{LacksBefore, MissesBy, RoundsSide, SearchesTo};
+ghost use Rattle.vipr_explain.specs.Near.{comes_before, gap_left, is_turned, join_of, passed_to};
+ghost use Rattle.vipr_explain.specs.Near.{with_near, without_solutions};
 
 use crate::changes::Replay;
 use crate::items::open_derivations;
@@ -29,7 +28,7 @@ use vipr_bytes::Bytes;
 use vipr_cert::{Derivation, Problem, Reason, References};
 use vipr_check::Table;
 use vipr_frac::Frac;
-use vipr_linear::{Combination, Constraint, Sense};
+use vipr_linear::{Constraint, Sense};
 use vipr_page::size_of;
 use vipr_read::Derivations;
 use vipr_rules::{Assumptions, Entry, Rows, RuleError, Target, apply_in, take_entry};
@@ -89,10 +88,8 @@ pub(crate) fn search_to(
     subject: Subject<'_>,
     end: Option<u32>,
 ) -> Reread<(Problem, NearSearch, Option<Derivation>)>
-    ensures read { IfOk result (λ x. IsReadTo (profile_of subject.entry.profile)
-        (text_rest subject.entry.text.now) end x.0 x.1 (option_map derivation_of x.2)) }
-    ensures missing { IfErr result (λ m. Because m (LacksBefore
-        (profile_of subject.entry.profile) (text_rest subject.entry.text.now) end)) }
+    ensures read { IfOk result (λ x. IsReadTo subject.entry end x.0 x.1 x.2) }
+    ensures missing { IfErr result (LacksBefore subject.entry end) }
 {
     let (problem, mut derivations) = open_derivations(subject.alloc, subject.text)?;
     let found = search_in(subject, &problem, &mut derivations, end);
@@ -108,16 +105,12 @@ fn search_in(
     derivations: &mut Derivations<Bytes<'_>>,
     end: Option<u32>,
 ) -> Reread<(NearSearch, Option<Derivation>)>
-    requires behind { AreDerivationsRead (text_rest subject.text.now) problem.now []
-        derivations.old }
+    requires behind { AreDerivationsRead (rest_in subject) problem.now [] derivations.old }
     requires room { derivations.old.constraints + derivations.old.left < 2 ^ 32 }
-    ensures read { IfOk result (λ x. IsReadTo (profile_of subject.entry.profile)
-        (text_rest subject.entry.text.now) end problem.now x.0 (option_map derivation_of x.1)) }
-    ensures missing { IfErr result (λ m. Because m (LacksBefore
-        (profile_of subject.entry.profile) (text_rest subject.entry.text.now) end)) }
+    ensures read { IfOk result (λ x. IsReadTo subject.entry end problem.now x.0 x.1) }
+    ensures missing { IfErr result (LacksBefore subject.entry end) }
 {
-    let mut search = NearSearch::new(subject, problem)?;
-    or_drop!(search.pass_to(subject, problem, derivations, end), search);
+    let search = NearSearch::up_to(subject, problem, derivations, end)?;
     match end {
         Some(index) if search.replay.rows.next() == index && derivations.left() > 0 => {
             let step = or_drop!(derivations.next(subject.alloc), search);
@@ -140,102 +133,67 @@ pub(crate) fn passed_to(end: Option<u32>, given: u32, derivations: u32) -> u32
 }
 
 impl NearSearch {
-    // A search that passed no constraint.
+    // A search that passed the constraints of the problem, which rest on no assumption.
     fn new(subject: Subject<'_>, problem: &Problem) -> Result<NearSearch, AllocError>
-        ensures { IfOk result
-            (HasSearched (profile_of subject.entry.profile) problem.now [] 0) }
+        ensures { IfOk result (HasPassedAll subject.entry problem.now []) }
     {
         let target = Target::of_claim_in(subject.profile, problem)?;
         let replay = or_drop!(Replay::new(subject.alloc, problem), target);
-        Ok(NearSearch {
+        let mut search = NearSearch {
             target,
             near: Vec::new(subject.alloc),
             joins: Vec::new(subject.alloc),
             replay,
-        })
+        };
+        let given = problem.cons();
+        let nothing = Assumptions::empty(subject.alloc);
+        for (index, named) in given.iter().enumerate() {
+            let kept = search.keep(index as u32, None, &named.item, &nothing);
+            or_drop!(kept, search);
+        }
+        Ok(search)
     }
 
-    // Passes the constraints of the problem, and the derivations before that of one, or all.
-    fn pass_to(
-        &mut self,
+    // A search that passed the derivations before that of a constraint, or all, too.
+    fn up_to(
         subject: Subject<'_>,
         problem: &Problem,
         derivations: &mut Derivations<Bytes<'_>>,
         end: Option<u32>,
-    ) -> Reread<()>
-        requires behind { AreDerivationsRead (text_rest subject.text.now) problem.now []
-            derivations.old }
+    ) -> Reread<NearSearch>
+        requires behind { AreDerivationsRead (rest_in subject) problem.now [] derivations.old }
         requires room { derivations.old.constraints + derivations.old.left < 2 ^ 32 }
-        requires none { HasSearched (profile_of subject.profile) problem.now [] 0 self.old }
-        ensures near { OnOk result (SearchesTo (profile_of subject.entry.profile)
-            (text_rest subject.entry.text.now) problem.now end derivations.new self.new) }
-        ensures missing { IfErr result (λ m. Because m (LacksBefore
-            (profile_of subject.entry.profile) (text_rest subject.entry.text.now) end)) }
+        ensures near { IfOk result (SearchesTo subject.entry problem.now end derivations.new) }
+        ensures missing { IfErr result (LacksBefore subject.entry end) }
     {
-        self.pass_problem(subject, problem)?;
+        let mut found = NearSearch::new(subject, problem)?;
         let count = passed_to(end, problem.cons().len() as u32, derivations.left());
         let mut step = Derivation::blank(subject.alloc);
         for passed in 0..count {
-            if or_drop!(derivations.next_into(subject.alloc, &mut step), step) {
-                or_drop!(self.pass(subject, problem, &mut step), step);
+            if or_drop!(derivations.next_into(subject.alloc, &mut step), step, found) {
+                or_drop!(found.pass(subject, problem, &mut step), step, found);
             }
         }
         drop(step);
-        Ok(())
-    }
-
-    // Passes the constraints of the problem, which rest on no assumption.
-    fn pass_problem(&mut self, subject: Subject<'_>, problem: &Problem) -> Result<(), AllocError>
-        requires { HasSearched (profile_of subject.profile) problem.now [] 0 self.old }
-        ensures { OnOk result
-            (HasPassedAll (profile_of subject.entry.profile) problem.now [] self.new) }
-    {
-        let given = problem.cons();
-        let nothing = Assumptions::empty(subject.alloc);
-        for (index, named) in given.iter().enumerate() {
-            add(
-                &mut self.near,
-                &self.target,
-                index as u32,
-                &named.item,
-                &nothing,
-            )?;
-        }
-        Ok(())
+        Ok(found)
     }
 
     // Passes a derivation, whose constraint moves to the table.
     fn pass(&mut self, subject: Subject<'_>, problem: &Problem, step: &mut Derivation) -> Reread<()>
         requires room { self.old.replay.rows.next + 1 < 2 ^ 32 }
         requires names { NamesBelow (variables problem.now) (at step.old.constraint.row) }
-        requires searched { (ds : List DerivationMeant)
-            × HasPassedAll (profile_of subject.profile) problem.now ds self.old }
-        ensures passed { (ds : List DerivationMeant)
-            → HasPassedAll (profile_of subject.entry.profile) problem.now ds self.old
-            → OnOk result (HasPassedAll (profile_of subject.entry.profile) problem.now
-            (ds ++ derivation_of step.old ∷ []) self.new) }
-        ensures missing { (ds : List DerivationMeant)
-            → HasPassedAll (profile_of subject.entry.profile) problem.now ds self.old
-            → IfErr result (λ m. Because m (IsRefusedNext (profile_of subject.entry.profile)
-            (without_solutions problem.now ds) (derivation_of step.old))) }
+        requires searched { (ds : List Meant) × HasPassedAll subject problem.now ds self.old }
+        ensures passed { (ds : List Meant) → HasPassedAll subject.entry problem.now ds self.old
+            → OnOk result
+            (HasPassedAll subject.entry problem.now (ds ++ derivation_of step.old ∷ []) self.new) }
+        ensures missing { (ds : List Meant) → HasPassedAll subject.entry problem.now ds self.old
+            → IfErr result (IsRefusedNext subject.entry (without_solutions problem.now ds)
+            (derivation_of step.old)) }
     {
         let index = self.replay.rows.next();
         let join = join_of(&step.reason);
-        let entry = entry_of(
-            subject,
-            problem,
-            &self.replay.rows,
-            &mut self.replay.scratch,
-            step,
-        )?;
-        let added = add(
-            &mut self.near,
-            &self.target,
-            index,
-            &entry.constraint,
-            &entry.assumptions,
-        );
-        match added.and(keep_join(&mut self.joins, index, join, &entry.assumptions)) {
+        let entry = self.replay.next_entry(subject, problem, step)?;
+        match self.keep(index, join, &entry.constraint, &entry.assumptions) {
             Ok(()) => place(&mut self.replay.rows, entry),
             Err(error) => {
                 drop(entry);
@@ -243,41 +201,74 @@ impl NearSearch {
             }
         }
     }
+
+    // Keeps a constraint that rests on these assumptions, if it is one of the nearest so far, and
+    // what joins it.
+    fn keep(
+        &mut self,
+        index: u32,
+        join: Option<Join>,
+        constraint: &Constraint,
+        assumptions: &Assumptions,
+    ) -> Result<(), AllocError>
+        ensures kept { (c : Certificate) → constraint_at c index ≡ condition_of constraint.now
+            → ((a : ℕ) → IsTrue (contains assumptions.now a) ↔ RestsOn c index a)
+            → option_and_then join_of (reason_at c index) ≡ join → KeepsNearest c index self.old
+            → OnOk result (KeepsNearest c (index + 1) self.new) }
+        ensures rest { (self.new.target ≡ self.old.target) × (self.new.replay ≡ self.old.replay) }
+    {
+        keep_join(&mut self.joins, index, join, assumptions)?;
+        if !is_like(&self.target, constraint) {
+            return Ok(());
+        }
+        let shown = constraint.clone()?;
+        let assumptions = or_drop!(assumptions.clone(), shown);
+        let near = Near {
+            index,
+            is_strong: self.target.is_met_by(&shown),
+            gap: gap_of(&self.target, &shown),
+            constraint: shown,
+            is_free: assumptions.is_empty(),
+            assumptions,
+        };
+        insert(&mut self.near, near)
+    }
 }
 
-/// What is kept of the next derivation, by the rule of its reason. What a solution cuts off rests
-/// on no assumption, whichever solution is the best.
-pub(crate) fn entry_of(
-    subject: Subject<'_>,
-    problem: &Problem,
-    rows: &Table,
-    scratch: &mut Combination,
-    step: &mut Derivation,
-) -> Reread<Entry>
-    requires below { DerivedBelow (variables problem.now) rows.now }
-    requires scratch { length scratch.old.sums ≡ variables problem.now }
-    ensures scratch { length scratch.new.sums ≡ length scratch.old.sums }
-    ensures next { (ds : List DerivationMeant) → let c = without_solutions problem.now ds in
-        IsTableOf c rows.now → RefersBack c → IfOk result (IsNextEntry c (derivation_of step.old)) }
-    ensures missing { (ds : List DerivationMeant) → let c = without_solutions problem.now ds in
-        IsTableOf c rows.now → RefersBack c → IfErr result (λ m. Because m
-        (IsRefusedNext (profile_of subject.entry.profile) c (derivation_of step.old))) }
-{
-    if let Reason::Sol = step.reason {
-        return Ok(take_entry(subject.alloc, step, Assumptions::empty(subject.alloc)));
-    }
-    let kept = apply_in(
-        subject.alloc,
-        subject.profile,
-        problem,
-        None,
-        rows,
-        scratch,
-        step,
-    );
-    match kept {
-        Ok(entry) => Ok(entry),
-        Err(error) => Err(missing_by(error)),
+impl Replay {
+    // What is kept of the next derivation, by the rule of its reason. What a solution cuts off
+    // rests on no assumption, whichever solution is the best.
+    fn next_entry(
+        &mut self,
+        subject: Subject<'_>,
+        problem: &Problem,
+        step: &mut Derivation,
+    ) -> Reread<Entry>
+        requires { (ds : List Meant) × HasReplayed problem.now ds self.old }
+        ensures rows { self.new.rows ≡ self.old.rows }
+        ensures scratch { length self.new.scratch.sums ≡ length self.old.scratch.sums }
+        ensures next { (ds : List Meant) → HasReplayed problem.now ds self.old → IfOk result
+            (IsNextEntry (without_solutions problem.now ds) (derivation_of step.old)) }
+        ensures missing { (ds : List Meant) → HasReplayed problem.now ds self.old
+            → IfErr result (IsRefusedNext subject.entry (without_solutions problem.now ds)
+            (derivation_of step.old)) }
+    {
+        if let Reason::Sol = step.reason {
+            return Ok(take_entry(subject.alloc, step, Assumptions::empty(subject.alloc)));
+        }
+        let kept = apply_in(
+            subject.alloc,
+            subject.profile,
+            problem,
+            None,
+            &self.rows,
+            &mut self.scratch,
+            step,
+        );
+        match kept {
+            Ok(entry) => Ok(entry),
+            Err(error) => Err(missing_by(error)),
+        }
     }
 }
 
@@ -294,8 +285,8 @@ fn missing_by(error: RuleError) -> TextError
     }
 }
 
-/// Places what is kept of a derivation, until its last reference.
-pub(crate) fn place(rows: &mut Table, entry: Entry) -> Reread<()>
+// Places what is kept of a derivation, until its last reference.
+fn place(rows: &mut Table, entry: Entry) -> Reread<()>
     requires { rows.old.next + 1 < 2 ^ 32 }
     ensures placed { OnOk result (rows.new ≡ table_step rows.old entry) }
     ensures memory { IfErr result (λ m. m ≡ Memory) }
@@ -344,35 +335,6 @@ fn keep_join(
         }
     }
     Ok(())
-}
-
-// Keeps a constraint, if it is one of the nearest so far.
-fn add(
-    all: &mut Vec<Near>,
-    target: &Target,
-    index: u32,
-    constraint: &Constraint,
-    assumptions: &Assumptions,
-) -> Result<(), AllocError>
-    ensures { (c : Certificate) → constraint_at c index ≡ condition_of constraint.now
-        → ((a : ℕ) → IsTrue (contains assumptions.now a) ↔ RestsOn c index a)
-        → AreNearest c target.now index all.old.items
-        → OnOk result (AreNearest c target.now (index + 1) all.new.items) }
-{
-    if !is_like(target, constraint) {
-        return Ok(());
-    }
-    let shown = constraint.clone()?;
-    let assumptions = or_drop!(assumptions.clone(), shown);
-    let near = Near {
-        index,
-        is_strong: target.is_met_by(&shown),
-        gap: gap_of(target, &shown),
-        constraint: shown,
-        is_free: assumptions.is_empty(),
-        assumptions,
-    };
-    insert(all, near)
 }
 
 // Keeps a constraint at its place among the nearest, behind those that are as near.
@@ -437,7 +399,7 @@ pub(crate) fn is_turned(sense: Sense, other: Sense) -> bool
 
 // The right-hand side, rounded the way that its sense allows.
 fn rounded(constraint: &Constraint) -> Frac
-    ensures { IsRoundedSide (condition_of constraint.now) result }
+    ensures { RoundsSide (sense_of constraint.now.sense) constraint.now.rhs result }
 {
     match constraint.sense {
         Sense::G => whole(constraint.rhs.ceil()),

@@ -220,7 +220,6 @@ pub(crate) fn write_sources(
 ) {
     let name = VariableName(&refused.known.problem, variable);
     write!(page, "      {name} comes from");
-    let mut front = " ";
     let mut count: usize = 0;
     for entry in entries {
         let (index, multiplier) = *entry;
@@ -231,9 +230,9 @@ pub(crate) fn write_sources(
         };
         if !coefficient.is_zero() {
             if count < MOST_SOURCES {
-                write!(page, "{front}{multiplier} x {coefficient} of [{index}]");
+                page.put(if count == 0 { " " } else { ", " });
+                write!(page, "{multiplier} x {coefficient} of [{index}]");
             }
-            front = ", ";
             count = count.saturating_add(1);
         }
     }

@@ -1,15 +1,13 @@
 //! A derivation that is refused.
-ghost use Rattle.std.specs.Prelude.{◌≡◌, ◌↔◌, List, All, IfErr, IfOk, IsTrue};
-ghost use Rattle.std.specs.Prelude.{Some, is_some, option_map};
+ghost use Rattle.std.specs.Prelude.{◌≡◌, ◌↔◌, List, All, IfErr, IfOk, IsTrue, is_some, option_map};
 ghost use Rattle.vipr_spec.specs.{Certificate.Derivation as DerivationMeant, Fraction.neg_ℚ};
 ghost use Rattle.vipr_linear.specs.Constraint.{constraint_of};
 ghost use Rattle.vipr_cert.specs.Items.{derivation_of};
 ghost use Rattle.vipr_rules.specs.Profile.{profile_of};
-ghost use Rattle.vipr_explain.specs.Found.{Because, text_rest};
 ghost use Rattle.vipr_explain.specs.Near.{HasReplayed, LacksStep, without_solutions};
 ghost use Rattle.vipr_explain.specs.Refused.{AreFacts, AreNamedBy, IsRefusedStep};
 ghost use Rattle.vipr_explain.specs.Refused.{known_constraint, used_by};
-ghost use Rattle.vipr_explain.specs.{Changes.FollowEach, Marked.AreMarksIn};
+ghost use Rattle.vipr_explain.specs.Changes.{FollowEach};
 
 use crate::changes::{Changes, Replay};
 use crate::marks::{ItemSort, Marks, Sought};
@@ -20,7 +18,7 @@ use crate::solution::PAST_LIMIT;
 use crate::text::{Reread, Subject};
 use std::alloc::{AllocError, Global};
 use vipr_cert::{Derivation, Problem, Reason, References};
-use vipr_check::{StepDetail, Table, cause};
+use vipr_check::{StepDetail, cause};
 use vipr_frac::Frac;
 use vipr_linear::{Constraint, Ints, Sense, covers};
 use vipr_page::{
@@ -46,7 +44,8 @@ pub(crate) struct StepFault<'a> {
 #[derive(Drop)]
 pub(crate) struct RefusedStep<'a> {
     own: Derivation,
-    rows: Table,
+    /// Of which the table is shown.
+    search: NearSearch,
     pub(crate) known: PlacedItems<'a>,
     facts: StepFacts,
     /// Changes with which it follows.
@@ -69,12 +68,8 @@ enum StepFacts {
 impl<'a> RefusedStep<'a> {
     /// Reads the derivation that is refused, and what it names.
     pub(crate) fn find(subject: Subject<'a>, fault: StepFault<'_>) -> Reread<RefusedStep<'a>>
-        ensures found { IfOk result
-            (IsRefusedStep (profile_of subject.entry.profile) subject.entry.text.now
-            fault.entry.cause fault.entry.index fault.entry.what.now) }
-        ensures missing { IfErr result (λ m. Because m
-            (LacksStep (profile_of subject.entry.profile) (text_rest subject.entry.text.now)
-            fault.entry.index)) }
+        ensures found { IfOk result (IsRefusedStep subject.entry fault.entry) }
+        ensures missing { IfErr result (LacksStep subject.entry fault.entry.index) }
     {
         let (problem, mut search, step) = search_to(subject, Some(fault.index))?;
         let Some(own) = step else {
@@ -83,30 +78,18 @@ impl<'a> RefusedStep<'a> {
             return Err(TextError::Read);
         };
         match find_behind(subject, fault, &problem, &mut search.replay, &own) {
-            Ok((marks, facts, changes)) => {
-                let NearSearch {
-                    target,
-                    near,
-                    joins,
-                    replay: Replay { rows, scratch },
-                } = search;
-                drop(scratch);
-                drop(joins);
-                drop(near);
-                drop(target);
-                Ok(RefusedStep {
-                    own,
-                    rows,
-                    known: PlacedItems {
-                        text: subject.text,
-                        problem,
-                        marks,
-                    },
-                    facts,
-                    changes,
-                    profile: subject.profile,
-                })
-            }
+            Ok((marks, facts, changes)) => Ok(RefusedStep {
+                own,
+                search,
+                known: PlacedItems {
+                    text: subject.text,
+                    problem,
+                    marks,
+                },
+                facts,
+                changes,
+                profile: subject.profile,
+            }),
             Err(error) => {
                 drop(own);
                 drop(search);
@@ -124,7 +107,7 @@ impl<'a> RefusedStep<'a> {
     {
         match self.known.problem.cons().get(index as usize) {
             Some(named) => Some(&named.item),
-            None => Some(&self.rows.get(index)?.constraint),
+            None => Some(&self.search.replay.rows.get(index)?.constraint),
         }
     }
 
@@ -164,33 +147,8 @@ impl<'a> RefusedStep<'a> {
     }
 }
 
-// Changes with which a derivation follows, if it is one that might.
-fn changes_for(
-    subject: Subject<'_>,
-    fault: StepFault<'_>,
-    problem: &Problem,
-    replay: &mut Replay,
-    step: &Derivation,
-) -> Result<Changes, AllocError>
-    requires { (ds : List DerivationMeant) × HasReplayed problem.now ds replay.old }
-    ensures found { (ds : List DerivationMeant) → HasReplayed problem.now ds replay.old
-        → IfOk result (FollowEach (profile_of subject.entry.profile)
-        (without_solutions problem.now ds) (derivation_of step.now)) }
-    ensures rows { replay.new.rows ≡ replay.old.rows }
-{
-    match fault.cause {
-        cause::NOT_EARLIER
-        | cause::DROPPED
-        | cause::NOT_ASSUMPTION
-        | cause::MIXED_SIGNS
-        | cause::NOT_ROUNDABLE
-        | cause::NOT_SPLIT
-        | cause::NOT_DOMINATED => replay.changes_of(subject, problem, step),
-        _ => Ok(Changes::none()),
-    }
-}
-
-// Finds the places of what a derivation names, what is behind its fault, and changes of it.
+// Finds the places of what a derivation names, what is behind its fault, and changes with which it
+// follows, if it is one that might.
 fn find_behind(
     subject: Subject<'_>,
     fault: StepFault<'_>,
@@ -199,14 +157,22 @@ fn find_behind(
     step: &Derivation,
 ) -> Result<(Marks, StepFacts, Changes), AllocError>
     requires { (ds : List DerivationMeant) × HasReplayed problem.now ds replay.old }
-    ensures named { IfOk result (λ x. AreNamedBy subject.entry.text.now problem.now.integers
-        fault.entry.cause fault.entry.what.now x.0 x.1) }
+    ensures named { IfOk result (λ x. AreNamedBy subject.entry problem.now fault.entry x.0 x.1) }
     ensures changes { (ds : List DerivationMeant) → HasReplayed problem.now ds replay.old
         → IfOk result (λ x. FollowEach (profile_of subject.entry.profile)
         (without_solutions problem.now ds) (derivation_of step.now) x.2) }
     ensures rows { replay.new.rows ≡ replay.old.rows }
 {
-    let changes = changes_for(subject, fault, problem, replay, step)?;
+    let changes = match fault.cause {
+        cause::NOT_EARLIER
+        | cause::DROPPED
+        | cause::NOT_ASSUMPTION
+        | cause::MIXED_SIGNS
+        | cause::NOT_ROUNDABLE
+        | cause::NOT_SPLIT
+        | cause::NOT_DOMINATED => replay.changes_of(subject, problem, step)?,
+        _ => Changes::none(),
+    };
     let wanted = step_indices(subject.alloc, fault, &step.reason, &changes)?;
     let sought = Sought {
         kind: ItemSort::Constraints,
@@ -214,27 +180,12 @@ fn find_behind(
         part: part_at_fault(fault, &step.reason, &changes),
         used: used_by(fault),
     };
-    let (marks, facts) = find_facts(subject, fault, problem, sought)?;
-    Ok((marks, facts, changes))
-}
-
-// Finds the places of constraints, and what is behind the fault of a derivation that names them.
-fn find_facts(
-    subject: Subject<'_>,
-    fault: StepFault<'_>,
-    problem: &Problem,
-    sought: Sought<'_>,
-) -> Result<(Marks, StepFacts), AllocError>
-    ensures marked { IfOk result (λ x. AreMarksIn subject.entry.text.now sought.entry x.0) }
-    ensures facts { IfOk result
-        (λ x. AreFacts problem.now.integers fault.entry.what.now x.1) }
-{
     let marks = Marks::find(subject.alloc, subject.text, sought)?;
     let facts = or_drop!(
         StepFacts::find(subject.alloc, fault.what, problem.ints()),
         marks
     );
-    Ok((marks, facts))
+    Ok((marks, facts, changes))
 }
 
 // The constraint whose last use is looked for, if the cause is that it was dropped.
@@ -388,10 +339,8 @@ fn write_gap(
     };
     let (first_sign, second_sign) = (sign_of(first.sense), sign_of(second.sense));
     let (first_side, second_side) = (first.rhs, second.rhs);
-    write!(
-        page,
-        "    a split is {split}; here it is {first_sign} {first_side} and {second_sign} {second_side}\n"
-    );
+    write!(page, "    a split is {split}; here it is {first_sign} ");
+    write!(page, "{first_side} and {second_sign} {second_side}\n");
     if profile == Profile::One && is_split {
         page.put("  = help: `--profile 2` accepts these\n");
     }
@@ -406,16 +355,10 @@ fn write_labelled(page: &mut Page, problem: &Problem, label: &str, constraint: &
 fn write_help(page: &mut Page, cause: u8, count: usize) {
     let help = match cause {
         cause::NOT_EARLIER => {
-            write!(
-                page,
-                "  = help: indices count from 0: the problem has {count} "
-            );
-            page.put(if count == 1 {
-                "constraint"
-            } else {
-                "constraints"
-            });
-            write!(page, ", so the first derivation is {count}; ");
+            let plural = if count == 1 { "" } else { "s" };
+            page.put("  = help: indices count from 0: the problem has ");
+            write!(page, "{count} constraint{plural}, ");
+            write!(page, "so the first derivation is {count}; ");
             "is this line in front of one that it needs?\n"
         }
         cause::NOT_ASSUMPTION => {

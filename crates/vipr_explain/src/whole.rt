@@ -1,8 +1,7 @@
 //! The whole explanation of a verdict: what is found for it, and how that is shown.
 ghost use Rattle.std.specs.Prelude.{IfErr, IfOk};
-ghost use Rattle.vipr_rules.specs.Profile.{profile_of};
 ghost use Rattle.vipr_explain.specs.Findings.{ExplainsVerdict, IsClaimPlace};
-ghost use Rattle.vipr_explain.specs.{Found.Because, Refused.LacksItem};
+ghost use Rattle.vipr_explain.specs.Refused.{LacksItem};
 
 use crate::excerpt::Excerpt;
 use crate::goal::{ProvedClaim, UnprovedClaim};
@@ -77,10 +76,8 @@ pub fn page_for(
 
 // Finds what explains a verdict.
 fn find<'a>(subject: Subject<'a>, verdict: &'a Verdict, detail: &'a Detail) -> Reread<Findings<'a>>
-    ensures answers { IfOk result (ExplainsVerdict (profile_of subject.entry.profile)
-        subject.entry.text.now verdict.now detail.now) }
-    ensures missing { IfErr result (λ m. Because m
-        (LacksItem (profile_of subject.entry.profile) subject.entry.text.now verdict.now)) }
+    ensures answers { IfOk result (ExplainsVerdict subject.entry verdict.now detail.now) }
+    ensures missing { IfErr result (LacksItem subject.entry verdict.now) }
 {
     let refusal = match verdict {
         Verdict::Verified(report) => {

@@ -6,7 +6,7 @@ use Rattle.vipr_explain.proofs.goal.UnprovedClaim.find.Goals as goal
 
 pub returns-in-Ok-clause-found : goal.returns-in-Ok-clause-found
 returns-in-Ok-clause-found c = let read = c.in_ok-problem-2.ensures.read in record {
-  search = record { reader = read.reader; searches = read.searches; step = refl };
+  search = record { reader = read.reader; searches = read.searches; is = refl };
   text_is = refl;
   names = subst (λ (ns : List Near). AreNamesOf c.args.subject.text.now (map (λ n. n.index) ns) c.in-Ok.marks) c.as_slice.ensures.value c.in-Ok.ensures;
   solution = rw c.in_ok-problem.ensures.read.counted (
@@ -17,5 +17,4 @@ returns-in-Ok-clause-found c = let read = c.in_ok-problem-2.ensures.read in reco
 
 pub returns-in_err-problem-clause-missing : goal.returns-in_err-problem-clause-missing
 returns-in_err-problem-clause-missing c =
-    let m = c.in_err-problem.field-0.0 in
-    err_is c.from_residual.result _ c.from_residual.ensures.1 (because m _ _ (λ fault. inl (fault_first _ _ (fault_first _ _ fault))) c.in_err-problem.ensures.error)
+    err_is c.from_residual.result _ c.from_residual.ensures.1 (inl (because c.in_err-problem.field-0.0 _ _ (λ fault. fault_first _ _ (fault_first _ _ fault)) c.in_err-problem.ensures.error))

@@ -1,14 +1,20 @@
-use Rattle.std.proofs.Common.{refl, sym, ◌∙◌}
+use Rattle.std.proofs.Common.{◌≡◌, ap, length, ◌∙◌}
+use Rattle.vipr_spec.specs.Certificate.{count}
 use Rattle.vipr_cert.specs.Items.{derivation_of}
-use Rattle.vipr_rules.specs.Profile.{profile_of}
-use Rattle.vipr_explain.proofs.{Again.first_ok, Again.on_ok, Again.second_ok, Nearing.passed_next}
+use Rattle.vipr_table.specs.Table.{step}
+use Rattle.vipr_explain.specs.Near.{without_solutions}
+use Rattle.vipr_explain.proofs.{Again.on_ok, Nearing.passed_next}
 use Rattle.vipr_explain.proofs.near.NearSearch.pass.Goals as goal
 
 pub returns-in-Ok-clause-passed : goal.returns-in-Ok-clause-passed
 returns-in-Ok-clause-passed c = λ ds so_far.
-    let next = c.in_ok-entry.ensures.next ds so_far.replayed.rows so_far.replayed.back in
-    let both = sym c.and.ensures ∙ c.in-Ok.is in
-    on_ok c.place.result _ _ (λ placed. passed_next (profile_of c.args.subject.profile) c.args.problem.now ds (derivation_of c.args.step.now) c.in_ok-entry.entry c.args.self.now _ c.next-index.result
-    c.join_of-join.result c.next-index.ensures c.join_of-join.ensures refl placed c.entry_of.ensures.scratch c.requires.names
-    (λ d says rests near. first_ok c.add-added.result c.keep_join.result _ _ both (c.add-added.ensures d says rests near))
-    (λ d joined rests joins. second_ok c.add-added.result c.keep_join.result _ _ both (c.keep_join.ensures d joined rests joins)) next so_far) c.place.ensures.placed
+    let p = c.args.problem.now in
+    let d = derivation_of c.args.step.now in
+    let e = c.in_ok-entry.entry in
+    let next = c.in_ok-entry.ensures.next ds so_far.replayed in
+    let rest = c.keep.ensures.rest in
+    let here : c.next-index.result ≡ count (without_solutions p ds) = c.next-index.ensures ∙ so_far.replayed.rows.next in
+    on_ok c.place.result _ _ (λ placed. passed_next c.args.subject p ds d e c.args.self.now _ rest.0
+    (placed ∙ ap (λ r. step r.rows e) rest.1 ∙ ap (λ r. step r e) c.next_entry.ensures.rows)
+    (ap (λ r. length r.scratch.sums) rest.1 ∙ c.next_entry.ensures.scratch) c.requires.names
+    next (rw (here, c.join_of-join.ensures) at c.in-Ok.ensures.kept) so_far) c.place.ensures.placed
