@@ -88,10 +88,6 @@ exists_at [] i h = absurd (omega arith)
 exists_at (x ∷ l) zero h = (x, refl)
 exists_at (x ∷ l) (suc i) h = exists_at l i (omega arith)
 
-abbrev behind_first : {A : Type 0} → List A → List A
-behind_first [] = []
-behind_first (x ∷ l) = l
-
 pub left_more : {A : Type 0} (k l : List A) (n : ℕ) → n < length k → n < length l
     → drop n k ≡ drop n l → drop (n + 1) k ≡ drop (n + 1) l
 left_more k l n h i e = grind (arith, exists_at l n i, drop_more k n ((exists_at l n i).0) h, drop_more l n ((exists_at l n i).0) i)
