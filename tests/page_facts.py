@@ -24,7 +24,7 @@ EMPTY = {'VER': '`VER 1.0`', 'VAR': '`VAR COUNT NAME ..`', 'INT': '`INT 0` if no
 SIGNS = {'G': '>=', 'L': '<=', 'E': '='}
 NUMBER = r'-?\d+(?:/\d+)?'
 MOST_TERMS, MOST_OF_NAME, MOST_CARETS, MOST_ENTRIES, MOST_SHOWN, MOST_NEAR, MOST_OF_SET = 12, 40, 40, 10, 6, 3, 4
-MOST_SOURCES, MOST_VALUES, MOST_SOLUTIONS, MOST_TRIED = 3, 10, 10, 8
+MOST_SOURCES, MOST_VALUES, MOST_TRIED = 3, 10, 8
 
 # what is wanted at a token: the section, the part of the item, the item's position, how many there are, and the same of the
 # pair, the entry or the number in the item

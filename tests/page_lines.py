@@ -36,7 +36,7 @@ class Page:
         self.said = Counter()
         self.place = self.part = self.mended = None
         self.changed, self.mends, self.abouts = [], {}, []
-        self.entries, self.sources, self.near, self.cases, self.faults, self.values, self.offers = [], 0, [], [], [], [], []
+        self.entries, self.sources, self.near, self.cases, self.faults, self.offers = [], 0, [], [], [], []
 
 
 @form(r'error: (\w+): (.*)')
@@ -290,18 +290,9 @@ def value(page, primal, number, name: str, objective: str):
     same('the name', name, shown_name(facts.solutions[number].name))
     known = facts.objective(number)
     same('the objective', objective, measured(known))
-    if primal:
-        true(facts.refused is None, 'nothing is proved')
-        same('the best value', known, facts.best())
-        same('the first of the best', number, [facts.objective(it) for it in range(len(facts.solutions))].index(known))
-    else:
-        same('the next solution', (facts.refused, number), (52, len(page.values)))
-        page.values.append(number)
-
-
-@form(r'  primal a listed solution: objective (.+)')
-def best_value(page, objective: str):
-    same('the best value', objective, measured(page.facts.best()))
+    same('the cause', facts.refused, None if primal else 52)
+    same('the best value', known, facts.best())
+    same('the first of the best', number, [facts.objective(it) for it in range(len(facts.solutions))].index(known))
 
 
 @form(r'  primal no solution is listed')

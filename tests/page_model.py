@@ -7,7 +7,7 @@ import re
 from fractions import Fraction
 from itertools import zip_longest
 
-from page_facts import MOST_ENTRIES, MOST_SHOWN, MOST_SOLUTIONS, MOST_SOURCES, MOST_TRIED, NUMBER, Facts, Wrong, rules
+from page_facts import MOST_ENTRIES, MOST_SHOWN, MOST_SOURCES, MOST_TRIED, NUMBER, Facts, Wrong, rules
 from page_hints import HINTS, ends_text, is_near_miss, is_strong_near
 from page_lines import FORMS, OFFERS, Page, first_past, is_at_fault, is_second, proved
 
@@ -24,9 +24,7 @@ def required(facts, said):
         bounds = dict.fromkeys(it for it in facts.checker.bounds or () if it is not None)
         yield 'about', sum(it.denominator != 1 for it in bounds)
         if facts.checker.bounds is not None:
-            values = [facts.objective(it) for it in range(min(facts.listed, MOST_SOLUTIONS))]
-            is_shown = facts.listed and facts.best() in values
-            yield ('value' if is_shown else 'best_value' if facts.listed else 'none_listed'), 1
+            yield ('value' if facts.listed else 'none_listed'), 1
         return
     yield 'see', 1
     if facts.is_text_fault():
@@ -40,7 +38,7 @@ def required(facts, said):
         if cause == 22 and facts.plain(int(facts.details['constraint'].split()[0]))[0] and facts.solutions[facts.number()].values:
             yield 'hint: is a value rounded, as one of floating point is? Write exact fractions', int(is_near_miss(facts))
     elif cause == 52:
-        yield from {'no_primal': 1, 'wanted_value': 1, 'value': min(facts.listed, MOST_SOLUTIONS)}.items()
+        yield from {'no_primal': 1, 'wanted_value': 1, 'value': int(facts.listed > 0)}.items()
         yield ('attained' if facts.listed else 'lists_none'), 1
         yield 'help', None
         lower, upper = facts.checker.bounds

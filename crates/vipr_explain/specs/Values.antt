@@ -1,10 +1,10 @@
--- What is kept of the listed solutions: the objective at the first ones, and the best value
-use Rattle.std.specs.Prelude.{◌≡◌, ◌↔◌, ◌++◌, ◌∷◌, [], ℕ, ◌<◌, nat_lt, Bool, List, map, filter}
-use Rattle.std.specs.Prelude.{length, IsTrue, IsOkAnd, Some}
+-- What is kept of the listed solutions: the first one with the best objective
+use Rattle.std.specs.Prelude.{◌≡◌, ◌↔◌, ◌++◌, ◌∷◌, ℕ, ◌<◌, List, length, All, IsTrue, IsOkAnd}
+use Rattle.std.specs.Prelude.{Option, Some, None}
 use Rattle.vipr_spec.specs.Constraint.{Row, at, ValueFits}
 use Rattle.vipr_spec.specs.Certificate.{Name, Named, Problem, variables, Claim, range, objective_at}
-use Rattle.vipr_spec.specs.Reading.{Rest, problem_read}
-use Rattle.vipr_spec.specs.{Fraction.ℚ, Fraction.◌≤ℚ◌, Soundness.IsBestValue}
+use Rattle.vipr_spec.specs.Certificate.{IsAsGoodAt}
+use Rattle.vipr_spec.specs.{Fraction.ℚ, Fraction.◌≤ℚ◌, Reading.Rest, Reading.problem_read}
 use Rattle.vipr_read.specs.Items.{Items as Reader}
 use Rattle.vipr_explain.specs.Found.{AreReadSoFar, AreSolutionsRead}
 use Rattle.vipr_explain.specs.declared.solution.ListedValues.{ListedValues}
@@ -13,22 +13,26 @@ use Rattle.vipr_explain.specs.declared.solution.ListedValues.{ListedValues}
 abbrev pub ObjectiveFits : Problem → Named Row → Type 0
 ObjectiveFits p s = ValueFits (variables p) (at p.objective) (at s.item)
 
--- those of these solutions at which the objective fits, each behind its number
-pub data AreValued (p : Problem) : List (Named Row) → List (ℕ × Named Row) → Type 0 where
-  of_none : AreValued p [] []
-  of_fitting : {ss : List (Named Row)} {vs : List (ℕ × Named Row)} (s : Named Row)
-      → ObjectiveFits p s → AreValued p ss vs
-      → AreValued p (ss ++ s ∷ []) (vs ++ (length ss, s) ∷ [])
-  of_unfit : {ss : List (Named Row)} {vs : List (ℕ × Named Row)} (s : Named Row)
-      → ¬ ObjectiveFits p s → AreValued p ss vs → AreValued p (ss ++ s ∷ []) vs
-
 -- the number and the name of a solution, and the objective there
-abbrev pub value_of : Problem → ℕ × Named Row → ℕ × Name × ℚ
-value_of p v = (v.0, v.1.name, objective_at p (at v.1.item))
+abbrev pub Valued : Type 0
+Valued = ℕ × Name × ℚ
 
--- it is one of the first ten
-abbrev pub is_first : ℕ × Name × ℚ → Bool
-is_first v = nat_lt v.0 10
+-- of these solutions, less those at which the objective doesn't fit, this is the first one with the
+-- best objective
+pub record IsFirstBest (p : Problem) (ss : List (Named Row)) (found : Valued) : Type 0 where
+  pub before : List (Named Row)
+  pub solution : Named Row
+  pub after : List (Named Row)
+  pub listed : ss ≡ before ++ solution ∷ after
+  pub is : found ≡ (length before, solution.name, objective_at p (at solution.item))
+  pub fits : ObjectiveFits p solution
+  pub best : All (λ s. ObjectiveFits p s → IsAsGoodAt p (at solution.item) (at s.item)) ss
+  pub first : All (λ s. ObjectiveFits p s → ¬ IsAsGoodAt p (at s.item) (at solution.item)) before
+
+-- or the objective fits at none of them
+abbrev pub IsBestOf : Problem → List (Named Row) → Option Valued → Type 0
+IsBestOf p ss (Some found) = IsFirstBest p ss found
+IsBestOf p ss None = All (λ s. ¬ ObjectiveFits p s) ss
 
 -- the lower bound is above the upper one
 abbrev pub IsExchanged : Claim → Type 0
@@ -37,10 +41,7 @@ IsExchanged _ = ⊥
 
 -- this is kept of these solutions
 pub record AreValues (p : Problem) (ss : List (Named Row)) (k : ListedValues) : Type 0 where
-  pub valued : List (ℕ × Named Row)
-  pub are : AreValued p ss valued
-  pub first : k.first.items ≡ filter is_first (map (value_of p) valued)
-  pub best : IsBestValue p (map (λ v. v.1) valued) k.best
+  pub best : IsBestOf p ss k.best
   pub exchanged : IsTrue k.is_exchanged ↔ IsExchanged p.claim
 
 -- so many solutions of a text were read, and this is kept of them

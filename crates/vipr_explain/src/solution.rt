@@ -1,13 +1,13 @@
 //! A listed solution that is refused, and a primal bound that no listed one attains.
 ghost use Rattle.std.specs.Prelude.{◌≡◌, ◌↔◌, ◌++◌, ◌∷◌, [], List, length, IsTrue, IfErr, IfOk};
-ghost use Rattle.std.specs.Prelude.{OnOk, filter};
-ghost use Rattle.vipr_cert.specs.Items.{claim_of, solution_of};
+ghost use Rattle.std.specs.Prelude.{IsSomeAnd, OnOk};
+ghost use Rattle.vipr_cert.specs.Items.{claim_of, direction_of, solution_of};
 ghost use Rattle.vipr_spec.specs.Constraint.{Row as RowMeant, at, NamesBelow};
-ghost use Rattle.vipr_spec.specs.Certificate.{Named as NamedMeant, variables};
+ghost use Rattle.vipr_spec.specs.Certificate.{IsAsGood, Named as NamedMeant, variables};
 ghost use Rattle.vipr_spec.specs.Reading.{problem_read};
 ghost use Rattle.vipr_explain.specs.Found.{AreSolutionsRead, Because, IsListedSolution};
 ghost use Rattle.vipr_explain.specs.Found.{LacksListed, Missed, head_read, text_rest};
-ghost use Rattle.vipr_explain.specs.Values.{AreListedValues, AreValues, IsExchanged, is_first};
+ghost use Rattle.vipr_explain.specs.Values.{AreListedValues, AreValues, IsExchanged};
 ghost use Rattle.vipr_explain.specs.{Marked.IsItemPlace, Refused.IsBroken, Refused.part_at_fault};
 ghost use Rattle.vipr_explain.specs.declared.marks.ItemSort.TheVariants as kind;
 
@@ -26,11 +26,8 @@ use vipr_page::{
     Algebra, Measured, Page, ShownName, VariableName, sign_of, size_of, write_if_past,
 };
 use vipr_read::Solutions;
-use vipr_rules::better;
 
-/// How many solutions are shown, and how many values of one.
-const MOST_SOLUTIONS: u32 = 10;
-
+/// How many values of a solution are shown.
 const MOST_VALUES: usize = 10;
 
 /// A listed solution that is refused: its place with that of the value at fault, if it is one, and
@@ -272,12 +269,10 @@ fn write_values(page: &mut Page, problem: &Problem, row: &Row, solution: &Soluti
     }
 }
 
-/// The objective at the first listed solutions, behind the number and the name of each, and its
-/// best value at all of them.
+/// The first listed solution that has the best objective: its number, its name, and the objective.
 #[derive(Drop)]
 pub(crate) struct ListedValues {
-    first: Vec<(u32, Name, Frac)>,
-    best: Option<Frac>,
+    best: Option<(u32, Name, Frac)>,
     /// Whether the lower bound of the claim is above the upper one.
     is_exchanged: bool,
     sense: Goal,
@@ -292,7 +287,6 @@ impl ListedValues {
     {
         let (problem, mut solutions) = open_problem(subject.alloc, subject.text)?;
         let mut known = ListedValues {
-            first: Vec::new(subject.alloc),
             best: None,
             is_exchanged: is_exchanged(problem.claim()),
             sense: problem.sense(),
@@ -327,17 +321,17 @@ impl ListedValues {
             page,
             "  wanted: a solution whose objective is {bound} or better\n"
         );
-        for known in &self.first {
+        if self.best.is_some() {
             page.put("  ");
-            write_value(page, known);
+            self.write_best(page);
         }
         if self.is_exchanged {
             page.put(
                 "  = help: the lower bound of the claim is above the upper one: are they exchanged?\n",
             );
         }
-        match self.best {
-            Some(best) => write!(
+        match &self.best {
+            Some((.., best)) => write!(
                 page,
                 "  = help: {best} is attained: is that the primal bound (the upper one for min, \
                  the lower one for max), is a better solution left out, or is a constant of the \
@@ -351,22 +345,18 @@ impl ListedValues {
         }
     }
 
-    /// Writes the best value, and the first solution that has it, if it is shown.
+    /// Writes the solution and the objective there on a line.
     pub(crate) fn write_best(&self, page: &mut Page) {
-        let Some(best) = self.best else {
-            page.put("no solution is listed\n");
-            return;
-        };
-        for known in &self.first {
-            if known.2 == best {
-                write_value(page, known);
-                return;
+        match &self.best {
+            Some((number, name, value)) => {
+                let (name, value) = (ShownName(name.as_bytes()), Measured(*value));
+                write!(page, "solution {number} `{name}`: objective {value}\n");
             }
+            None => page.put("no solution is listed\n"),
         }
-        write!(page, "a listed solution: objective {}\n", Measured(best));
     }
 
-    // Adds the objective at all solutions that are to come.
+    // Adds all solutions that are to come.
     fn add_all(
         &mut self,
         subject: Subject<'_>,
@@ -384,13 +374,13 @@ impl ListedValues {
         let objective = Solution(problem.objective().clone()?);
         for number in 0..solutions.left() {
             if let Some(solution) = solutions.next(subject.alloc)? {
-                self.add(problem, &objective, number, solution)?;
+                self.add(problem, &objective, number, solution);
             }
         }
         Ok(())
     }
 
-    // Adds the objective at a solution, unless it is past the limit. The entries of the solution
+    // Adds a solution, unless the objective is past the limit there. The entries of the solution
     // are walked, and not those of the objective: there may be many solutions.
     fn add(
         &mut self,
@@ -398,39 +388,38 @@ impl ListedValues {
         objective: &Solution,
         number: u32,
         solution: Named<Solution>,
-    ) -> Result<(), AllocError>
+    )
         requires { objective.now.0 ≡ problem.now.objective }
         ensures { (ss : List (NamedMeant RowMeant)) → length ss ≡ number
             → NamesBelow (variables problem.now) (at solution.item.0)
             → AreValues problem.now ss self.old
-            → OnOk result (AreValues problem.now (ss ++ solution_of solution ∷ []) self.new) }
+            → AreValues problem.now (ss ++ solution_of solution ∷ []) self.new }
     {
         let Named { name, item } = solution;
         let value = value_at(&item.0, objective);
         drop(item);
         let Ok(value) = value else {
             drop(name);
-            return Ok(());
+            return;
         };
-        self.best = better(problem, self.best, value);
-        keep_first(&mut self.first, (number, name, value))
+        if is_as_good(&self.best, value, problem.sense()) {
+            drop(name);
+        } else {
+            self.best = Some((number, name, value));
+        }
     }
 }
 
-// Keeps a solution's number and name, and the objective there, if it is one of the first.
-fn keep_first(
-    first: &mut Vec<(u32, Name, Frac)>,
-    known: (u32, Name, Frac),
-) -> Result<(), AllocError>
-    ensures { OnOk result
-        (first.new.items ≡ first.old.items ++ filter is_first (known ∷ [])) }
+// Whether the best solution so far is as good as a value of the objective.
+fn is_as_good(best: &Option<(u32, Name, Frac)>, value: Frac, sense: Goal) -> bool
+    ensures { IsTrue result
+        ↔ IsSomeAnd best.now (λ b. IsAsGood (direction_of sense) b.2 value) }
 {
-    if known.0 < MOST_SOLUTIONS {
-        first.push(known)?;
-    } else {
-        drop(known);
+    match (best, sense) {
+        (Some((.., best)), Goal::Min) => *best <= value,
+        (Some((.., best)), Goal::Max) => *best >= value,
+        (None, _) => false,
     }
-    Ok(())
 }
 
 /// Whether the lower bound of a claim is above the upper one.
@@ -441,11 +430,4 @@ pub(crate) fn is_exchanged(claim: Claim) -> bool
         Claim::Range(Some(lower), Some(upper)) => !compares(Sense::L, lower, upper),
         _ => false,
     }
-}
-
-// Writes a solution and the objective there on a line.
-fn write_value(page: &mut Page, known: &(u32, Name, Frac)) {
-    let (number, value) = (known.0, Measured(known.2));
-    let name = ShownName(known.1.as_bytes());
-    write!(page, "solution {number} `{name}`: objective {value}\n");
 }

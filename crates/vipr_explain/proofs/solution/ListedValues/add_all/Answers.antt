@@ -6,7 +6,7 @@ use Rattle.vipr_explain.specs.Found.{text_rest}
 use Rattle.vipr_explain.proofs.Again.{next_read, none_behind, solutions_missed}
 use Rattle.vipr_explain.proofs.Lacks.{err_is}
 use Rattle.vipr_explain.proofs.solution.ListedValues.add_all.Goals as goal
-use Rattle.vipr_explain.proofs.solution.ListedValues.add_all.Goals.{in_default, in-Some+in_ok-add}
+use Rattle.vipr_explain.proofs.solution.ListedValues.add_all.Goals.{in_default, in-Some}
 
 pub loop-number-preserved : goal.loop-number-preserved
 loop-number-preserved c =
@@ -16,14 +16,14 @@ loop-number-preserved c =
     let next = c.in_ok-solution.ensures in
     let so_far = c.loop-number.invariant.so_far in
     elim c.match-branch-3.branch [
-      | in-Some+in_ok-add w ↦
+      | in-Some w ↦
           let moved = subst (λ o. Moves HasNone old new (Ok o)) w.in-Some.is next.moves in
           let shape = rw w.in-Some.is at next.shape in
           let below = subst (λ n. NamesBelow n (at w.in-Some.solution.item.0)) so_far.behind.knows.variables shape.row in
           record {
             left = omega (arith, moved.counted);
             so_far = next_read HasNone (λ _. Ok tt) solution_of old new w.in-Some.solution w.in-Some.is next.moves (next.read p so_far.behind.knows)
-                (λ ss done values. rw w.self-is (w.in_ok-add.ensures ss done below values)) so_far;
+                (λ ss done values. rw w.self-is (w.add.ensures ss done below values)) so_far;
           }
       | in_default w ↦
           let none = subst (λ o. Moves HasNone old new (Ok o)) w.in_default.is next.moves in
