@@ -2,7 +2,7 @@
 use Rattle.std.specs.Prelude.{◌≡◌, ℕ, ◌+◌, ◌-◌, min, Bool, not, ◌||◌, ◌==◌, nat_lt, List, length}
 use Rattle.std.specs.Prelude.{take, drop, filter, reverse, take_while}
 use Rattle.vipr_explain.specs.{Words.in_u64, declared.excerpt.Excerpt.Excerpt}
-use Rattle.vipr_explain.specs.{declared.excerpt.LineAt.LineAt, declared.text.Span.Span}
+use Rattle.vipr_explain.specs.declared.text.Span.{Span}
 
 abbrev pub is_line_feed : ℕ → Bool
 is_line_feed b = b == 10
@@ -13,9 +13,6 @@ feeds_in bytes = length (filter is_line_feed bytes)
 -- the line of the byte behind these, counted from 1
 abbrev pub line_behind : List ℕ → ℕ
 line_behind bytes = in_u64 (feeds_in bytes + 1)
-
-abbrev pub IsLineIn : List ℕ → LineAt → Type 0
-IsLineIn text here = here.line ≡ line_behind (take here.offset text)
 
 -- the column of that byte, counted from 1: those at the end that are no line feed are in its line
 abbrev pub column_behind : List ℕ → ℕ

@@ -1,6 +1,7 @@
 -- The places of items' names, and of one more token of each, among the tokens of a text
 use Rattle.std.specs.Prelude.{◌≡◌, ℕ, ◌&&◌, ◌||◌, ◌==◌, ◌∷◌, ◌++◌, [], Bool, true, false, List}
 use Rattle.std.specs.Prelude.{Option, Some, None, is_none, find, fold, max, nat_lt, take}
+use Rattle.std.specs.Prelude.{length, slice_get, slice_set, option_map, unwrap_or, ◌-◌}
 use Rattle.std.specs.{Prelude.if◌then◌else◌, List.list_any}
 use Rattle.vipr_spec.specs.Tokens.{text_tokens}
 use Rattle.vipr_explain.specs.Progress.{at_start, count_spelled, index_of, passed}
@@ -15,20 +16,11 @@ use Rattle.vipr_explain.specs.declared.marks.ItemPart.TheVariants as part
 use Rattle.vipr_explain.specs.declared.wanted.Section.TheVariants as section
 use Rattle.vipr_explain.specs.declared.wanted.Wanted.TheVariants as wanted
 
--- an item whose name is here; the part that is looked for isn't known yet
-abbrev pub mark_at : List ℕ → ℕ → Span → ItemPlace
-mark_at text index span = record {
-  index = index;
-  name = span;
-  line = line_behind (take span.offset text);
-  part = span;
-}
-
 -- the part of the item that was marked last is here
 abbrev pub with_part : Span → List ItemPlace → List ItemPlace
-with_part span [] = []
-with_part span (m ∷ []) = record m { part = span } ∷ []
-with_part span (m ∷ (n ∷ ms)) = m ∷ with_part span (n ∷ ms)
+with_part span marks = unwrap_or (option_map (λ (m : ItemPlace).
+    slice_set marks (length marks - 1) (record m { part = span }))
+    (slice_get marks (length marks - 1))) marks
 
 -- ---- items of a kind
 
@@ -48,14 +40,10 @@ is_behind kind.Claim section.Derivations = true
 is_behind kind.Solutions section.Derivations = true
 is_behind _ _ = false
 
--- whether a token names an item
-abbrev pub is_name : Wanted → Bool
-is_name wanted.Name = true
-is_name wanted.Claim = true
-is_name _ = false
-
 -- whether a token is this part of an item, by what is wanted there and how far the text was read
 abbrev pub is_part_at : ItemPart → Wanted → TextProgress → Bool
+is_part_at part.Name wanted.Name p = true
+is_part_at part.Name wanted.Claim p = true
 is_part_at part.LowerBound wanted.LowerBound p = true
 is_part_at part.UpperBound wanted.UpperBound p = true
 is_part_at part.Sense wanted.Sense p = true
@@ -71,40 +59,37 @@ is_part_at _ _ p = false
 abbrev pub is_part : ItemPart → TextProgress → Bool
 is_part x p = is_part_at x p.wanted p
 
+-- whether this is the constraint whose last use is looked for
+abbrev pub is_used : Option ℕ → ℕ → Bool
+is_used (Some k) index = k == index
+is_used None index = false
+
 -- the part that is looked for in the last item, and that in the others
-abbrev pub part_of_used : Option ℕ → ℕ → ItemPart
-part_of_used (Some k) index = if k == index then part.LastReference else part.Reason
-part_of_used None index = part.Reason
-
 abbrev pub part_of_item : Sought → ℕ → ℕ → ItemPart
-part_of_item s end index = if index == end then s.part else part_of_used s.used index
+part_of_item s end index = if index == end then s.part else
+    (if is_used s.used index then part.LastReference else part.Reason)
 
--- whether no item of this kind up to this index is to come, and no use is looked for: what is
--- wanted is the name of a later one, or the keyword of a later section
-abbrev pub is_past_at : Wanted → Sought → TextProgress → ℕ → Bool
-is_past_at wanted.Name s p end = is_of s.kind p.section && nat_lt end (index_of p)
-is_past_at wanted.Keyword s p end = is_behind s.kind p.section
-is_past_at _ s p end = false
-
+-- whether no item of this kind up to this index is to come, and no use is looked for
 abbrev pub is_past : Sought → TextProgress → ℕ → Bool
-is_past s p end = is_none s.used && is_past_at p.wanted s p end
+is_past s p end = is_none s.used
+    && ((is_of s.kind p.section && nat_lt end (index_of p)) || is_behind s.kind p.section)
 
 -- behind a token at this place, if it names an item that is looked for, or is the part of one
 abbrev pub marked : List ℕ → Sought → ℕ → TextProgress → Span → List ItemPlace → List ItemPlace
 marked text s end p span marks =
-    if (is_name p.wanted || is_part (part_of_item s end (index_of p)) p)
+    if (is_part part.Name p || is_part (part_of_item s end (index_of p)) p)
     && (is_of s.kind p.section && list_any (λ i. i == index_of p) s.items.now)
-    then (if is_name p.wanted then marks ++ mark_at text (index_of p) span ∷ []
-    else with_part span marks) else marks
+    then (if is_part part.Name p then marks ++ record {
+      index = index_of p;
+      name = span;
+      line = line_behind (take span.offset text);
+      part = span;
+    } ∷ [] else with_part span marks) else marks
 
--- the last derivation that refers to a constraint, behind a token where this is wanted
-abbrev pub user_at : Option ℕ → Wanted → ℕ → ℕ → ℕ → ℕ
-user_at (Some k) wanted.EntryIndex index n user = if n == k then index else user
-user_at (Some k) wanted.Branch index n user = if n == k then index else user
-user_at _ _ index n user = user
-
+-- the last derivation that refers to a constraint, behind a token
 abbrev pub later_user : Option ℕ → TextProgress → List ℕ → ℕ → ℕ
-later_user used p word user = user_at used p.wanted (index_of p) (count_spelled word) user
+later_user used p word user = if is_part (part.Reference p.part) p
+    && is_used used (count_spelled word) then index_of p else user
 
 -- how far a text was read, the marks of items so far, and the last use
 abbrev pub Marking : Type 0
@@ -127,8 +112,8 @@ marking_in s text =
 
 -- this is what is looked for in a text
 pub record AreMarksIn (text : List ℕ) (s : Sought) (marks : Marks) : Type 0 where
-  pub places : marks.places.items ≡ (marking_in s text).1
-  pub user : marks.user ≡ (marking_in s text).2
+  pub progress : TextProgress
+  pub walk : (progress, marks.places.items, marks.user) ≡ marking_in s text
 
 -- the place of an item, if it was found
 abbrev pub place_found : List ItemPlace → ℕ → Option ItemPlace

@@ -1,7 +1,7 @@
 //! A part of a line with carets below a place in it.
-ghost use Rattle.std.specs.Prelude.{◌≡◌, ℕ, List, length, decimal, take, drop};
-ghost use Rattle.vipr_explain.specs.Excerpts.{IsExcerptAt, IsLineIn, column_behind, feeds_in};
-ghost use Rattle.vipr_explain.specs.Excerpts.{is_in_line, line_behind, line_of, part_of};
+ghost use Rattle.std.specs.Prelude.{◌≡◌, length, decimal, take, drop};
+ghost use Rattle.vipr_explain.specs.Excerpts.{IsExcerptAt, column_behind, feeds_in, is_in_line};
+ghost use Rattle.vipr_explain.specs.Excerpts.{line_behind, line_of, part_of};
 ghost use Rattle.vipr_page.specs.Page.{line_byte};
 
 use crate::text::Span;
@@ -37,7 +37,7 @@ impl<'a> Excerpt<'a> {
         let count = column.saturating_sub(1).min(MOST_SHOWN);
         let line = line_of(from(text, span.offset));
         Excerpt {
-            line: feeds_in(front).saturating_add(1),
+            line: line_at(text, span.offset),
             column,
             size: span.size,
             before: first(from(text, span.offset.saturating_sub(count)), count),
@@ -111,36 +111,11 @@ pub(crate) fn part_of(text: &[u8], span: Span) -> &[u8]
     first(from(text, span.offset), span.size as u64)
 }
 
-/// A byte of a text and its line, from which lines are counted on.
-#[derive(Clone, Copy)]
-pub(crate) struct LineAt {
-    offset: u64,
-    line: u64,
-}
-
-impl LineAt {
-    /// The first byte.
-    pub(crate) fn start() -> LineAt
-        ensures offset { result.offset ≡ 0 }
-        ensures line { (text : List ℕ) → IsLineIn text result }
-    {
-        LineAt { offset: 0, line: 1 }
-    }
-
-    /// Goes to a byte, and gives its line.
-    pub(crate) fn go_to(&mut self, text: &[u8], offset: u64) -> u64
-        requires { IsLineIn text.now self.old }
-        ensures line { result ≡ line_behind (take offset text.now) }
-        ensures kept { IsLineIn text.now self.new }
-    {
-        if offset < self.offset {
-            *self = LineAt::start();
-        }
-        let passed = first(from(text, self.offset), offset.saturating_sub(self.offset));
-        let line = self.line.saturating_add(feeds_in(passed));
-        *self = LineAt { offset, line };
-        line
-    }
+/// The line of a byte of a text, counted from 1.
+pub(crate) fn line_at(text: &[u8], offset: u64) -> u64
+    ensures { result ≡ line_behind (take offset text.now) }
+{
+    feeds_in(first(text, offset)).saturating_add(1)
 }
 
 // How many line feeds bytes have.

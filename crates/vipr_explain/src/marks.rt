@@ -1,11 +1,10 @@
 //! The places of items' names in a text, and of one more token of each.
 ghost use Rattle.std.specs.Prelude.{◌≡◌, fold, max, option_copied, IfOk, OnOk};
-ghost use Rattle.vipr_explain.specs.Excerpts.{IsLineIn};
 ghost use Rattle.vipr_explain.specs.Marked.{AreMarksIn, IsItemPlace, is_behind, is_of, is_part};
-ghost use Rattle.vipr_explain.specs.Marked.{is_past, is_name, later_user, marked};
-ghost use Rattle.vipr_explain.specs.Marked.{part_of_item, place_found, with_part};
+ghost use Rattle.vipr_explain.specs.Marked.{is_past, later_user, marked, part_of_item};
+ghost use Rattle.vipr_explain.specs.Marked.{place_found, with_part};
 
-use crate::excerpt::LineAt;
+use crate::excerpt::line_at;
 use crate::text::{Span, Subject};
 use crate::wanted::{Section, TextProgress, Wanted, count_of};
 use crate::words::Words;
@@ -69,7 +68,8 @@ impl ItemPart {
         ensures { result ≡ is_part self progress.now }
     {
         match (self, progress.wanted) {
-            (ItemPart::LowerBound, Wanted::LowerBound)
+            (ItemPart::Name, Wanted::Name | Wanted::Claim)
+            | (ItemPart::LowerBound, Wanted::LowerBound)
             | (ItemPart::UpperBound, Wanted::UpperBound)
             | (ItemPart::Sense, Wanted::Sense)
             | (ItemPart::RightHandSide, Wanted::RightHandSide)
@@ -107,6 +107,15 @@ impl Sought<'_> {
             _ => ItemPart::Reason,
         }
     }
+
+    // Whether nothing is to come that is looked for, if this is the last item.
+    fn is_past(self, progress: &TextProgress, end: u32) -> bool
+        ensures { result ≡ is_past self.entry progress.now end }
+    {
+        let section = progress.section;
+        let is_later = self.kind.is_of(section) && progress.index() > end;
+        self.used.is_none() && (is_later || self.kind.is_behind(section))
+    }
 }
 
 /// The place of an item's name, its line, and the place of the part of it that is looked for;
@@ -142,21 +151,12 @@ impl Marks {
         let mut progress = TextProgress::start();
         let mut places = Vec::new(alloc);
         let mut user = 0;
-        let mut here = LineAt::start();
         let end = greatest(sought.items);
-        while !is_past(sought, &progress, end) {
+        while !sought.is_past(&progress, end) {
             let Some(word) = words.next() else {
                 break;
             };
-            mark(
-                &mut places,
-                text,
-                &mut here,
-                sought,
-                &progress,
-                end,
-                word.span,
-            )?;
+            mark(&mut places, text, sought, &progress, end, word.span)?;
             user = later_user(user, sought.used, &progress, word.bytes);
             progress.pass(word.bytes);
         }
@@ -205,26 +205,16 @@ fn find_place(places: &[ItemPlace], index: u32) -> Option<&ItemPlace>
 fn mark(
     places: &mut Vec<ItemPlace>,
     text: &[u8],
-    here: &mut LineAt,
     sought: Sought<'_>,
     progress: &TextProgress,
     end: u32,
     span: Span,
 ) -> Result<(), AllocError>
-    requires { IsLineIn text.now here.old }
-    ensures places { OnOk result (places.new.items
+    ensures { OnOk result (places.new.items
         ≡ marked text.now sought.entry end progress.now span places.old.items) }
-    ensures line { OnOk result (IsLineIn text.now here.new) }
 {
-    let is_name = is_name(progress.wanted);
-    // (most tokens are in rows and sums, and not what is looked for)
-    if !is_name
-        && !sought.part.is_at(progress)
-        && !matches!(progress.wanted, Wanted::Reason | Wanted::LastReference)
-    {
-        return Ok(());
-    }
     let index = progress.index();
+    let is_name = ItemPart::Name.is_at(progress);
     if (is_name || sought.part_of(end, index).is_at(progress))
         && sought.kind.is_of(progress.section)
         && sought.items.contains(&index)
@@ -233,7 +223,7 @@ fn mark(
             places.push(ItemPlace {
                 index,
                 name: span,
-                line: here.go_to(text, span.offset),
+                line: line_at(text, span.offset),
                 part: span,
             })?;
         } else {
@@ -264,32 +254,9 @@ fn later_user(user: u32, used: Option<u32>, progress: &TextProgress, word: &[u8]
     }
 }
 
-// Whether nothing is to come that is looked for, if this is the last item.
-fn is_past(sought: Sought<'_>, progress: &TextProgress, end: u32) -> bool
-    ensures { result ≡ is_past sought.entry progress.now end }
-{
-    sought.used.is_none()
-        && match progress.wanted {
-            Wanted::Name => sought.kind.is_of(progress.section) && progress.index() > end,
-            Wanted::Keyword => sought.kind.is_behind(progress.section),
-            _ => false,
-        }
-}
-
-// Whether a token names an item.
-fn is_name(wanted: Wanted) -> bool
-    ensures { result ≡ is_name wanted }
-{
-    matches!(wanted, Wanted::Name | Wanted::Claim)
-}
-
 // The greatest of indices, 0 if there is none.
 fn greatest(indices: &[u32]) -> u32
     ensures { result ≡ fold max 0 indices.now }
 {
-    let mut most = 0;
-    for index in indices {
-        most = most.max(*index);
-    }
-    most
+    indices.iter().copied().fold(0, u32::max)
 }

@@ -4,6 +4,8 @@ ghost use Rattle.vipr_explain.specs.Progress.{at_start, count_passed, count_spel
 ghost use Rattle.vipr_explain.specs.Progress.{first_of_reason, index_of, item_begun, next_section};
 ghost use Rattle.vipr_explain.specs.Progress.{part_begun, passed, section_ended};
 
+use vipr_frac::Frac;
+
 /// The sections of a certificate, in their order.
 #[derive(Clone, Copy)]
 pub(crate) enum Section {
@@ -196,6 +198,7 @@ impl TextProgress {
             Some(next) => {
                 self.section = next;
                 self.wanted = Wanted::Keyword;
+                self.item = 0;
             }
             None => self.wanted = Wanted::Nothing,
         }
@@ -268,18 +271,12 @@ fn first_of_reason(word: &[u8]) -> Wanted
     }
 }
 
-/// The number that digits spell; 0 for other bytes, as `OBJ`.
+/// The count or the index that a token spells; 0 if it spells no number, as `OBJ`.
 pub(crate) fn count_of(word: &[u8]) -> u32
     ensures { result ≡ count_spelled word.now }
 {
-    let mut count: u32 = 0;
-    for byte in word {
-        if *byte < b'0' || b'9' < *byte {
-            return 0;
-        }
-        count = count
-            .saturating_mul(10)
-            .saturating_add(u32::from(*byte - b'0'));
+    match Frac::parse(word) {
+        Ok(number) => number.numer().unsigned_abs().min(u128::from(u32::MAX)) as u32,
+        Err(_) => 0,
     }
-    count
 }
