@@ -1,6 +1,5 @@
 mod Again
 mod Lacks
-mod Tokens
 mod Walking
 mod Nearing
 mod Valuing
