@@ -1,5 +1,5 @@
 -- What is found when a text is read again
-use Rattle.std.specs.Prelude.{◌≡◌, ◌≤◌, ◌⊎◌, ℕ, ◌+◌, ◌<◌, ◌++◌, ◌∷◌, [], ⊤, List, length, Result}
+use Rattle.std.specs.Prelude.{◌≡◌, ◌≤◌, ◌⊎◌, ℕ, ◌+◌, ◌++◌, ◌∷◌, [], ⊤, List, length, Result}
 use Rattle.std.specs.Prelude.{Ok, Err, IfOk, IsSome, false}
 use Rattle.vipr_spec.specs.Certificate.{Named, Problem, Derivation}
 use Rattle.vipr_spec.specs.Constraint.{Row}
@@ -71,16 +71,12 @@ pub record AreReadSoFar {A : Type 0} (reads : List A → Reader → Type 0) (kno
 abbrev pub solutions_read : Read (Problem × ℕ) → ℕ → Read (List (Named Row))
 solutions_read problem n = problem >>= λ x. read_each (solution_read x.0.0) n x.1
 
--- the problem of a text, and the solution of this number that it lists
+-- the problem of a text, and the solution of this number that it lists: so many were read before it
 pub record IsListedSolution (number : ℕ) (text : Rest) (p : Problem) (s : Named Row)
     : Type 0 where
-  pub count : ℕ
-  pub behind : Rest
-  pub problem : problem_read text ≡ Ok ((p, count), behind)
-  pub within : number < count
-  pub before : List (Named Row)
-  pub rest : Rest
-  pub solution : read_each (solution_read p) (number + 1) behind ≡ Ok (before ++ s ∷ [], rest)
+  pub reader : Reader
+  pub read : AreReadSoFar (AreSolutionsRead text p)
+      (λ ss. (before : List (Named Row)) × (ss ≡ before ++ s ∷ [])) (number + 1) reader
 
 -- the problem can't be read, or the solution of this number isn't listed, or can't be read
 abbrev pub LacksListed : ℕ → Read (Problem × ℕ) → Type 0

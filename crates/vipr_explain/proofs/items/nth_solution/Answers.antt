@@ -1,11 +1,9 @@
-use Rattle.std.proofs.Common.{◌≡◌, ◌+◌, ◌∷◌, ◌++◌, [], Ok, arith, inr, length, subst}
-use Rattle.std.proofs.lemmas.List.{length-append}
-use Rattle.vipr_spec.specs.Reading.{problem_read, read_each, solution_read}
-use Rattle.vipr_scan.specs.Giving.{rest_of}
+use Rattle.std.proofs.Common.{◌+◌, Ok, arith, inr, refl}
+use Rattle.vipr_spec.specs.Reading.{problem_read}
 use Rattle.vipr_cert.specs.Items.{solution_of}
-use Rattle.vipr_read.specs.Items.{HasNone, Moves, NextItem}
+use Rattle.vipr_read.specs.Items.{HasNone}
 use Rattle.vipr_explain.specs.Found.{LacksListed}
-use Rattle.vipr_explain.proofs.{Again.none_behind, Again.one_behind, Lacks.because, Lacks.err_is}
+use Rattle.vipr_explain.proofs.{Again.next_read, Again.none_behind, Lacks.because, Lacks.err_is}
 use Rattle.vipr_explain.proofs.items.nth_solution.Goals as goal
 
 pub returns-in_err-pass_solutions-clause-error : goal.returns-in_err-pass_solutions-clause-error
@@ -24,20 +22,9 @@ returns-in_err-solution-clause-error c p text front =
 
 pub returns-in-Some-clause-found : goal.returns-in-Some-clause-found
 returns-in-Some-clause-found c p text front =
-    let mid = c.pass_solutions.new.solutions in
-    let new = c.next.new.self in
+    let next = c.in_ok-solution.ensures in
     let part = c.in_ok-pass_solutions.ensures.read p text front in
-    let moved = subst (λ o. Moves HasNone mid new (Ok o)) c.in-Some.is c.in_ok-solution.ensures.moves in
-    let next = subst (λ o. NextItem solution_of (solution_read p) (λ _. Ok tt) mid new (Ok o)) c.in-Some.is (c.in_ok-solution.ensures.read p part.behind.knows) part.behind.known in
-    let s = solution_of c.in-Some.solution in
-    let size : length (part.read ++ s ∷ []) ≡ c.args.number + 1 = omega (arith, part.size, length-append part.read (s ∷ [])) in
-    let behind = one_behind s mid new moved next.1 next.2 part.behind in
     record {
-      count = length (part.read ++ s ∷ []) + new.left;
-      behind = behind.start;
-      problem = behind.counted;
-      within = omega (arith, size);
-      before = part.read;
-      rest = rest_of new.rest;
-      solution = subst (λ n. read_each (solution_read p) n behind.start ≡ Ok (part.read ++ s ∷ [], rest_of new.rest)) size behind.read;
+      reader = c.next.new.self;
+      read = next_read HasNone (λ _. Ok tt) solution_of c.pass_solutions.new.solutions c.next.new.self c.in-Some.solution c.in-Some.is next.moves (next.read p part.behind.knows) (λ ss _ _. (ss, refl)) part;
     }
