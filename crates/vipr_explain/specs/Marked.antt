@@ -69,10 +69,15 @@ abbrev pub part_of_item : Sought → ℕ → ℕ → ItemPart
 part_of_item s end index = if index == end then s.part else
     (if is_used s.used index then part.LastReference else part.Reason)
 
--- whether no item of this kind up to this index is to come, and no use is looked for
+-- whether no item of this kind up to this index is to come, and no use is looked for: what is
+-- wanted is the name of a later one, or the keyword of a later section
+abbrev pub is_past_at : Wanted → Sought → TextProgress → ℕ → Bool
+is_past_at wanted.Name s p end = is_of s.kind p.section && nat_lt end (index_of p)
+is_past_at wanted.Keyword s p end = is_behind s.kind p.section
+is_past_at _ s p end = false
+
 abbrev pub is_past : Sought → TextProgress → ℕ → Bool
-is_past s p end = is_none s.used
-    && ((is_of s.kind p.section && nat_lt end (index_of p)) || is_behind s.kind p.section)
+is_past s p end = is_none s.used && is_past_at p.wanted s p end
 
 -- behind a token at this place, if it names an item that is looked for, or is the part of one
 abbrev pub marked : List ℕ → Sought → ℕ → TextProgress → Span → List ItemPlace → List ItemPlace

@@ -1,8 +1,8 @@
 -- How far a certificate's text was read: what it has to have at its next token
 use Rattle.std.specs.Prelude.{ℕ, ◌+◌, ◌-◌, ◌^◌, min, nat_lt, ◌||◌, if◌then◌else◌, List}
-use Rattle.std.specs.Prelude.{Option, Some, None, Result, Ok, Err, codes, unsigned_abs}
+use Rattle.std.specs.Prelude.{Option, Some, None, codes}
 use Rattle.std.specs.Str.{bytes_eq}
-use Rattle.vipr_spec.specs.{Fraction.ℚ, Number.NumberFault, Number.number_read}
+use Rattle.vipr_spec.specs.Digits.{natural_of}
 use Rattle.vipr_explain.specs.declared.wanted.TextProgress.{TextProgress}
 use Rattle.vipr_explain.specs.{declared.wanted.Section.Section, declared.wanted.Wanted.Wanted}
 use Rattle.vipr_explain.specs.declared.wanted.Section.TheVariants as section
@@ -61,20 +61,20 @@ index_in _ p = p.item
 abbrev pub index_of : TextProgress → ℕ
 index_of p = index_in p.section p
 
--- the numerator of the number that a token spells, without its sign; 0 if it spells none
-abbrev pub numerator_of : Result ℚ NumberFault → ℕ
-numerator_of (Ok x) = in_u32 (unsigned_abs x.numer)
-numerator_of (Err e) = 0
+-- the number that digits spell, 0 for other bytes
+abbrev pub number_or_none : Option ℕ → ℕ
+number_or_none (Some n) = in_u32 n
+number_or_none None = 0
 
 abbrev pub count_spelled : List ℕ → ℕ
-count_spelled word = numerator_of (number_read word)
+count_spelled word = number_or_none (natural_of word)
 
 abbrev pub wants : TextProgress → Wanted → TextProgress
 wants p part = record p { wanted = part }
 
 -- behind a section: the keyword of the next one, and nothing behind the last one
 abbrev pub ended_before : Option Section → TextProgress → TextProgress
-ended_before (Some next) p = record p { section = next; wanted = wanted.Keyword; item = 0 }
+ended_before (Some next) p = record p { section = next; wanted = wanted.Keyword }
 ended_before None p = wants p wanted.Nothing
 
 abbrev pub section_ended : TextProgress → TextProgress

@@ -1,5 +1,5 @@
 //! A part of a line with carets below a place in it.
-ghost use Rattle.std.specs.Prelude.{◌≡◌, length, decimal, take, drop};
+ghost use Rattle.std.specs.Prelude.{◌≡◌, ◌≤◌, length, decimal, take, drop};
 ghost use Rattle.vipr_explain.specs.Excerpts.{IsExcerptAt, column_behind, feeds_in, is_in_line};
 ghost use Rattle.vipr_explain.specs.Excerpts.{line_behind, line_of, part_of};
 ghost use Rattle.vipr_page.specs.Page.{line_byte};
@@ -14,6 +14,9 @@ const MOST_SHOWN: u64 = 60;
 
 /// How many carets or dashes are shown below a place.
 const MOST_MARKS: usize = 40;
+
+/// How many bytes are counted at once.
+const BLOCK: usize = 224;
 
 /// A place in the text: its line and column, counted from 1, and how many bytes belong to it; what
 /// is before it in its line, what is there, and whether more is behind that.
@@ -118,11 +121,32 @@ pub(crate) fn line_at(text: &[u8], offset: u64) -> u64
     feeds_in(first(text, offset)).saturating_add(1)
 }
 
-// How many line feeds bytes have.
+// How many line feeds bytes have, which are counted in blocks: LLVM makes vectors of them.
 fn feeds_in(bytes: &[u8]) -> u64
     ensures { result ≡ feeds_in bytes.now }
 {
-    bytes.iter().filter(|byte| **byte == b'\n').count() as u64
+    let mut count: u64 = 0;
+    let mut rest = bytes;
+    while !rest.is_empty() {
+        let (block, behind) = rest.split_at(rest.len().min(BLOCK));
+        count = count.saturating_add(u64::from(few_feeds(block)));
+        rest = behind;
+    }
+    count
+}
+
+// The same of so few bytes that a `u8` counts them.
+fn few_feeds(block: &[u8]) -> u8
+    requires { length block.now ≤ 255 }
+    ensures { result ≡ feeds_in block.now }
+{
+    let mut count: u8 = 0;
+    for byte in block {
+        if *byte == b'\n' {
+            count = count.wrapping_add(1);
+        }
+    }
+    count
 }
 
 // The column of the byte behind these, counted from 1.

@@ -112,9 +112,12 @@ impl Sought<'_> {
     fn is_past(self, progress: &TextProgress, end: u32) -> bool
         ensures { result ≡ is_past self.entry progress.now end }
     {
-        let section = progress.section;
-        let is_later = self.kind.is_of(section) && progress.index() > end;
-        self.used.is_none() && (is_later || self.kind.is_behind(section))
+        self.used.is_none()
+            && match progress.wanted {
+                Wanted::Name => self.kind.is_of(progress.section) && progress.index() > end,
+                Wanted::Keyword => self.kind.is_behind(progress.section),
+                _ => false,
+            }
     }
 }
 
@@ -213,8 +216,15 @@ fn mark(
     ensures { OnOk result (places.new.items
         ≡ marked text.now sought.entry end progress.now span places.old.items) }
 {
-    let index = progress.index();
     let is_name = ItemPart::Name.is_at(progress);
+    // (most tokens are in rows and sums, and not what is looked for)
+    if !is_name
+        && !sought.part.is_at(progress)
+        && !matches!(progress.wanted, Wanted::Reason | Wanted::LastReference)
+    {
+        return Ok(());
+    }
+    let index = progress.index();
     if (is_name || sought.part_of(end, index).is_at(progress))
         && sought.kind.is_of(progress.section)
         && sought.items.contains(&index)

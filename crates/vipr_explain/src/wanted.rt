@@ -1,10 +1,9 @@
 //! How far a certificate's text was read: what it has to have at its next token.
 ghost use Rattle.std.specs.{Prelude.◌≡◌, Str.bytes_eq};
 ghost use Rattle.vipr_explain.specs.Progress.{at_start, count_passed, count_spelled};
-ghost use Rattle.vipr_explain.specs.Progress.{first_of_reason, index_of, item_begun, next_section};
-ghost use Rattle.vipr_explain.specs.Progress.{part_begun, passed, section_ended};
-
-use vipr_frac::Frac;
+ghost use Rattle.vipr_explain.specs.Progress.{first_of_reason, index_of, item_begun, item_ended};
+ghost use Rattle.vipr_explain.specs.Progress.{next_section, part_begun, part_ended, passed};
+ghost use Rattle.vipr_explain.specs.Progress.{section_ended};
 
 /// The sections of a certificate, in their order.
 #[derive(Clone, Copy)]
@@ -147,8 +146,6 @@ impl TextProgress {
     pub(crate) fn pass(&mut self, word: &[u8])
         ensures { self.new ≡ passed self.old word.now }
     {
-        let next_item = self.item.saturating_add(1);
-        let next_part = self.part.saturating_add(1);
         match self.wanted {
             Wanted::Keyword => match self.section {
                 Section::Version => self.wanted = Wanted::Version,
@@ -159,7 +156,7 @@ impl TextProgress {
             Wanted::Count => self.pass_count(count_of(word)),
             Wanted::BoundCount => self.begin_item(0),
             Wanted::Name => match self.section {
-                Section::Variables => self.begin_item(next_item),
+                Section::Variables => self.end_item(),
                 Section::Solutions => self.wanted = Wanted::RowCount,
                 _ => self.wanted = Wanted::Sense,
             },
@@ -170,7 +167,7 @@ impl TextProgress {
                 self.variable = count_of(word);
                 self.wanted = Wanted::RowCoefficient;
             }
-            Wanted::RowCoefficient => self.begin_part(Wanted::RowIndex, next_part, self.parts),
+            Wanted::RowCoefficient => self.end_part(Wanted::RowIndex),
             Wanted::Claim if is_word(word, "range") => self.wanted = Wanted::LowerBound,
             Wanted::LowerBound => self.wanted = Wanted::UpperBound,
             Wanted::Version | Wanted::Claim | Wanted::UpperBound => self.end_section(),
@@ -182,10 +179,10 @@ impl TextProgress {
             }
             Wanted::EntryCount => self.begin_part(Wanted::EntryIndex, 0, count_of(word)),
             Wanted::EntryIndex => self.wanted = Wanted::EntryMultiplier,
-            Wanted::EntryMultiplier => self.begin_part(Wanted::EntryIndex, next_part, self.parts),
-            Wanted::Branch => self.begin_part(Wanted::Branch, next_part, self.parts),
+            Wanted::EntryMultiplier => self.end_part(Wanted::EntryIndex),
+            Wanted::Branch => self.end_part(Wanted::Branch),
             Wanted::CloseBrace => self.wanted = Wanted::LastReference,
-            Wanted::IntegerIndex | Wanted::LastReference => self.begin_item(next_item),
+            Wanted::IntegerIndex | Wanted::LastReference => self.end_item(),
             Wanted::Nothing => {}
         }
     }
@@ -198,7 +195,6 @@ impl TextProgress {
             Some(next) => {
                 self.section = next;
                 self.wanted = Wanted::Keyword;
-                self.item = 0;
             }
             None => self.wanted = Wanted::Nothing,
         }
@@ -234,6 +230,13 @@ impl TextProgress {
         }
     }
 
+    // Ends the item: behind the last one the section ends.
+    fn end_item(&mut self)
+        ensures { self.new ≡ item_ended self.old }
+    {
+        self.begin_item(self.item.saturating_add(1));
+    }
+
     // Begins the part of this position, of so many, with this; behind the last one the row or the
     // reason ends.
     fn begin_part(&mut self, first: Wanted, part: u32, parts: u32)
@@ -245,9 +248,16 @@ impl TextProgress {
             _ if part < parts => self.wanted = first,
             (Wanted::RowIndex, Section::Objective) => self.end_section(),
             (Wanted::RowIndex, Section::Derivations) => self.wanted = Wanted::OpenBrace,
-            (Wanted::RowIndex, _) => self.begin_item(self.item.saturating_add(1)),
+            (Wanted::RowIndex, _) => self.end_item(),
             _ => self.wanted = Wanted::CloseBrace,
         }
+    }
+
+    // Ends the part, of those that begin with this.
+    fn end_part(&mut self, first: Wanted)
+        ensures { self.new ≡ part_ended first self.old }
+    {
+        self.begin_part(first, self.part.saturating_add(1), self.parts);
     }
 }
 
@@ -271,12 +281,18 @@ fn first_of_reason(word: &[u8]) -> Wanted
     }
 }
 
-/// The count or the index that a token spells; 0 if it spells no number, as `OBJ`.
+/// The number that digits spell; 0 for other bytes, as `OBJ`.
 pub(crate) fn count_of(word: &[u8]) -> u32
     ensures { result ≡ count_spelled word.now }
 {
-    match Frac::parse(word) {
-        Ok(number) => number.numer().unsigned_abs().min(u128::from(u32::MAX)) as u32,
-        Err(_) => 0,
+    let mut count: u32 = 0;
+    for byte in word {
+        if *byte < b'0' || b'9' < *byte {
+            return 0;
+        }
+        count = count
+            .saturating_mul(10)
+            .saturating_add(u32::from(*byte - b'0'));
     }
+    count
 }
