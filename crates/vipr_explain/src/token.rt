@@ -29,10 +29,7 @@ const INFINITIES: [&[u8]; 3] = [b"inf", b"infinity", b"infty"];
 impl Look {
     /// What these bytes look like.
     pub(crate) fn of(word: &[u8]) -> Look {
-        let number = match word {
-            [b'+' | b'-', number @ ..] => number,
-            _ => word,
-        };
+        let ([b'+' | b'-', number @ ..] | number) = word;
         match (keyword_of(word), fraction_of(word)) {
             (Some(keyword), _) if is_word(word, keyword) => Look::Heading,
             (Some(_), _) => Look::SmallHeading,
