@@ -1,5 +1,6 @@
 -- Changes of one entry with which a refused sum follows
-use Rattle.std.specs.Prelude.{◌+◌, ◌++◌, ℕ, List, ◌∷◌, length, take, drop, min, None, IfSome}
+use Rattle.std.specs.Prelude.{◌++◌, ℕ, List, [], ◌∷◌, length, set, nat_lt, None, IfSome}
+use Rattle.std.specs.Prelude.{if◌then◌else◌}
 use Rattle.vipr_spec.specs.Certificate.{Derivation, Certificate, Reason, lin, rnd, uns}
 use Rattle.vipr_spec.specs.Steps.{FirstFailing, PassesStep, step_tests}
 use Rattle.vipr_spec.specs.{Constraint.Profile, Constraint.condition, Fraction.ℚ}
@@ -8,8 +9,8 @@ use Rattle.vipr_explain.specs.{declared.changes.Change.Change, declared.changes.
 
 -- the entry in place of the one at its position, or behind the last one
 abbrev pub changed_entries : Change → List (ℕ × ℚ) → List (ℕ × ℚ)
-changed_entries (Entry position index multiplier) es = let n = min position (length es) in
-    take n es ++ (index, multiplier) ∷ drop (min (n + 1) (length es)) es
+changed_entries (Entry position index multiplier) es = if nat_lt position (length es)
+    then set es position (index, multiplier) else es ++ (index, multiplier) ∷ []
 changed_entries _ es = es
 
 -- a sum by this word, and what is joined

@@ -11,7 +11,7 @@ ghost use Rattle.vipr_explain.specs.Near.{HasReplayed, without_solutions};
 
 use crate::near::Join;
 use crate::shown::PlacedItems;
-use crate::sought::{Candidates, Sum};
+use crate::sought::{Candidates, Ranking, Sum};
 use crate::text::Subject;
 use std::alloc::{AllocError, Global};
 use vipr_cert::{Derivation, Problem, Reason, References};
@@ -60,10 +60,10 @@ impl Change {
                 }
             }
             Change::Join(Join { i1, l1, i2, l2 }) => write!(page, "`uns {i1} {l1} {i2} {l2}`"),
-            Change::Word => page.put(match reason {
-                Reason::Lin(_) => "`rnd` in place of `lin`",
-                _ => "`lin` in place of `rnd`",
-            }),
+            Change::Word => {
+                let (other, word) = (other_word(reason), reason.word());
+                write!(page, "`{other}` in place of `{word}`");
+            }
         }
         page.put(" the derivation follows\n");
     }
@@ -71,17 +71,9 @@ impl Change {
     // Writes the multiplier, the index or the word that is new.
     fn write_token(&self, page: &mut Page, is_multiplier: bool, reason: &Reason) {
         match *self {
-            Change::Entry(_, index, multiplier) => {
-                if is_multiplier {
-                    write!(page, "{multiplier}");
-                } else {
-                    write!(page, "{index}");
-                }
-            }
-            _ => page.put(match reason {
-                Reason::Lin(_) => "rnd",
-                _ => "lin",
-            }),
+            Change::Entry(_, _, multiplier) if is_multiplier => write!(page, "{multiplier}"),
+            Change::Entry(_, index, _) => write!(page, "{index}"),
+            _ => page.put(other_word(reason)),
         }
     }
 
@@ -134,6 +126,14 @@ impl Changes {
         } else if let Some(change) = self.exchange {
             change.write_token(page, false, reason);
         }
+    }
+}
+
+// The word of the other sum with these entries.
+fn other_word(reason: &Reason) -> &'static str {
+    match reason {
+        Reason::Lin(_) => "rnd",
+        _ => "lin",
     }
 }
 
@@ -218,9 +218,9 @@ fn try_all(
         IsTableOf c sum.entry.rows.now → RefersBack c → IfOk result (FollowEach
         (profile_of sum.entry.subject.profile) c (derivation_of sum.entry.step.now)) }
 {
-    let multiplier = first_that_follows(sum, scratch, candidates.multipliers.as_slice())?;
-    let exchange = first_that_follows(sum, scratch, candidates.exchanges.as_slice())?;
-    let addition = first_that_follows(sum, scratch, candidates.additions.as_slice())?;
+    let multiplier = first_that_follows(sum, scratch, &candidates.multipliers)?;
+    let exchange = first_that_follows(sum, scratch, &candidates.exchanges)?;
+    let addition = first_that_follows(sum, scratch, &candidates.additions)?;
     Ok(Changes {
         multiplier,
         exchange,
@@ -232,7 +232,7 @@ fn try_all(
 fn first_that_follows(
     sum: Sum<'_>,
     scratch: &mut Combination,
-    candidates: &[Change],
+    candidates: &Ranking,
 ) -> Result<Option<Change>, AllocError>
     requires below { DerivedBelow (variables sum.problem.now) sum.rows.now }
     requires scratch { length scratch.old.sums ≡ variables sum.problem.now }
@@ -242,9 +242,9 @@ fn first_that_follows(
         IsTableOf c sum.entry.rows.now → RefersBack c → IfOk result (λ found. IfSome found
         (FollowsWith (profile_of sum.entry.subject.profile) c (derivation_of sum.entry.step.now))) }
 {
-    for change in candidates {
-        if follows(sum, scratch, change)? {
-            return Ok(Some(*change));
+    for known in candidates.0.as_slice() {
+        if follows(sum, scratch, &known.1)? {
+            return Ok(Some(known.1));
         }
     }
     Ok(None)
@@ -297,26 +297,18 @@ fn changed_step(alloc: Global, step: &Derivation, change: &Change) -> Result<Der
 fn changed_reason(alloc: Global, reason: &Reason, change: &Change) -> Result<Reason, AllocError>
     ensures { IfOk result (λ r. reason_of r ≡ changed change.now (reason_of reason.now)) }
 {
-    match reason {
-        Reason::Lin(entries) => {
-            let entries = changed_entries(alloc, entries, change)?;
-            match *change {
-                Change::Word => Ok(Reason::Rnd(entries)),
-                Change::Entry(..) | Change::Join(_) => Ok(Reason::Lin(entries)),
-            }
+    match (reason, *change) {
+        (Reason::Lin(entries), Change::Word) => {
+            Ok(Reason::Rnd(changed_entries(alloc, entries, change)?))
         }
-        Reason::Rnd(entries) => {
-            let entries = changed_entries(alloc, entries, change)?;
-            match *change {
-                Change::Word => Ok(Reason::Lin(entries)),
-                Change::Entry(..) | Change::Join(_) => Ok(Reason::Rnd(entries)),
-            }
+        (Reason::Rnd(entries), Change::Word) | (Reason::Lin(entries), _) => {
+            Ok(Reason::Lin(changed_entries(alloc, entries, change)?))
         }
-        Reason::Uns { .. } => match *change {
-            Change::Join(Join { i1, l1, i2, l2 }) => Ok(Reason::Uns { i1, l1, i2, l2 }),
-            Change::Entry(..) | Change::Word => reason.clone(),
-        },
-        other => other.clone(),
+        (Reason::Rnd(entries), _) => Ok(Reason::Rnd(changed_entries(alloc, entries, change)?)),
+        (Reason::Uns { .. }, Change::Join(Join { i1, l1, i2, l2 })) => {
+            Ok(Reason::Uns { i1, l1, i2, l2 })
+        }
+        _ => reason.clone(),
     }
 }
 
@@ -328,17 +320,15 @@ fn changed_entries(
 ) -> Result<Vec<(u32, Frac)>, AllocError>
     ensures { IfOk result (λ es. es.items ≡ changed_entries change.now entries.now) }
 {
-    let count = entries.len();
     let mut changed = Vec::new(alloc);
-    match *change {
-        Change::Entry(position, index, multiplier) => {
-            let position = position.min(count);
-            let behind = position.saturating_add(1).min(count);
-            changed.extend_from_slice(&entries[..position])?;
-            changed.push((index, multiplier))?;
-            changed.extend_from_slice(&entries[behind..])?;
+    changed.extend_from_slice(entries)?;
+    if let Change::Entry(position, index, multiplier) = *change {
+        let entry = (index, multiplier);
+        if position < changed.len() {
+            changed[position] = entry;
+        } else {
+            changed.push(entry)?;
         }
-        Change::Join(_) | Change::Word => changed.extend_from_slice(entries)?,
     }
     Ok(changed)
 }

@@ -5,7 +5,7 @@ ghost use Rattle.vipr_spec.specs.Certificate.{variables};
 use crate::changes::Change;
 use crate::near::{Join, is_turned};
 use crate::text::Subject;
-use std::alloc::{AllocError, Global};
+use std::alloc::AllocError;
 use vipr_cert::{Derivation, Problem, Reason, References};
 use vipr_check::Table;
 use vipr_frac::Frac;
@@ -32,17 +32,17 @@ pub(crate) struct Sum<'a> {
     pub(crate) step: &'a Derivation,
 }
 
-/// Changes of each kind, the likely ones first.
+/// Changes of each kind.
 #[derive(Drop)]
 pub(crate) struct Candidates {
-    pub(crate) multipliers: Vec<Change>,
-    pub(crate) exchanges: Vec<Change>,
-    pub(crate) additions: Vec<Change>,
+    pub(crate) multipliers: Ranking,
+    pub(crate) exchanges: Ranking,
+    pub(crate) additions: Ranking,
 }
 
-// Changes with what each is ranked by, the least first.
+/// Changes with what each is ranked by, the least first.
 #[derive(Drop)]
-struct Ranking(Vec<(u64, Change)>);
+pub(crate) struct Ranking(pub(crate) Vec<(u64, Change)>);
 
 // An entry, and the constraint that would be right in its place with its multiplier.
 #[derive(Drop)]
@@ -59,29 +59,68 @@ impl Candidates {
         requires { length scratch.old.sums ≡ variables sum.problem.now }
         ensures { length scratch.new.sums ≡ length scratch.old.sums }
     {
+        let alloc = sum.subject.alloc;
         let mut found = Candidates {
-            multipliers: Vec::new(sum.subject.alloc),
-            exchanges: Vec::new(sum.subject.alloc),
-            additions: Vec::new(sum.subject.alloc),
+            multipliers: Ranking(Vec::new(alloc)),
+            exchanges: Ranking(Vec::new(alloc)),
+            additions: Ranking(Vec::new(alloc)),
         };
-        let entries = match sum.step.reason.references() {
-            References::Entries(entries) => entries,
+        let added = match sum.step.reason.references() {
+            References::Entries(entries) => found.add_changes(sum, entries, scratch),
             References::Branches { i1, l1, i2, l2 } => {
-                found.exchanges = other_joins(sum, Join { i1, l1, i2, l2 })?;
-                return Ok(found);
+                add_joins(&mut found.exchanges, sum, Join { i1, l1, i2, l2 })
             }
-            References::Nothing => return Ok(found),
+            References::Nothing => Ok(()),
         };
-        let Some(missing) = missing_of(sum, entries, scratch)? else {
-            return Ok(found);
-        };
-        found.multipliers = other_multipliers(sum, entries, &missing)?;
-        let replacements = replacements(sum, entries, &missing, scratch)?;
-        let (exchanges, additions) = among_all(sum, entries, &missing, replacements.as_slice())?;
-        found.exchanges = exchanges;
-        found.exchanges.push(Change::Word)?;
-        found.additions = additions;
+        or_drop!(added, found);
         Ok(found)
+    }
+
+    // Adds those of a sum of these entries.
+    fn add_changes(
+        &mut self,
+        sum: Sum<'_>,
+        entries: &[(u32, Frac)],
+        scratch: &mut Combination,
+    ) -> Result<(), AllocError>
+        requires { length scratch.old.sums ≡ variables sum.problem.now }
+        ensures { length scratch.new.sums ≡ length scratch.old.sums }
+    {
+        let stated = &sum.step.constraint;
+        let Some(missing) = less_sum(sum, scratch, stated, Frac::one(), entries)? else {
+            return Ok(());
+        };
+        add_multipliers(&mut self.multipliers, sum, entries, &missing)?;
+        let replacements = replacements(sum, entries, &missing, scratch)?;
+        self.add_others(sum, entries, &missing, replacements.as_slice())?;
+        self.exchanges.0.push((u64::MAX, Change::Word))?;
+        Ok(())
+    }
+
+    // Adds other constraints in the place of an entry, the nearest ones first, and those for one
+    // more entry.
+    fn add_others(
+        &mut self,
+        sum: Sum<'_>,
+        entries: &[(u32, Frac)],
+        missing: &Constraint,
+        replacements: &[Replacement],
+    ) -> Result<(), AllocError> {
+        for index in 0..sum.rows.next() {
+            if let Some(constraint) = constraint_at(sum, index) {
+                for replacement in replacements {
+                    add_exchange(&mut self.exchanges, sum, index, constraint, replacement)?;
+                }
+                if let Some((multiplier, off)) = factor_for(constraint, missing) {
+                    let is_entry = entries.iter().any(|entry| entry.0 == index);
+                    if let (Some(rank), false) = (rank_of(sum, off), is_entry) {
+                        let change = Change::Entry(entries.len(), index, multiplier);
+                        self.additions.add(rank, change)?;
+                    }
+                }
+            }
+        }
+        Ok(())
     }
 }
 
@@ -94,24 +133,18 @@ impl Ranking {
         self.0.truncate(MOST_TRIED);
         Ok(())
     }
-
-    // The changes in their order.
-    fn changes(self, alloc: Global) -> Result<Vec<Change>, AllocError> {
-        self.0.iter().map(|known| known.1).collect(alloc)
-    }
 }
 
 // Joins of the same four constraints, and then those with another one in the place of one, the
 // last ones first.
-fn other_joins(sum: Sum<'_>, join: Join) -> Result<Vec<Change>, AllocError> {
-    let mut ranking = Ranking(Vec::new(sum.subject.alloc));
+fn add_joins(ranking: &mut Ranking, sum: Sum<'_>, join: Join) -> Result<(), AllocError> {
     let Join { i1, l1, i2, l2 } = join;
     let named = [i1, l1, i2, l2];
     for i1 in named {
         for l1 in named {
             for i2 in named {
                 for l2 in named {
-                    add_join(&mut ranking, sum, 0, Join { i1, l1, i2, l2 })?;
+                    add_join(ranking, sum, 0, Join { i1, l1, i2, l2 })?;
                 }
             }
         }
@@ -120,17 +153,17 @@ fn other_joins(sum: Sum<'_>, join: Join) -> Result<Vec<Change>, AllocError> {
     for index in 0..own {
         let rank = own - index;
         if has_row_of(sum, index, &sum.step.constraint) {
-            add_join(&mut ranking, sum, rank, Join { i1: index, ..join })?;
-            add_join(&mut ranking, sum, rank, Join { i2: index, ..join })?;
+            add_join(ranking, sum, rank, Join { i1: index, ..join })?;
+            add_join(ranking, sum, rank, Join { i2: index, ..join })?;
         }
         if is_other_side(sum, index, l2) {
-            add_join(&mut ranking, sum, rank, Join { l1: index, ..join })?;
+            add_join(ranking, sum, rank, Join { l1: index, ..join })?;
         }
         if is_other_side(sum, index, l1) {
-            add_join(&mut ranking, sum, rank, Join { l2: index, ..join })?;
+            add_join(ranking, sum, rank, Join { l2: index, ..join })?;
         }
     }
-    ranking.changes(sum.subject.alloc)
+    Ok(())
 }
 
 // Adds a join, if each case rests on its own assumption, and not on that of the other one.
@@ -168,23 +201,30 @@ fn is_other_side(sum: Sum<'_>, index: u32, other: u32) -> bool {
     }
 }
 
-// What is stated less the sum of these entries, whatever their senses; none past the limit.
-fn missing_of(
+// A multiple of a constraint less the sum of these entries, whatever their senses; none past the
+// limit.
+fn less_sum(
     sum: Sum<'_>,
-    entries: &[(u32, Frac)],
     scratch: &mut Combination,
+    constraint: &Constraint,
+    factor: Frac,
+    entries: &[(u32, Frac)],
 ) -> Result<Option<Constraint>, AllocError>
     requires { length scratch.old.sums ≡ variables sum.problem.now }
     ensures { length scratch.new.sums ≡ length scratch.old.sums }
 {
     scratch.clear();
-    add_both_sides(sum, scratch, &sum.step.constraint, Frac::one())?;
+    add_both_sides(sum, scratch, constraint, factor)?;
     for entry in entries {
         if let Some(constraint) = constraint_at(sum, entry.0) {
             add_both_sides(sum, scratch, constraint, entry.1.neg())?;
         }
     }
-    finished(sum.subject.alloc, scratch)
+    match scratch.finish(sum.subject.alloc) {
+        Ok(sum) => Ok(Some(sum)),
+        Err(CombError::Memory) => Err(AllocError),
+        Err(_) => Ok(None),
+    }
 }
 
 // Adds the multiple of a constraint as if it were an equation.
@@ -209,17 +249,6 @@ fn add_both_sides(
     Ok(())
 }
 
-// The sum that was added up, none past the limit.
-fn finished(alloc: Global, scratch: &mut Combination) -> Result<Option<Constraint>, AllocError>
-    ensures { length scratch.new.sums ≡ length scratch.old.sums }
-{
-    match scratch.finish(alloc) {
-        Ok(sum) => Ok(Some(sum)),
-        Err(CombError::Memory) => Err(AllocError),
-        Err(_) => Ok(None),
-    }
-}
-
 // The constraint of an index that a sum may have.
 fn constraint_at(sum: Sum<'_>, index: u32) -> Option<&Constraint> {
     match sum.problem.cons().get(index as usize) {
@@ -230,12 +259,12 @@ fn constraint_at(sum: Sum<'_>, index: u32) -> Option<&Constraint> {
 
 // Other multipliers of the entries: that with the other sign comes first, if it gives the stated
 // sense.
-fn other_multipliers(
+fn add_multipliers(
+    ranking: &mut Ranking,
     sum: Sum<'_>,
     entries: &[(u32, Frac)],
     missing: &Constraint,
-) -> Result<Vec<Change>, AllocError> {
-    let mut ranking = Ranking(Vec::new(sum.subject.alloc));
+) -> Result<(), AllocError> {
     for (position, entry) in entries.iter().enumerate() {
         let (index, present) = *entry;
         if let Some(constraint) = constraint_at(sum, index) {
@@ -251,7 +280,7 @@ fn other_multipliers(
             }
         }
     }
-    ranking.changes(sum.subject.alloc)
+    Ok(())
 }
 
 // For each entry the constraint that would be right in its place.
@@ -272,72 +301,23 @@ fn replacements(
     let mut size: usize = 0;
     for (position, entry) in entries.iter().take(most).enumerate() {
         let (index, multiplier) = *entry;
-        let wanted = wanted_at(sum, missing, scratch, index, multiplier)?;
-        if let Some(wanted) = wanted {
-            size = size.saturating_add(wanted.row.entries().len());
-            found.push(Replacement {
-                position,
-                index,
-                multiplier,
-                wanted,
-            })?;
+        if let Some(factor) = inverse(multiplier) {
+            let own = [(index, Frac::one().neg())];
+            if let Some(wanted) = less_sum(sum, scratch, missing, factor, &own)? {
+                size = size.saturating_add(wanted.row.entries().len());
+                found.push(Replacement {
+                    position,
+                    index,
+                    multiplier,
+                    wanted,
+                })?;
+            }
         }
         if size > coefficients {
             break;
         }
     }
     Ok(found)
-}
-
-// The constraint that would be right in the place of this one, with its multiplier.
-fn wanted_at(
-    sum: Sum<'_>,
-    missing: &Constraint,
-    scratch: &mut Combination,
-    index: u32,
-    multiplier: Frac,
-) -> Result<Option<Constraint>, AllocError>
-    requires { length scratch.old.sums ≡ variables sum.problem.now }
-    ensures { length scratch.new.sums ≡ length scratch.old.sums }
-{
-    let Some(factor) = inverse(multiplier) else {
-        return Ok(None);
-    };
-    scratch.clear();
-    add_both_sides(sum, scratch, missing, factor)?;
-    if let Some(constraint) = constraint_at(sum, index) {
-        add_both_sides(sum, scratch, constraint, Frac::one())?;
-    }
-    finished(sum.subject.alloc, scratch)
-}
-
-// Other constraints in the place of an entry, the nearest ones first, and those for one more entry.
-fn among_all(
-    sum: Sum<'_>,
-    entries: &[(u32, Frac)],
-    missing: &Constraint,
-    replacements: &[Replacement],
-) -> Result<(Vec<Change>, Vec<Change>), AllocError> {
-    let mut exchanges = Ranking(Vec::new(sum.subject.alloc));
-    let mut additions = Ranking(Vec::new(sum.subject.alloc));
-    for index in 0..sum.rows.next() {
-        if let Some(constraint) = constraint_at(sum, index) {
-            for replacement in replacements {
-                add_exchange(&mut exchanges, sum, index, constraint, replacement)?;
-            }
-            if let Some((multiplier, off)) = factor_for(constraint, missing) {
-                let is_entry = entries.iter().any(|entry| entry.0 == index);
-                if let (Some(rank), false) = (rank_of(sum, off), is_entry) {
-                    let change = Change::Entry(entries.len(), index, multiplier);
-                    additions.add(rank, change)?;
-                }
-            }
-        }
-    }
-    Ok((
-        exchanges.changes(sum.subject.alloc)?,
-        additions.changes(sum.subject.alloc)?,
-    ))
 }
 
 // Adds a constraint in the place of an entry, if it has the row that is wanted there.

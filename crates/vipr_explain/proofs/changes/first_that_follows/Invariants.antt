@@ -1,5 +1,5 @@
 use Rattle.std.proofs.Common.{◌≡◌, length}
 use Rattle.vipr_explain.proofs.changes.first_that_follows.Given as goal
 
-abbrev pub invariant-loop-change : goal.invariant-loop-change
-invariant-loop-change l = length l.scratch.sums ≡ length l.initial.scratch.sums
+abbrev pub invariant-loop-known : goal.invariant-loop-known
+invariant-loop-known l = length l.scratch.sums ≡ length l.initial.scratch.sums
