@@ -44,7 +44,7 @@ pub(crate) struct StepFault<'a> {
 #[derive(Drop)]
 pub(crate) struct RefusedStep<'a> {
     own: Derivation,
-    /// Of which the table is shown.
+    /// The search up to it, whose table has the constraints that are live.
     search: NearSearch,
     pub(crate) known: PlacedItems<'a>,
     facts: StepFacts,
