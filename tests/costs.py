@@ -56,7 +56,7 @@ HIDDEN_LENGTH, HIDDEN_MOST = 100_000, {
     'chain': (50, 150, 130_000), 'tree': (50, 4_800, 300_000), 'cuts': (3_000, 1_350, 140_000),
     'dense': (11_000, 350, 130_000), 'wide': (50, 2_900, 400_000), 'long': (50, 400, 130_000),
     'held': (50, 2_300, 480_000), 'solutions': (50, 5_500, 220_000)}
-# processor time that a run may take, in seconds: it ends what would not end, on a slow machine and under valgrind, too
+# when a run is stopped, in seconds of processor time: more than the longest one needs under valgrind on a slow machine
 SECONDS = 60
 PAGE = TOP / 'docs/SECURITY.md'
 MARKS = '<!-- costs: written by `tests/costs.py --write` -->', '<!-- end of the costs -->'
