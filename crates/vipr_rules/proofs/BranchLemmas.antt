@@ -17,7 +17,7 @@ use Rattle.vipr_linear.specs.{Constraint.condition_of, declared.constraint.Const
 use Rattle.vipr_rules.specs.declared.error.RuleError.{RuleError}
 use Rattle.vipr_rules.specs.declared.error.RuleError.TheVariants.{NotAssumption, Memory}
 use Rattle.vipr_rules.specs.Context.{IsKnownAs, IsSetByReason, set_of, is_assumed}
-use Rattle.vipr_rules.specs.Apply.{index_tests, free_tests, PassesTestsIn, StopsIn, IsNotDominated}
+use Rattle.vipr_rules.specs.Apply.{index_tests, named_tests, free_tests, PassesTestsIn, StopsIn, IsNotDominated}
 use Rattle.vipr_rules.specs.Apply.{IsRuledBy, shown_by}
 use Rattle.vipr_rules.specs.{declared.branches.Branch.Branch, declared.context.Known.Known}
 use Rattle.vipr_table.proofs.Laws.{tied_numbers}
@@ -97,28 +97,31 @@ module _ (P : Profile) (c : Certificate) (d : Derivation) (first second : Branch
   ends = assumptions ++ split first.assumption second.assumption ∷ conclusions
 
   abbrev indices : List StepTest
-  indices = index_tests first.conclusion ++ index_tests first.assumption ++ index_tests second.conclusion ++ index_tests second.assumption
+  indices = named_tests reason
 
-  pub stops_at_first_conclusion : (e : RuleError) → StopsIn P c d (index_tests first.conclusion) e → StopsIn P c d (step_tests reason) e
-  stops_at_first_conclusion e s = stops_first P c d (index_tests first.conclusion) (index_tests first.assumption ++ index_tests second.conclusion ++ index_tests second.assumption ++ ends) e s
+  pub stops_at_index : (e : RuleError) → StopsIn P c d indices e → StopsIn P c d (step_tests reason) e
+  stops_at_index e s = stops_first P c d indices ends e s
+
+  pub stops_at_first_conclusion : (e : RuleError) → StopsIn P c d (index_tests first.conclusion) e → StopsIn P c d indices e
+  stops_at_first_conclusion e s = stops_first P c d (index_tests first.conclusion) (index_tests first.assumption ++ index_tests second.conclusion ++ index_tests second.assumption) e s
 
   module _ (p1 : PassesTestsIn P c d (index_tests first.conclusion)) where
-    pub stops_at_first_assumption : (e : RuleError) → StopsIn P c d (index_tests first.assumption) e → StopsIn P c d (step_tests reason) e
-    stops_at_first_assumption e s = stops_second P c d (index_tests first.conclusion) (index_tests first.assumption ++ index_tests second.conclusion ++ index_tests second.assumption ++ ends) e p1 (stops_first P c d (index_tests first.assumption) (index_tests second.conclusion ++ index_tests second.assumption ++ ends) e s)
+    pub stops_at_first_assumption : (e : RuleError) → StopsIn P c d (index_tests first.assumption) e → StopsIn P c d indices e
+    stops_at_first_assumption e s = stops_second P c d (index_tests first.conclusion) (index_tests first.assumption ++ index_tests second.conclusion ++ index_tests second.assumption) e p1 (stops_first P c d (index_tests first.assumption) (index_tests second.conclusion ++ index_tests second.assumption) e s)
 
     module _ (p2 : PassesTestsIn P c d (index_tests first.assumption)) where
       first_branch : PassesTestsIn P c d (index_tests first.conclusion ++ index_tests first.assumption)
       first_branch = passes_both P c d (index_tests first.conclusion) (index_tests first.assumption) p1 p2
 
-      pub stops_at_second_conclusion : (e : RuleError) → StopsIn P c d (index_tests second.conclusion) e → StopsIn P c d (step_tests reason) e
-      stops_at_second_conclusion e s = stops_second P c d (index_tests first.conclusion ++ index_tests first.assumption) (index_tests second.conclusion ++ index_tests second.assumption ++ ends) e first_branch (stops_first P c d (index_tests second.conclusion) (index_tests second.assumption ++ ends) e s)
+      pub stops_at_second_conclusion : (e : RuleError) → StopsIn P c d (index_tests second.conclusion) e → StopsIn P c d indices e
+      stops_at_second_conclusion e s = stops_second P c d (index_tests first.conclusion ++ index_tests first.assumption) (index_tests second.conclusion ++ index_tests second.assumption) e first_branch (stops_first P c d (index_tests second.conclusion) (index_tests second.assumption) e s)
 
       module _ (p3 : PassesTestsIn P c d (index_tests second.conclusion)) where
         three : PassesTestsIn P c d (index_tests first.conclusion ++ index_tests first.assumption ++ index_tests second.conclusion)
         three = passes_both P c d (index_tests first.conclusion ++ index_tests first.assumption) (index_tests second.conclusion) first_branch p3
 
-        pub stops_at_second_assumption : (e : RuleError) → StopsIn P c d (index_tests second.assumption) e → StopsIn P c d (step_tests reason) e
-        stops_at_second_assumption e s = stops_second P c d (index_tests first.conclusion ++ index_tests first.assumption ++ index_tests second.conclusion) (index_tests second.assumption ++ ends) e three (stops_first P c d (index_tests second.assumption) ends e s)
+        pub stops_at_second_assumption : (e : RuleError) → StopsIn P c d (index_tests second.assumption) e → StopsIn P c d indices e
+        stops_at_second_assumption e s = stops_second P c d (index_tests first.conclusion ++ index_tests first.assumption ++ index_tests second.conclusion) (index_tests second.assumption) e three s
 
         pub all_found : PassesTestsIn P c d (index_tests second.assumption) → PassesTestsIn P c d indices
         all_found p4 = passes_both P c d (index_tests first.conclusion ++ index_tests first.assumption ++ index_tests second.conclusion) (index_tests second.assumption) three p4

@@ -1,25 +1,27 @@
 -- What the parts of a derivation's tests say of all of them, and what is kept of it.
 use Rattle.std.proofs.Common.{◌≡◌, ℕ, ◌<◌, ◌≤◌, length, IsTrue, true, false, ◌||◌, nat_eq, ap₂}
 use Rattle.std.proofs.Common.{arith, List, [], ◌∷◌, ◌++◌, Some, None, refl, sym, ◌∙◌, ap, subst}
-use Rattle.std.proofs.Common.{inl, inr}
+use Rattle.std.proofs.Common.{inl, inr, All, append_assoc}
+use Rattle.std.proofs.lemmas.List.Elements.{All-nil, All-cons}
+use Rattle.std.proofs.lemmas.Result.{MatchResult-weaker}
 use Rattle.std.proofs.{lemmas.Bool.cases_lt, lemmas.Bool.Decides.nat_tests}
-use Rattle.std.specs.Prelude.{◌↔◌, ◌⊎◌, Result, Ok, Err, IfOk, MatchResult}
+use Rattle.std.specs.Prelude.{◌↔◌, ◌⊎◌, Result, Ok, Err, IfOk, MatchResult, flat_map}
 use Rattle.std.specs.Result.{result_and, result_unwrap_or}
 use Rattle.std.specs.FinSet.{FinSet, contains, empty, insert, contains-insert, contains-empty}
 use Rattle.std.specs.{Cmp.nat_cmp_total, Cmp.unsigned_tied, Ordering.nat_cmp}
 use Rattle.vipr_spec.specs.Constraint.{Condition, Profile, condition, sum_of, Dominates, Combines}
 use Rattle.vipr_spec.specs.Certificate.{Certificate, Derivation, Reason, asm, sol, entries, count}
-use Rattle.vipr_spec.specs.Certificate.{is_assumption, is_live}
+use Rattle.vipr_spec.specs.Certificate.{is_assumption, is_live, NamesEarlier}
 use Rattle.vipr_spec.specs.Steps.{PassesStep, with_next, RefersBack, StepTest, by_sum, step_tests}
-use Rattle.vipr_spec.specs.Steps.{step_cause, compared, IsSum}
+use Rattle.vipr_spec.specs.Steps.{step_cause, compared, IsSum, reference_tests}
 use Rattle.vipr_spec.specs.{Fraction.ℚ, Soundness.IsSound}
 use Rattle.vipr_spec.proofs.Laws.{failing_first, failing_second, one_sense, constraint_next}
 use Rattle.vipr_spec.proofs.Laws.{reason_next, last_next, rests_next, sound_given, sound_next}
-use Rattle.vipr_spec.proofs.Laws.{next_good}
+use Rattle.vipr_spec.proofs.Laws.{next_good, failing_parts}
 use Rattle.vipr_linear.specs.{Constraint.condition_of, declared.constraint.Constraint.Constraint}
 use Rattle.vipr_rules.specs.declared.error.RuleError.TheVariants.{Memory}
 use Rattle.vipr_rules.specs.Apply.{StopsIn, PassesTestsIn, ReportsTest, KeepsSound, IsRefusalIn}
-use Rattle.vipr_rules.specs.Apply.{IsNotDominated, IsRuledBy, shown_by, free_tests}
+use Rattle.vipr_rules.specs.Apply.{IsNotDominated, IsRuledBy, shown_by, free_tests, named_tests, FindsSetBy, FindsSetIn}
 use Rattle.vipr_rules.specs.{Context.IsSetByReason, declared.error.RuleError.RuleError}
 use Rattle.vipr_table.specs.{History.IsEntryOf, declared.rows.Entry.Entry}
 
@@ -152,3 +154,20 @@ keeps_sound P c d back passes s = let good = next_good P c d passes in sound_nex
     by : (i : ℕ) → (i < length c.problem.constraints) ⊎ (length c.problem.constraints ≤ i) → IsTrue (is_live c (count c) i) → IsSound c i
     by i (inl given) live = sound_given c i given
     by i (inr derived) live = s i derived live
+
+-- ---- the tests of what a reason names
+module _ (P : Profile) (c : Certificate) (d : Derivation) where
+  pub named_stops : (r : Reason) (e : RuleError) → StopsIn P c d (named_tests r) e → StopsIn P c d (step_tests r) e
+  named_stops r e s = grind (arith, failing_first, append_assoc)
+
+  entries_earlier : (es : List (ℕ × ℚ)) → PassesTestsIn P c d (flat_map reference_tests es) → All (λ e. e.0 < count c) es
+  entries_earlier [] p = All-nil (λ e. e.0 < count c)
+  entries_earlier (e ∷ es) p = let parts = failing_parts (PassesStep P c (condition d.stated)) (reference_tests e) (flat_map reference_tests es) None p in grind (arith, entries_earlier es, All-cons (λ (e : ℕ × ℚ). e.0 < count c) e es)
+
+  named_earlier : (r : Reason) → PassesTestsIn P c d (named_tests r) → NamesEarlier (count c) (Some r)
+  named_earlier r p = grind (arith, entries_earlier)
+
+  pub finds_in : (r : Reason) (x : Result (FinSet nat_cmp) RuleError) → d.reason ≡ r → FindsSetBy P c d r x → FindsSetIn P c d x
+  finds_in r x same h =
+      let found = subst (λ r. FindsSetBy P c d r x) (sym same) h in
+      (found, MatchResult-weaker x found (λ s k. named_earlier d.reason k.0) (λ e k. elim k [ inl memory ↦ inl memory | inr stops ↦ inr (refusal P c d e (named_stops d.reason e stops)) ]))

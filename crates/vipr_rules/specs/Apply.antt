@@ -1,16 +1,16 @@
 -- What `apply` answers of the derivation that comes next
-use Rattle.std.specs.Prelude.{◌≡◌, ℕ, ◌≤◌, ◌⊎◌, IsTrue, length, List, [], ◌∷◌}
-use Rattle.std.specs.Prelude.{Option, Some, None, Result, Ok, Err, IfOk, IfErr}
-use Rattle.std.specs.FinSet as set
+use Rattle.std.specs.Prelude.{◌≡◌, ℕ, ◌≤◌, ◌⊎◌, IsTrue, length, List, [], ◌∷◌, ◌++◌, flat_map}
+use Rattle.std.specs.Prelude.{Option, Some, None, Result, Ok, Err, IfOk, IfErr, MatchResult}
 use Rattle.std.specs.Ordering.{nat_cmp}
+use Rattle.std.specs.FinSet as set
 use Rattle.vipr_spec.specs.Constraint.{Profile, Condition, condition, Entry as Summand, SumOfFits}
 use Rattle.vipr_spec.specs.Constraint.{Dominates, DominatesRounded, IsWholeRow, Ints}
 use Rattle.vipr_spec.specs.Certificate.{Problem, Reason, uns, sol, Derivation, Certificate, lin}
-use Rattle.vipr_spec.specs.Certificate.{rnd, is_live, count, is_assumption}
+use Rattle.vipr_spec.specs.Certificate.{rnd, is_live, count, is_assumption, NamesEarlier}
 use Rattle.vipr_spec.specs.Steps.{PassesStep, with_next, StepTest, earlier, live, assumed, listed}
 use Rattle.vipr_spec.specs.Steps.{step_tests, RefersBack, FirstFailing, step_cause, Shows, Refuses}
 use Rattle.vipr_spec.specs.Steps.{StepDetail, index, position, sum, both, compared, nothing, by_sum}
-use Rattle.vipr_spec.specs.Steps.{roundable, by_rounding}
+use Rattle.vipr_spec.specs.Steps.{roundable, by_rounding, reference_tests}
 use Rattle.vipr_spec.specs.{Fraction.ℚ, Soundness.IsSound, Soundness.IsBestValue}
 use Rattle.vipr_spec.specs.Causes as cause
 use Rattle.vipr_linear.specs.declared.constraint.Constraint.{Constraint}
@@ -96,12 +96,17 @@ IsNotDominated computed stated e =
     ≡ Some (cause.not_dominated, compared (condition_of computed) (condition_of stated)))
     × ¬ Dominates (condition_of computed) (condition_of stated)
 
+-- the tests of what a reason names, which come first
+abbrev pub named_tests : Reason → List StepTest
+named_tests (lin es) = flat_map reference_tests es
+named_tests (rnd es) = flat_map reference_tests es
+named_tests (uns i1 l1 i2 l2) =
+    index_tests i1 ++ index_tests l1 ++ index_tests i2 ++ index_tests l2
+named_tests _ = []
+
 -- the first tests, which take no memory
 abbrev pub free_tests : Reason → List StepTest
-free_tests (uns i1 l1 i2 l2) =
-    earlier i1 ∷ live i1 ∷ earlier l1 ∷ live l1
-    ∷ earlier i2 ∷ live i2 ∷ earlier l2 ∷ live l2
-    ∷ assumed l1 ∷ assumed l2 ∷ []
+free_tests (uns i1 l1 i2 l2) = named_tests (uns i1 l1 i2 l2) ++ assumed l1 ∷ assumed l2 ∷ []
 free_tests sol = listed ∷ []
 free_tests _ = []
 
@@ -118,6 +123,22 @@ abbrev pub IsRuledIn : {S : Type 0} → (S → Table) → Context S → Constrai
     → Result (set.FinSet nat_cmp) RuleError → Type 0
 IsRuledIn table x stated r result = (P : Profile) (c : Certificate) (d : Derivation)
     → IsContextOf table P c x → condition_of stated ≡ condition d.stated → IsRuledBy P c d r result
+
+-- Of a derivation by the reason r: the tests of what it names pass, and the set is what it rests
+-- on; or one of them fails; or a growth was refused.
+abbrev pub FindsSetBy : Profile → Certificate → Derivation → Reason
+    → Result (set.FinSet nat_cmp) RuleError → Type 0
+FindsSetBy P c d r result =
+    MatchResult result (λ s. PassesTestsIn P c d (named_tests r) × IsSetByReason c r s)
+    (λ e. (e ≡ Memory) ⊎ StopsIn P c d (named_tests r) e)
+
+-- so it is of the derivation d, that comes after the certificate c: it names earlier constraints
+-- alone, or is refused
+abbrev pub FindsSetIn : Profile → Certificate → Derivation → Result (set.FinSet nat_cmp) RuleError
+    → Type 0
+FindsSetIn P c d result = FindsSetBy P c d d.reason result
+    × MatchResult result (λ _. NamesEarlier (count c) (Some d.reason))
+    (λ e. (e ≡ Memory) ⊎ IsRefusalIn P c d e)
 
 -- ---- what is computed of the entries
 

@@ -6,8 +6,8 @@ ghost use Rattle.vipr_spec.specs.Constraint.{Profile as ProfileMeant, IsSplit};
 ghost use Rattle.vipr_spec.specs.Certificate.{Certificate, Derivation, constraint_at, uns};
 ghost use Rattle.vipr_spec.specs.Steps.{assumed, split};
 ghost use Rattle.vipr_linear.specs.Constraint.{condition_of};
-ghost use Rattle.vipr_rules.specs.Context.{IsKnownAs, is_assumed};
-ghost use Rattle.vipr_rules.specs.Apply.{PassesTestsIn, StopsIn, IsRuledIn};
+ghost use Rattle.vipr_rules.specs.Context.{IsContextOf, IsKnownAs, is_assumed};
+ghost use Rattle.vipr_rules.specs.Apply.{FindsSetBy, PassesTestsIn, StopsIn, IsRuledIn};
 ghost use Rattle.vipr_rules.specs.declared.error.RuleError.TheVariants.{Memory};
 ghost use Rattle.vipr_rules.specs.{Profile.profile_of, Soundness.IsSoundUnder};
 
@@ -60,6 +60,25 @@ pub(crate) fn join_branches<S: Rows>(
         .and(check_domination(alloc, second_conclusion.constraint(), stated));
     let joined = first_conclusion.joined_without(alloc, l1, second_conclusion, l2);
     tested.and(or_memory(joined))
+}
+
+/// The assumptions that two joined branches rest on. Only their references are tested.
+pub(crate) fn assumptions_of_branches<S: Rows>(
+    alloc: Global,
+    context: &Context<S>,
+    first: Branch,
+    second: Branch,
+) -> Result<Assumptions, RuleError>
+    ensures { (P : ProfileMeant) (c : Certificate) (d : Derivation)
+        → IsContextOf S.table P c context.now → FindsSetBy P c d
+        (uns first.conclusion first.assumption second.conclusion second.assumption) result }
+{
+    let first_conclusion = context.find(first.conclusion)?;
+    context.find(first.assumption)?;
+    let second_conclusion = context.find(second.conclusion)?;
+    context.find(second.assumption)?;
+    let (l1, l2) = (first.assumption, second.assumption);
+    or_memory(first_conclusion.joined_without(alloc, l1, second_conclusion, l2))
 }
 
 fn check_assumption(index: u32, known: Known) -> Result<(), RuleError>

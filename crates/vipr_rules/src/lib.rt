@@ -19,6 +19,6 @@ pub use columns::Columns;
 pub use context::Context;
 pub use error::RuleError;
 pub use profile::Profile;
-pub use rules::{apply, apply_in, assumptions_of, take_entry};
+pub use rules::{apply, apply_in, assumptions_by_reason, assumptions_of, take_entry};
 pub use solution::{SolutionError, test_solution, test_solution_by_columns};
 pub use vipr_table::{Assumptions, Entry, KeepAll, LiveOnly, Rows};

@@ -16,20 +16,22 @@
 ghost use Rattle.std.specs.Prelude.{◌≡◌, ℕ, length, Some, IfOk, IsOk, option_copied};
 ghost use Rattle.vipr_spec.specs.Constraint.{Profile as ProfileMeant, one, Condition, Point};
 ghost use Rattle.vipr_spec.specs.Certificate.{Certificate, variables, asm};
+ghost use Rattle.vipr_spec.specs.Certificate.{Derivation as DerivationMeant};
 ghost use Rattle.vipr_spec.specs.Certificate.{is_assumption as is_assumption_by};
 ghost use Rattle.vipr_linear.specs.Constraint.{condition_of};
 ghost use Rattle.vipr_cert.specs.Items.{derivation_of, reason_of};
 ghost use Rattle.vipr_table.specs.Table.{DerivedBelow};
 ghost use Rattle.vipr_rules.specs.Soundness.{IsSoundAt, IsTrueUnder};
-ghost use Rattle.vipr_rules.specs.Apply.{IsRuledBy, Applies, entry_resting_on, answer_with_entry};
+ghost use Rattle.vipr_rules.specs.Apply.{IsRuledBy, Applies, FindsSetIn, entry_resting_on};
+ghost use Rattle.vipr_rules.specs.Apply.{answer_with_entry};
 ghost use Rattle.vipr_rules.specs.{Context.IsContextOf, Profile.profile_of};
 
-use crate::branches::{Branch, join_branches};
+use crate::branches::{Branch, assumptions_of_branches, join_branches};
 use crate::context::Context;
 use crate::cutoff::cut_off;
 use crate::error::{RuleError, or_memory};
 use crate::profile::Profile;
-use crate::sum::{Computed, combine};
+use crate::sum::{Computed, assumptions_of_sum, combine};
 use std::alloc::Global;
 use std::mem::replace;
 use vipr_cert::{Derivation, Problem, Reason};
@@ -130,6 +132,38 @@ pub fn assumptions_of<S: Rows>(
     ensures variables { length scratch.new.sums ≡ length scratch.old.sums }
 {
     test_by_rule(alloc, context, scratch, step)
+}
+
+/// The assumptions that a derivation by this reason rests on. Only its references are tested.
+///
+/// # Errors
+///
+/// The first reference that isn't earlier or isn't live.
+pub fn assumptions_by_reason<S: Rows>(
+    alloc: Global,
+    context: &Context<S>,
+    reason: &Reason,
+) -> Result<Assumptions, RuleError>
+    ensures { (P : ProfileMeant) (c : Certificate) (d : DerivationMeant)
+        → IsContextOf S.table P c context.now → d.reason ≡ reason_of reason.now
+        → FindsSetIn P c d result }
+{
+    match reason {
+        Reason::Asm => Ok(Assumptions::single(alloc, context.rows.next())?),
+        Reason::Lin(entries) | Reason::Rnd(entries) => assumptions_of_sum(alloc, context, entries),
+        Reason::Uns { i1, l1, i2, l2 } => {
+            let first = Branch {
+                conclusion: *i1,
+                assumption: *l1,
+            };
+            let second = Branch {
+                conclusion: *i2,
+                assumption: *l2,
+            };
+            assumptions_of_branches(alloc, context, first, second)
+        }
+        Reason::Sol => Ok(Assumptions::empty(alloc)),
+    }
 }
 
 /// What is kept of a derivation that rests on these assumptions. Its constraint is moved out of it.

@@ -6,7 +6,7 @@ ghost use Rattle.std.specs.Prelude.{MatchOption, MatchResult};
 ghost use Rattle.std.specs.FinSet as set;
 ghost use Rattle.vipr_spec.specs.Constraint.{Profile, Entry as Summand, at, condition, NamesBelow};
 ghost use Rattle.vipr_spec.specs.Constraint.{IsWholeRow, DominatesRounded};
-ghost use Rattle.vipr_spec.specs.Certificate.{Certificate, Derivation, variables};
+ghost use Rattle.vipr_spec.specs.Certificate.{Certificate, Derivation, lin, variables};
 ghost use Rattle.vipr_spec.specs.Steps.{reference_tests, sum_tests, roundable, by_rounding, IsSum};
 ghost use Rattle.vipr_spec.specs.{Fraction.ℚ, Reading.is_nonzero};
 ghost use Rattle.vipr_linear.specs.Accumulator.{Holds, held_condition};
@@ -17,7 +17,7 @@ ghost use Rattle.vipr_rules.specs.Context.{IsContextOf, IsKnownAs, IsSetOfAll, r
 ghost use Rattle.vipr_rules.specs.Context.{set_found};
 ghost use Rattle.vipr_rules.specs.Soundness.{IsSoundUnder};
 ghost use Rattle.vipr_rules.specs.Apply.{PassesTestsIn, StopsIn, SumStops, IsRuledIn};
-ghost use Rattle.vipr_rules.specs.Apply.{DominatesBy, computed_tests, reason_by};
+ghost use Rattle.vipr_rules.specs.Apply.{DominatesBy, FindsSetBy, computed_tests, reason_by};
 ghost use Rattle.vipr_rules.specs.declared.error.RuleError.TheVariants.{Memory};
 
 use crate::context::{Context, Known};
@@ -70,6 +70,25 @@ pub(crate) fn combine<S: Rows>(
             Err(error)
         }
     }
+}
+
+/// The assumptions that a sum of these entries rests on. Only its references are tested.
+pub(crate) fn assumptions_of_sum<S: Rows>(
+    alloc: Global,
+    context: &Context<S>,
+    entries: &[(u32, Frac)],
+) -> Result<Assumptions, RuleError>
+    ensures { (P : Profile) (c : Certificate) (d : Derivation)
+        → IsContextOf S.table P c context.now → FindsSetBy P c d (lin entries.now) result }
+{
+    let mut assumptions = Union::new(alloc);
+    for entry in entries {
+        let Some(used) = find_used(context, entry)? else {
+            continue;
+        };
+        join(alloc, used, entry.0, entries.len(), &mut assumptions)?;
+    }
+    or_memory(assumptions.finish(alloc))
 }
 
 // Tests that the sum, or its rounding, dominates the stated constraint. The sum becomes a

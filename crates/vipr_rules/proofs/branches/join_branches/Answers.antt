@@ -7,7 +7,7 @@ use Rattle.vipr_rules.specs.{Context.IsSetByReason, Profile.profile_of}
 use Rattle.vipr_rules.proofs.BranchLemmas.{constraint_tested, joined_set, all_found, branches_ruled}
 use Rattle.vipr_rules.proofs.BranchLemmas.{stops_at_first_conclusion, stops_at_first_assumption}
 use Rattle.vipr_rules.proofs.BranchLemmas.{stops_at_second_conclusion, stops_at_second_assumption}
-use Rattle.vipr_rules.proofs.BranchLemmas.{follows_if_all}
+use Rattle.vipr_rules.proofs.BranchLemmas.{follows_if_all, stops_at_index}
 use Rattle.vipr_rules.proofs.StepLemmas.{found_or_memory, found_if_ok}
 use Rattle.vipr_rules.proofs.SoundLemmas.{branches_true}
 use Rattle.vipr_rules.proofs.branches.join_branches.Goals as goal
@@ -15,24 +15,24 @@ use Rattle.vipr_rules.proofs.branches.join_branches.Goals as goal
 pub returns-in_err-first_conclusion-clause-ruled : goal.returns-in_err-first_conclusion-clause-ruled
 returns-in_err-first_conclusion-clause-ruled g c = λ P d e is says.
     let p = err_from_is_err_and c.from_residual.result c.from_residual.ensures.1 in
-    rw (p.1, p.2) (inr (stops_at_first_conclusion P d e c.args.first c.args.second _ (c.in_err-first_conclusion.ensures.known P d e is)))
+    rw (p.1, p.2) (inr (stops_at_index P d e c.args.first c.args.second _ (stops_at_first_conclusion P d e c.args.first c.args.second _ (c.in_err-first_conclusion.ensures.known P d e is))))
 
 pub returns-in_err-first_assumption-clause-ruled : goal.returns-in_err-first_assumption-clause-ruled
 returns-in_err-first_assumption-clause-ruled g c = λ P d e is says.
     let p = err_from_is_err_and c.from_residual-in_err-first_assumption.result c.from_residual-in_err-first_assumption.ensures.1 in
-    rw (p.1, p.2) (inr (stops_at_first_assumption P d e c.args.first c.args.second (c.in_ok-first_conclusion.ensures.known P d e is).0 _ (c.in_err-first_assumption.ensures.known P d e is)))
+    rw (p.1, p.2) (inr (stops_at_index P d e c.args.first c.args.second _ (stops_at_first_assumption P d e c.args.first c.args.second (c.in_ok-first_conclusion.ensures.known P d e is).0 _ (c.in_err-first_assumption.ensures.known P d e is))))
 
 pub returns-in_err-second_conclusion-clause-ruled :
     goal.returns-in_err-second_conclusion-clause-ruled
 returns-in_err-second_conclusion-clause-ruled g c = λ P d e is says.
     let p = err_from_is_err_and c.from_residual-in_err-second_conclusion.result c.from_residual-in_err-second_conclusion.ensures.1 in
-    rw (p.1, p.2) (inr (stops_at_second_conclusion P d e c.args.first c.args.second (c.in_ok-first_conclusion.ensures.known P d e is).0 (c.in_ok-first_assumption.ensures.known P d e is).0 _ (c.in_err-second_conclusion.ensures.known P d e is)))
+    rw (p.1, p.2) (inr (stops_at_index P d e c.args.first c.args.second _ (stops_at_second_conclusion P d e c.args.first c.args.second (c.in_ok-first_conclusion.ensures.known P d e is).0 (c.in_ok-first_assumption.ensures.known P d e is).0 _ (c.in_err-second_conclusion.ensures.known P d e is))))
 
 pub returns-in_err-second_assumption-clause-ruled :
     goal.returns-in_err-second_assumption-clause-ruled
 returns-in_err-second_assumption-clause-ruled g c = λ P d e is says.
     let p = err_from_is_err_and c.from_residual-in_err-second_assumption.result c.from_residual-in_err-second_assumption.ensures.1 in
-    rw (p.1, p.2) (inr (stops_at_second_assumption P d e c.args.first c.args.second (c.in_ok-first_conclusion.ensures.known P d e is).0 (c.in_ok-first_assumption.ensures.known P d e is).0 (c.in_ok-second_conclusion.ensures.known P d e is).0 _ (c.in_err-second_assumption.ensures.known P d e is)))
+    rw (p.1, p.2) (inr (stops_at_index P d e c.args.first c.args.second _ (stops_at_second_assumption P d e c.args.first c.args.second (c.in_ok-first_conclusion.ensures.known P d e is).0 (c.in_ok-first_assumption.ensures.known P d e is).0 (c.in_ok-second_conclusion.ensures.known P d e is).0 _ (c.in_err-second_assumption.ensures.known P d e is))))
 
 pub returns-clause-ruled : goal.returns-clause-ruled
 returns-clause-ruled g c = λ P d e is says.
