@@ -121,7 +121,8 @@ pub(crate) fn line_at(text: &[u8], offset: u64) -> u64
     feeds_in(first(text, offset)).saturating_add(1)
 }
 
-// How many line feeds bytes have, which are counted in blocks: LLVM makes vectors of them.
+// How many line feeds bytes have. They are counted in blocks, for which the compiler uses vector
+// instructions.
 fn feeds_in(bytes: &[u8]) -> u64
     ensures { result ≡ feeds_in bytes.now }
 {
@@ -135,7 +136,7 @@ fn feeds_in(bytes: &[u8]) -> u64
     count
 }
 
-// The same of so few bytes that a `u8` counts them.
+// How many line feeds a block has: at most 255, so that a `u8` can count them.
 fn few_feeds(block: &[u8]) -> u8
     requires { length block.now ≤ 255 }
     ensures { result ≡ feeds_in block.now }

@@ -424,9 +424,9 @@ fn is_nearer(near: &Near, other: &Near) -> bool
 }
 
 impl Near {
-    // What constraints are compared by, of which the nearest one has most: whether it is strong
-    // enough; if it isn't, how far it misses the goal, of which less is more, and none least;
-    // whether it rests on no assumption; and its index.
+    // What constraints are compared by: whether it is strong enough; if it isn't, how far it misses
+    // the goal; whether it rests on no assumption; and its index. The nearest one has the greatest
+    // key: less to miss makes it greater, and no known gap makes it smallest.
     fn key(&self) -> (bool, Option<Reverse<Frac>>, bool, u32)
         ensures strong { result.0 ≡ self.now.is_strong }
         ensures gap { option_map (λ gap. gap.0) result.1 ≡ gap_left self.now }
