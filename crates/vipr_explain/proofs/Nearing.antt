@@ -1,32 +1,33 @@
 -- The search for the constraints that come nearest to a claim, one constraint after another
 use Rattle.std.proofs.Common.{◌≡◌, ℕ, zero, suc, ◌+◌, ◌<◌, Bool, List, []}
 use Rattle.std.proofs.Common.{◌∷◌, ◌++◌, length, map, get_or, take, Option, None, Some, refl, sym, ap}
-use Rattle.std.proofs.Common.{◌∙◌, append_assoc, subst, arith, IsTrue}
-use Rattle.std.specs.Prelude.{◌↔◌, ◌≢◌, option_and_then, option_map, Ok, insert, if◌then◌else◌}
+use Rattle.std.proofs.Common.{◌∙◌, append_assoc, subst, arith, IsTrue, inl, inr}
+use Rattle.std.specs.Prelude.{◌↔◌, ◌≢◌, ◌⊎◌, option_and_then, option_map, Ok, Err, insert, if◌then◌else◌}
 use Rattle.std.specs.FinSet.{FinSet, contains, contains-empty, same_set, nat_cmp-IsAntisymmetric}
 use Rattle.std.specs.{Cmp.nat_cmp_total, List.position_or_len, Ordering.nat_cmp}
 use Rattle.std.specs.FinSet as set
 use Rattle.std.proofs.lemmas.List.{get_or_append_left, get_or-map, length-map, take-take}
-use Rattle.vipr_spec.specs.Constraint.{Constraint as Meant, Condition, condition, NamesBelow}
+use Rattle.vipr_spec.specs.Constraint.{Constraint as Meant, Condition, condition, NamesBelow, Profile}
 use Rattle.vipr_spec.specs.Certificate.{Problem, Derivation, Certificate, count, constraint_at}
 use Rattle.vipr_spec.specs.Certificate.{Named as Given, variables, reason_at, sol, RestsOn}
 use Rattle.vipr_spec.specs.Certificate.{RestsOnNothing, NamesEarlier}
 use Rattle.vipr_spec.specs.Reading.{Rest, derivation_read, end_read}
-use Rattle.vipr_spec.specs.Steps.{with_more, with_next, RefersBack}
+use Rattle.vipr_spec.specs.Steps.{with_more, with_next, RefersBack, Refuses, StepDetail}
+use Rattle.vipr_spec.specs.Steps.{FirstFailing, PassesStep}
 use Rattle.vipr_spec.proofs.Laws.{constraint_before, constraint_next, constraints_listed, count_next}
 use Rattle.vipr_spec.proofs.Laws.{last_next, reason_before, reason_given, reason_next}
-use Rattle.vipr_spec.proofs.Laws.{reason_past, rests_more}
+use Rattle.vipr_spec.proofs.Laws.{reason_past, rests_more, rests_next}
 use Rattle.vipr_scan.specs.declared.error.TextError.{TextError}
 use Rattle.vipr_read.specs.Items.{Items as Reader, HasEnded, Moves, NextItem}
 use Rattle.vipr_linear.specs.Constraint.{condition_of, constraint_of}
 use Rattle.vipr_linear.specs.declared.constraint.Constraint.{Constraint}
-use Rattle.vipr_cert.specs.Items.{derivation_of, named_of, reason_of}
 use Rattle.vipr_cert.specs.declared.items.Derivation.{Derivation as Step}
-use Rattle.vipr_cert.specs.{declared.items.Named.Named, declared.items.Reason.Reason}
-use Rattle.vipr_cert.specs.declared.items.Reason.TheVariants as by
+use Rattle.vipr_cert.specs.{Items.derivation_of, Items.named_of, declared.items.Named.Named}
 use Rattle.vipr_table.specs.{Table.step, declared.rows.Entry.Entry}
 use Rattle.vipr_table.proofs.Laws.{DerivedBelow-step, IsTableOf-step}
-use Rattle.vipr_rules.specs.{Apply.entry_resting_on}
+use Rattle.vipr_rules.specs.Apply.{FindsSetIn, entry_resting_on, named_tests}
+use Rattle.vipr_rules.specs.declared.error.RuleError.{RuleError}
+use Rattle.vipr_rules.specs.declared.error.RuleError.TheVariants.{Memory}
 use Rattle.vipr_explain.specs.Found.{AreDerivationsRead, Missed, head_read, rest_in}
 use Rattle.vipr_explain.specs.Near.{HasNoStep, HasPassedAll, IsNextEntry, IsStepAt, KeepsNearest}
 use Rattle.vipr_explain.specs.Near.{LacksGoal, SearchesTo, join_of, passed_to, without_solutions}
@@ -115,10 +116,19 @@ passed_next s p ds d e old new target rows scratch names next keeps so_far =
           (ap (option_and_then join_of) (reason_before now more (count c) l ∙ reason_next c d)) (rw append_assoc (so_far.kept (d ∷ more))));
     }
 
--- what a solution cuts off
-pub kept_by_solution : (c : Certificate) (step' : Step) → reason_of step'.reason ≡ sol → RefersBack c
-    → IsNextEntry c (derivation_of step') (entry_resting_on step' set.empty)
-kept_by_solution c step' by back = grind (arith, constraint_next, contains-empty, reason_next, last_next)
+-- it is kept with what it rests on
+pub kept_next : (P : Profile) (c : Certificate) (step' : Step) (s : FinSet nat_cmp) → RefersBack c
+    → FindsSetIn P c (derivation_of step') (Ok s)
+    → IsNextEntry c (derivation_of step') (entry_resting_on step' s)
+kept_next P c step' s back found = grind (arith, constraint_next, rests_next, reason_next, last_next)
+
+-- what a solution cuts off names nothing
+pub refused_next : (P : Profile) (c : Certificate) (d : Derivation) (e : RuleError)
+    → FindsSetIn P c d (Err e)
+    → (e ≡ Memory) ⊎ ((d.reason ≢ sol) × (n : ℕ) × (x : StepDetail) × Refuses P c d n x)
+refused_next P c d e (inl memory, refused) = inl memory
+refused_next P c d e (inr stops, inl memory) = inl memory
+refused_next P c d e (inr stops, inr refused) = inr (λ is. let none = subst (λ r. FirstFailing (PassesStep P c (condition d.stated)) (named_tests r) (Some stops.0)) is stops.1 in absurd (cc), refused.0, refused.1, refused.3)
 
 -- ---- up to the derivation of a constraint
 
@@ -149,6 +159,3 @@ no_step s p k r search h none =
     let next = h.1.known.replayed.rows.next in
     let reach = h.2 in
     rw h.1.behind.counted (grind arith)
-
-pub not_by_solution : (r : Reason) → r ≢ by.Sol → reason_of r ≢ sol
-not_by_solution r h e = grind arith

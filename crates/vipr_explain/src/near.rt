@@ -31,7 +31,9 @@ use vipr_frac::Frac;
 use vipr_linear::{Constraint, Sense};
 use vipr_page::size_of;
 use vipr_read::Derivations;
-use vipr_rules::{Assumptions, Entry, Rows, RuleError, Target, apply_in, take_entry};
+use vipr_rules::{
+    Assumptions, Context, Entry, Rows, RuleError, Target, assumptions_by_reason, take_entry,
+};
 use vipr_scan::TextError;
 
 /// How many constraints are shown.
@@ -236,37 +238,28 @@ impl NearSearch {
 }
 
 impl Replay {
-    // What is kept of the next derivation, by the rule of its reason. What a solution cuts off
-    // rests on no assumption, whichever solution is the best.
-    fn next_entry(
-        &mut self,
+    // What is kept of the next derivation. The check has tested it by its rule, so only its
+    // references are tested again.
+    fn next_entry<'a>(
+        &'a self,
         subject: Subject<'_>,
-        problem: &Problem,
+        problem: &'a Problem,
         step: &mut Derivation,
     ) -> Reread<Entry>
-        requires { (ds : List Meant) × HasReplayed problem.now ds self.old }
-        ensures rows { self.new.rows ≡ self.old.rows }
-        ensures scratch { length self.new.scratch.sums ≡ length self.old.scratch.sums }
-        ensures next { (ds : List Meant) → HasReplayed problem.now ds self.old → IfOk result
+        ensures next { (ds : List Meant) → HasReplayed problem.now ds self.now → IfOk result
             (IsNextEntry (without_solutions problem.now ds) (derivation_of step.old)) }
-        ensures missing { (ds : List Meant) → HasReplayed problem.now ds self.old
+        ensures missing { (ds : List Meant) → HasReplayed problem.now ds self.now
             → IfErr result (IsRefusedNext subject.entry (without_solutions problem.now ds)
             (derivation_of step.old)) }
     {
-        if let Reason::Sol = step.reason {
-            return Ok(take_entry(subject.alloc, step, Assumptions::empty(subject.alloc)));
-        }
-        let kept = apply_in(
-            subject.alloc,
-            subject.profile,
+        let context = Context {
+            profile: subject.profile,
             problem,
-            None,
-            &self.rows,
-            &mut self.scratch,
-            step,
-        );
-        match kept {
-            Ok(entry) => Ok(entry),
+            best: None,
+            rows: &self.rows,
+        };
+        match assumptions_by_reason(subject.alloc, &context, &step.reason) {
+            Ok(assumptions) => Ok(take_entry(subject.alloc, step, assumptions)),
             Err(error) => Err(missing_by(error)),
         }
     }

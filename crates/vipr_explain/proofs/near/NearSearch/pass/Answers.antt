@@ -15,6 +15,5 @@ returns-in-Ok-clause-passed c = λ ds so_far.
     let rest = c.keep.ensures.rest in
     let here : c.next-index.result ≡ count (without_solutions p ds) = c.next-index.ensures ∙ so_far.replayed.rows.next in
     on_ok c.place.result _ _ (λ placed. passed_next c.args.subject p ds d e c.args.self.now _ rest.0
-    (placed ∙ ap (λ r. step r.rows e) rest.1 ∙ ap (λ r. step r e) c.next_entry.ensures.rows)
-    (ap (λ r. length r.scratch.sums) rest.1 ∙ c.next_entry.ensures.scratch) c.requires.names
+    (placed ∙ ap (λ r. step r.rows e) rest.1) (ap (λ r. length r.scratch.sums) rest.1) c.requires.names
     next (rw (here, c.join_of-join.ensures) at c.in-Ok.ensures.kept) so_far) c.place.ensures.placed
