@@ -57,8 +57,6 @@ SCRIPTS = [
 ]
 # what isn't run there: this script, what makes a page of its output, and modules of the others
 OTHERS = {'all', 'damage', 'gate', 'literals', 'many_files', 'mps_changes', 'page_facts', 'page_hints', 'page_lines', 'page_model', 'page_texts', 'sources', 'statement', 'texts', 'toolchain', 'wrong_rules'}
-# what one proof takes at most, in kB
-MEMORY = 4_000_000
 TICKS = os.sysconf('SC_CLK_TCK')
 SECONDS_BETWEEN = 1
 
@@ -143,14 +141,6 @@ def ci_words():
     return [RT, 'ci', *(word for word in sys.argv[1:] if word in said.stdout + said.stderr)]
 
 
-def prove_singly():
-    """Has each crate proved by one process, if there is memory for one on each processor: several take more time in all."""
-    free = re.search(r'^MemAvailable:\s+(\d+)', Path('/proc/meminfo').read_text(), re.M)
-    processors = len(os.sched_getaffinity(0))
-    if free and int(free[1]) >= processors * MEMORY:
-        os.environ.setdefault('RT_JOBS', str(processors))
-
-
 def spent():
     usage = resource.getrusage(resource.RUSAGE_CHILDREN)
     return usage.ru_utime + usage.ru_stime
@@ -176,7 +166,6 @@ def main():
         print(kit.missing())
         return 2
     print(*machine(), sep='\n', flush=True)
-    prove_singly()
     with Watch() as watch:
         last, status, skipped = timed(ci_words())
     print(*watch.lines(), sep='\n', flush=True)
