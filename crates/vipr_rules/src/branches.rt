@@ -28,6 +28,18 @@ pub(crate) struct Branch {
     pub(crate) assumption: u32,
 }
 
+impl Branch {
+    /// The branch of these two constraints.
+    pub(crate) fn of(conclusion: u32, assumption: u32) -> Branch
+        ensures { result ≡ record { conclusion = conclusion; assumption = assumption } }
+    {
+        Branch {
+            conclusion,
+            assumption,
+        }
+    }
+}
+
 /// Tests a derivation by `uns`, and gives the assumptions that it rests on.
 pub(crate) fn join_branches<S: Rows>(
     alloc: Global,

@@ -15,7 +15,7 @@
 
 ghost use Rattle.std.specs.Prelude.{◌≡◌, ℕ, length, Some, IfOk, IsOk, option_copied};
 ghost use Rattle.vipr_spec.specs.Constraint.{Profile as ProfileMeant, one, Condition, Point};
-ghost use Rattle.vipr_spec.specs.Certificate.{Certificate, variables, asm};
+ghost use Rattle.vipr_spec.specs.Certificate.{Certificate, variables, asm, sol};
 ghost use Rattle.vipr_spec.specs.Certificate.{Derivation as DerivationMeant};
 ghost use Rattle.vipr_spec.specs.Certificate.{is_assumption as is_assumption_by};
 ghost use Rattle.vipr_linear.specs.Constraint.{condition_of};
@@ -138,28 +138,24 @@ pub fn assumptions_of<S: Rows>(
 ///
 /// # Errors
 ///
-/// The first reference that isn't earlier or isn't live.
+/// The first reference that isn't earlier or isn't live, or `RuleError::Memory` if a growth is
+/// refused. `asm` and `sol` name nothing and want no memory, so they give none.
 pub fn assumptions_by_reason<S: Rows>(
     alloc: Global,
     context: &Context<S>,
     reason: &Reason,
 ) -> Result<Assumptions, RuleError>
-    ensures { (P : ProfileMeant) (c : Certificate) (d : DerivationMeant)
+    ensures found { (P : ProfileMeant) (c : Certificate) (d : DerivationMeant)
         → IsContextOf S.table P c context.now → d.reason ≡ reason_of reason.now
         → FindsSetIn P c d result }
+    ensures assumed { reason_of reason.now ≡ asm → IsOk result }
+    ensures cut { reason_of reason.now ≡ sol → IsOk result }
 {
     match reason {
         Reason::Asm => Ok(Assumptions::single(alloc, context.rows.next())?),
         Reason::Lin(entries) | Reason::Rnd(entries) => assumptions_of_sum(alloc, context, entries),
         Reason::Uns { i1, l1, i2, l2 } => {
-            let first = Branch {
-                conclusion: *i1,
-                assumption: *l1,
-            };
-            let second = Branch {
-                conclusion: *i2,
-                assumption: *l2,
-            };
+            let (first, second) = (Branch::of(*i1, *l1), Branch::of(*i2, *l2));
             assumptions_of_branches(alloc, context, first, second)
         }
         Reason::Sol => Ok(Assumptions::empty(alloc)),
@@ -217,14 +213,7 @@ fn test_by_rule<S: Rows>(
             combine(alloc, context, scratch, stated, entries, Computed::Rounding)
         }
         Reason::Uns { i1, l1, i2, l2 } => {
-            let first = Branch {
-                conclusion: *i1,
-                assumption: *l1,
-            };
-            let second = Branch {
-                conclusion: *i2,
-                assumption: *l2,
-            };
+            let (first, second) = (Branch::of(*i1, *l1), Branch::of(*i2, *l2));
             join_branches(alloc, context, stated, first, second)
         }
         Reason::Sol => cut_off(alloc, context, stated),

@@ -1,10 +1,10 @@
-use Rattle.std.proofs.Common.{sym, ap, subst, ◌∙◌, refl}
+use Rattle.std.proofs.Common.{sym, ap, ap₂, subst, ◌∙◌, refl}
 use Rattle.std.proofs.lemmas.Result.{IfOk-weaker}
 use Rattle.std.specs.{FinSet.empty, FinSet.insert, FinSet.contains, Prelude.IsTrue}
 use Rattle.vipr_spec.specs.Constraint.{IsTrueAt}
-use Rattle.vipr_spec.specs.Certificate.{variables, asm, lin, rnd, count}
+use Rattle.vipr_spec.specs.Certificate.{variables, asm, lin, rnd, uns, count}
 use Rattle.vipr_cert.specs.Items.{reason_of, derivation_of}
-use Rattle.vipr_rules.specs.{Apply.IsRuledBy, Context.IsSetByReason}
+use Rattle.vipr_rules.specs.{Apply.IsRuledBy, Context.IsSetByReason, declared.branches.Branch.Branch}
 use Rattle.vipr_rules.proofs.StepLemmas.{own_set, found_or_memory, found_if_ok, assumption_ruled}
 use Rattle.vipr_rules.proofs.rules.test_by_rule.Goals as goal
 
@@ -33,7 +33,8 @@ returns-in-Rnd-clause-ruled g c = λ P d is.
 
 pub returns-in-Uns-clause-ruled : goal.returns-in-Uns-clause-ruled
 returns-in-Uns-clause-ruled g c = λ P d is.
-    subst (λ r. IsRuledBy P d (derivation_of c.args.step.now) r c.join_branches.result) (sym (ap reason_of c.in-Uns.is)) (c.join_branches.ensures.ruled P d (derivation_of c.args.step.now) is refl)
+    let by = ap reason_of c.in-Uns.is ∙ ap₂ (λ (a b : Branch). uns a.conclusion a.assumption b.conclusion b.assumption) (sym c.of-first.ensures) (sym c.of-second.ensures) in
+    subst (λ r. IsRuledBy P d (derivation_of c.args.step.now) r c.join_branches.result) (sym by) (c.join_branches.ensures.ruled P d (derivation_of c.args.step.now) is refl)
 
 pub returns-in-Sol-clause-ruled : goal.returns-in-Sol-clause-ruled
 returns-in-Sol-clause-ruled g c = λ P d is.

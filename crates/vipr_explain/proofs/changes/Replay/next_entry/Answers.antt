@@ -9,7 +9,7 @@ pub returns-in-Ok-clause-next : goal.returns-in-Ok-clause-next
 returns-in-Ok-clause-next c = λ ds so_far.
     let P = profile_of c.args.subject.profile in
     let cert = without_solutions c.args.problem.now ds in
-    let found = c.in-Ok.ensures P cert (derivation_of c.args.step.now) (record { profile = refl; problem = refl; rows = so_far.rows; best = refl }) refl in
+    let found = c.in-Ok.ensures.found P cert (derivation_of c.args.step.now) (record { profile = refl; problem = refl; rows = so_far.rows; best = refl }) refl in
     rw c.take_entry.ensures.kept (kept_next P cert c.args.step.now c.in-Ok.assumptions so_far.back found)
 
 pub returns-in-Err-clause-missing : goal.returns-in-Err-clause-missing
@@ -17,7 +17,7 @@ returns-in-Err-clause-missing c = λ ds so_far.
     let P = profile_of c.args.subject.profile in
     let cert = without_solutions c.args.problem.now ds in
     let d = derivation_of c.args.step.now in
-    elim (refused_next P cert d c.in-Err.error (c.in-Err.ensures P cert d (record { profile = refl; problem = refl; rows = so_far.rows; best = refl }) refl)) [
+    elim (refused_next P cert d c.in-Err.error (c.in-Err.ensures.found P cert d (record { profile = refl; problem = refl; rows = so_far.rows; best = refl }) refl)) [
       | inl memory ↦ rw (c.missing_by.ensures.1 memory) tt
       | inr refused ↦ because_of c.missing_by.result _ refused
     ]
