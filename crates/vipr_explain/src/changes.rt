@@ -59,7 +59,7 @@ impl Change {
                     write_entry(page, known, entries, position, index, multiplier);
                 }
             }
-            Change::Join(Join { i1, l1, i2, l2 }) => write!(page, "`uns {i1} {l1} {i2} {l2}`"),
+            Change::Join(join) => write!(page, "{join}"),
             Change::Word => {
                 let (other, word) = (other_word(reason), reason.word());
                 write!(page, "`{other}` in place of `{word}`");
@@ -74,14 +74,6 @@ impl Change {
             Change::Entry(_, _, multiplier) if is_multiplier => write!(page, "{multiplier}"),
             Change::Entry(_, index, _) => write!(page, "{index}"),
             _ => page.put(other_word(reason)),
-        }
-    }
-
-    /// The position and the constraint of an entry.
-    pub(crate) fn entry(&self) -> Option<(usize, u32)> {
-        match *self {
-            Change::Entry(position, index, _) => Some((position, index)),
-            _ => None,
         }
     }
 }
@@ -199,25 +191,19 @@ impl Replay {
             rows: &self.rows,
             step,
         };
-        let candidates = Candidates::find(sum, &mut self.scratch)?;
-        let changes = try_all(sum, &mut self.scratch, &candidates);
-        drop(candidates);
-        changes
+        try_all(sum, &mut self.scratch)
     }
 }
 
 // Tries changes of each kind.
-fn try_all(
-    sum: Sum<'_>,
-    scratch: &mut Combination,
-    candidates: &Candidates,
-) -> Result<Changes, AllocError>
+fn try_all(sum: Sum<'_>, scratch: &mut Combination) -> Result<Changes, AllocError>
     requires below { DerivedBelow (variables sum.problem.now) sum.rows.now }
     requires scratch { length scratch.old.sums ≡ variables sum.problem.now }
     ensures { (ds : List DerivationMeant) → let c = without_solutions sum.entry.problem.now ds in
         IsTableOf c sum.entry.rows.now → RefersBack c → IfOk result (FollowEach
         (profile_of sum.entry.subject.profile) c (derivation_of sum.entry.step.now)) }
 {
+    let candidates = Candidates::find(sum, scratch)?;
     let multiplier = first_that_follows(sum, scratch, &candidates.multipliers)?;
     let exchange = first_that_follows(sum, scratch, &candidates.exchanges)?;
     let addition = first_that_follows(sum, scratch, &candidates.additions)?;
@@ -242,9 +228,11 @@ fn first_that_follows(
         IsTableOf c sum.entry.rows.now → RefersBack c → IfOk result (λ found. IfSome found
         (FollowsWith (profile_of sum.entry.subject.profile) c (derivation_of sum.entry.step.now))) }
 {
-    for known in candidates.0.as_slice() {
-        if follows(sum, scratch, &known.1)? {
-            return Ok(Some(known.1));
+    for known in &candidates.0 {
+        if let Some(change) = known.1 {
+            if follows(sum, scratch, &change)? {
+                return Ok(Some(change));
+            }
         }
     }
     Ok(None)

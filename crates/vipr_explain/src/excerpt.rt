@@ -205,10 +205,11 @@ fn write_copies(page: &mut Page, text: &str, count: usize, behind: &str) {
 
 // How many columns bytes take on a page.
 fn width_of_all(bytes: &[u8]) -> usize {
-    bytes.iter().fold(
-        0,
-        |width: usize, byte| width.saturating_add(width_of(*byte)),
-    )
+    let mut width: usize = 0;
+    for byte in bytes {
+        width = width.saturating_add(width_of(*byte));
+    }
+    width
 }
 
 // How many columns a byte takes on a page.

@@ -59,9 +59,10 @@ impl<'a> ProvedGoal<'a> {
     // Writes it.
     fn write(&self, page: &mut Page) {
         let given = self.known.problem.cons().get(self.index as usize);
-        let constraint = match &self.step {
-            Some(step) => Some(&step.constraint),
-            None => given.map(|named| &named.item),
+        let constraint = match (&self.step, given) {
+            (Some(step), _) => Some(&step.constraint),
+            (None, Some(named)) => Some(&named.item),
+            (None, None) => None,
         };
         page.put("  goal   ");
         self.known.write_constraint(page, self.index, constraint);
@@ -89,10 +90,9 @@ impl<'a> ProvedClaim<'a> {
         let claim = &report.claim;
         write!(page, "proved: {claim}\n");
         if let Claim::Range(lower, upper) = *claim {
-            for bound in [lower, upper.filter(|upper| Some(*upper) != lower)] {
-                if let Some(bound) = bound.filter(|bound| !bound.is_whole()) {
-                    write!(page, "  {bound} is about {}\n", About(bound));
-                }
+            write_about(page, lower);
+            if upper != lower {
+                write_about(page, upper);
             }
         }
         match &self.goal {
@@ -103,6 +103,16 @@ impl<'a> ProvedClaim<'a> {
             page.put("  primal ");
             self.values.write_best(page);
         }
+    }
+}
+
+// Writes about what a bound is, if it isn't whole.
+fn write_about(page: &mut Page, bound: Option<Frac>) {
+    match bound {
+        Some(bound) if !bound.is_whole() => {
+            write!(page, "  {bound} is about {}\n", About(bound));
+        }
+        _ => {}
     }
 }
 
@@ -155,8 +165,10 @@ impl<'a> UnprovedClaim<'a> {
 
     // Whether a constraint has the other sense than what is wanted.
     fn is_turned(&self, near: &Near) -> bool {
-        self.bound()
-            .is_some_and(|bound| is_turned(near.constraint.sense, bound.sense))
+        match self.bound() {
+            Some(bound) => is_turned(near.constraint.sense, bound.sense),
+            None => false,
+        }
     }
 
     // Whether a constraint's right-hand side is rounded when it is compared.
@@ -201,56 +213,65 @@ fn near_names(subject: Subject<'_>, near: &[Near]) -> Result<Marks, AllocError>
     find_names(subject, wanted.as_slice())
 }
 
-// Writes what to do, by what was found.
+// Writes what to do, by the first of the nearest constraints that has an advice. Those that are
+// strong enough come first, then those that miss the bound by less, then those that are turned.
 fn write_advice(page: &mut Page, known: &UnprovedClaim<'_>) {
     let problem = &known.known.problem;
     let near = &known.search.near;
-    let strong = near.iter().find(|near| near.is_strong);
-    let weak = near.iter().find(|near| near.is_free && near.gap.is_some());
-    let turned = near
-        .iter()
-        .find(|near| near.is_free && known.is_turned(near));
-    page.put(match (known.bound(), strong, weak, turned) {
-        _ if is_exchanged(problem.claim()) => {
-            "the lower bound of the claim is above the upper one: are they exchanged?"
-        }
-        (_, Some(strong), ..) => {
-            write_left(page, &known.search, strong);
+    if is_exchanged(problem.claim()) {
+        page.put("the lower bound of the claim is above the upper one: are they exchanged?");
+        return;
+    }
+    for near in near {
+        if near.is_strong {
+            write_left(page, &known.search, near);
             return;
         }
-        (Some(bound), _, Some(weak), _) => {
-            let index = weak.index;
-            if weak.constraint.rhs == bound.rhs.neg() {
-                write!(page, "[{index}] has this bound with the other sign: ");
-                page.put("is the sign in the claim wrong?");
-            } else {
-                write!(page, "is more claimed behind RTP than [{index}] says, ");
-                page.put("or is a constant of the objective in the claim? The format has none");
+        if let (true, Some(bound)) = (near.is_free, known.bound()) {
+            if near.gap.is_some() {
+                write_weak(page, near, bound);
+                return;
             }
-            return;
+            if known.is_turned(near) && !bound.row.is_empty() {
+                write_turned(page, near.index, problem.sense());
+                return;
+            }
         }
-        (Some(bound), .., Some(turned)) if !bound.row.is_empty() => {
-            let index = turned.index;
-            let other = match problem.sense() {
-                Goal::Min => "max",
-                Goal::Max => "min",
-            };
-            write!(page, "[{index}] is the other way round: ");
-            write!(page, "is `OBJ {other}` meant?");
-            return;
-        }
-        (Some(Constraint { row, sense, rhs }), ..)
+    }
+    match known.bound() {
+        Some(Constraint { row, sense, rhs })
             if near.is_empty() && row.is_empty() && compares(*sense, Frac::zero(), *rhs) => {
             write!(page, "add the derivation `NAME {sense} {rhs} ");
             page.put("0 { lin 0 } -1`, and 1 to the count behind DER");
-            return;
         }
-        (None, ..) if known.has_solution => {
+        None if known.has_solution => page.put(
             "the text lists a solution that is feasible, so `infeas` is false: claim `range` and \
-             two bounds"
-        }
-        _ => "is its derivation left out, or is more claimed behind RTP than is proved?",
-    });
+             two bounds",
+        ),
+        _ => page.put("is its derivation left out, or is more claimed behind RTP than is proved?"),
+    }
+}
+
+// Writes what is likely if a constraint without assumptions is weaker than this bound.
+fn write_weak(page: &mut Page, weak: &Near, bound: &Constraint) {
+    let index = weak.index;
+    if weak.constraint.rhs == bound.rhs.neg() {
+        write!(page, "[{index}] has this bound with the other sign: ");
+        page.put("is the sign in the claim wrong?");
+    } else {
+        write!(page, "is more claimed behind RTP than [{index}] says, ");
+        page.put("or is a constant of the objective in the claim? The format has none");
+    }
+}
+
+// Writes what is likely if the sense of a constraint is the other one.
+fn write_turned(page: &mut Page, index: u32, goal: Goal) {
+    let other = match goal {
+        Goal::Min => "max",
+        Goal::Max => "min",
+    };
+    write!(page, "[{index}] is the other way round: ");
+    write!(page, "is `OBJ {other}` meant?");
 }
 
 // Writes why an assumption is left of a constraint that is strong enough.
@@ -269,18 +290,27 @@ fn write_left(page: &mut Page, search: &NearSearch, strong: &Near) {
         let second = open.second && assumptions.contains(l2);
         if first && second {
             write!(page, "[{i1}] rests on [{l2}] and [{i2}] on [{l1}]: ");
-            write!(page, "are l1 and l2 exchanged? `uns {i1} {l2} {i2} {l1}`");
+            let exchanged = Join {
+                i1,
+                l1: l2,
+                i2,
+                l2: l1,
+            };
+            write!(page, "are l1 and l2 exchanged? {exchanged}");
             return;
         }
         if first || second {
             let (left, case) = if first { (l1, i2) } else { (l2, i1) };
+            let join = open.join;
             write!(page, "[{index}] is to take [{left}] away by ");
-            write!(page, "`uns {i1} {l1} {i2} {l2}`, but its other case, ");
-            write!(page, "[{case}], rests on [{left}], too");
+            write!(
+                page,
+                "{join}, but its other case, [{case}], rests on [{left}], too"
+            );
             return;
         }
     }
-    for left in 0..=index {
+    for left in 0..index {
         if assumptions.contains(left) {
             write!(page, "[{left}] is an assumption that is left: ");
             page.put("is its reason left out, ");

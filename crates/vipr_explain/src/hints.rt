@@ -3,7 +3,7 @@
 
 use crate::syntax::TextFault;
 use crate::token::Look::*;
-use crate::token::{Look, keyword_of};
+use crate::token::{DIGITS, Look, are_all, is_spelled, keyword_of, parted};
 use crate::wanted::Section::*;
 use crate::wanted::Wanted::*;
 use crate::wanted::{Section, TextProgress, is_word};
@@ -36,9 +36,7 @@ pub(crate) fn write_hint(page: &mut Page, cause: u8, fault: &TextFault<'_>) {
             write!(page, "`{found}` is the keyword of a section: ");
             write!(page, "is the count behind `INT`, {items}, too large?");
         }
-        (BAD_INDEX, Number) if fault.word.iter().all(|byte| byte.is_ascii_digit()) => {
-            write_last_index(page, progress)
-        }
+        (BAD_INDEX, Number) if are_all(fault.word, DIGITS) => write_last_index(page, progress),
         (BAD_NUMBER, Decimal(fraction)) => {
             write!(page, "decimals are not in the format: write {fraction}")
         }
@@ -114,7 +112,7 @@ fn hint(cause: u8, fault: &TextFault<'_>, look: Look) -> &'static str {
             up? Or is this a list of all values, and not pairs INDEX VALUE behind their count?",
         BAD_OBJECTIVE_SENSE => "write `min` or `max` behind `OBJ`",
         BAD_CLAIM => "write `infeas`, or `range` and two bounds, behind `RTP`",
-        BAD_REASON if REASONS.iter().any(|it| it.eq_ignore_ascii_case(fault.word)) =>
+        BAD_REASON if is_spelled(fault.word, &REASONS) =>
             "reasons are in small letters: `asm`, `lin`, `rnd`, `uns` or `sol`",
         BAD_REASON => "write `uns i1 l1 i2 l2` to join two branches, `lin` or `rnd` for a sum, \
             `asm` for an assumption, `sol` for a cutoff",
@@ -159,17 +157,21 @@ const STARTS: [(&[u8], &str); 6] = [
 
 // The first token isn't `VER`.
 fn start_hint(word: &[u8]) -> &'static str {
-    if let Some(start) = STARTS.iter().find(|start| word.starts_with(start.0)) {
-        return start.1;
+    for start in &STARTS {
+        if word.starts_with(start.0) {
+            return start.1;
+        }
     }
     match word {
         [0xff, 0xfe, ..] | [0xfe, 0xff, ..] =>
             "this looks like UTF-16: save the file as ASCII or as UTF-8 without a byte order mark",
         [b'#', ..] | [b'/', b'/' | b'*', ..] => "a comment begins with `%`",
         [b'{' | b'[', ..] => "this looks like JSON, and not like a certificate",
-        _ if word.starts_with(b"*") || is_any(word, b"NAME ROWS") => "this looks like an MPS file, \
+        _ if word.starts_with(b"*") || is_any(word, &[b"NAME", b"ROWS"]) =>
+            "this looks like an MPS file, \
             which has the problem alone: a certificate has the claim and its proof, too",
-        _ if word.starts_with(b"\\") || is_any(word, LP_WORDS) => "this looks like an LP file, \
+        _ if word.starts_with(b"\\") || is_spelled(word, &LP_WORDS) =>
+            "this looks like an LP file, \
             which has the problem alone: a certificate has the claim and its proof, too",
         _ => "a certificate begins with the line `VER 1.0`: is it missing here, or is this \
             another file?",
@@ -184,9 +186,9 @@ fn part_hint(cause: u8, fault: &TextFault<'_>, look: Look) -> &'static str {
     match look {
         Heading => match (fault.found.progress.wanted, fault.found.progress.section) {
             (UpperBound, _) => "`range` takes two bounds: the lower and the upper one",
-            (RightHandSide, _) if is_any(word, b"OBJ") =>
+            (RightHandSide, _) if is_word(word, "OBJ") =>
                 "is the right-hand side missing? NAME SENSE RIGHT-HAND-SIDE, and then `OBJ`",
-            (_, Solutions) if is_any(word, b"OBJ") =>
+            (_, Solutions) if is_word(word, "OBJ") =>
                 "`OBJ` stands for a vector in constraints and derivations alone",
             _ => "this is the keyword of a section: is a count in front of it too large, or is \
                 something missing there?",
@@ -215,7 +217,8 @@ fn wanted_hint(cause: u8, fault: &TextFault<'_>, look: Look) -> &'static str {
             _ => "a vector is a count and then that many pairs INDEX COEFFICIENT; \
                 the right-hand side is before it",
         },
-        EntryCount if is_any(word, b"weak incomplete") => "is this derivation of version 1.1? \
+        EntryCount if is_any(word, &[b"weak", b"incomplete"]) =>
+            "is this derivation of version 1.1? \
             Complete the certificate first, by viprcomp of the VIPR package",
         EntryCount => "`lin` and `rnd` take COUNT INDEX MULTIPLIER ..",
         Count => "a count is digits alone: is it missing behind the keyword?",
@@ -228,7 +231,7 @@ fn wanted_hint(cause: u8, fault: &TextFault<'_>, look: Look) -> &'static str {
         },
         Sense => sense_hint(fault.name, look, word),
         OpenBrace => open_hint(word),
-        LastReference if is_any(word, b"-") => "a number has no spaces: write -1",
+        LastReference if is_word(word, "-") => "a number has no spaces: write -1",
         LastReference => LAST_REFERENCE,
         Branch => "`uns` takes four indices: i1 l1 i2 l2, where l1 and l2 are the assumptions",
         CloseBrace => close_hint(word),
@@ -242,8 +245,7 @@ fn open_hint(word: &[u8]) -> &'static str {
         [b'{', b'{', ..] | [b'(' | b'[', ..] =>
             "a reason is between `{` and `}`, with a space on both sides of each",
         [b'{', ..] => "put a space behind the brace",
-        _ if is_any(word, b"asm lin rnd uns sol") =>
-            "write `{` in front of this reason, and `}` behind it",
+        _ if is_any(word, &REASONS) => "write `{` in front of this reason, and `}` behind it",
         _ => "is the count of coefficients too small or missing, or is the reason missing? \
             COUNT, that many pairs INDEX COEFFICIENT, and then the reason, as `{ asm }`",
     }
@@ -284,9 +286,9 @@ fn number_hint(cause: u8, fault: &TextFault<'_>, look: Look) -> &'static str {
 // The token is no sense.
 fn sense_hint(name: &[u8], look: Look, word: &[u8]) -> &'static str {
     match word {
-        _ if is_any(word, b">= => > g ge GE") => "write `G` for `>=`",
-        _ if is_any(word, b"<= =< < l le LE") => "write `L` for `<=`",
-        _ if is_any(word, b"= == e eq EQ") => "write `E` for `=`",
+        _ if is_any(word, &[b">=", b"=>", b">", b"g", b"ge", b"GE"]) => "write `G` for `>=`",
+        _ if is_any(word, &[b"<=", b"=<", b"<", b"l", b"le", b"LE"]) => "write `L` for `<=`",
+        _ if is_any(word, &[b"=", b"==", b"e", b"eq", b"EQ"]) => "write `E` for `=`",
         [b'R' | b'N'] =>
             "a constraint with two sides is two, by `G` and by `L`; a free row is left out",
         _ if !name.is_ascii() =>
@@ -294,7 +296,7 @@ fn sense_hint(name: &[u8], look: Look, word: &[u8]) -> &'static str {
         _ if Frac::parse(name).is_ok() => "a number was read as the name: is the count of \
             coefficients in front of it too small, or a right-hand side missing?",
         [.., b'"'] => "a name has no spaces, not even in quotes",
-        _ if is_any(name, b"G L E") => "the sense was read as the name: write NAME \
+        _ if is_any(name, &[b"G", b"L", b"E"]) => "the sense was read as the name: write NAME \
             SENSE RIGHT-HAND-SIDE COUNT INDEX COEFFICIENT ..",
         _ if matches!(look, Number | Fraction) => "a sense is a letter, and sense and right-hand \
             side are before the coefficients: \
@@ -307,13 +309,13 @@ fn sense_hint(name: &[u8], look: Look, word: &[u8]) -> &'static str {
 // The token is no number.
 fn spelled_hint(fault: &TextFault<'_>, look: Look) -> &'static str {
     let word = fault.word;
-    let has_mark = word.iter().any(|byte| b"%&'()*[]".contains(byte));
+    let has_mark = parted(word, b"%&'()*[]").is_some();
     match look {
         Infinity | Exponent => large_hint(fault, look),
         Comma => "a comma is not in the format: write digits alone, or a fraction, as 13/4",
         _ if matches!(look, Fraction) || word.starts_with(b"Fraction(") =>
             "a fraction is digits, `/` and digits, and its sign is in front, as -5/2",
-        _ if is_any(word, b"nan NaN None null") =>
+        _ if is_any(word, &[b"nan", b"NaN", b"None", b"null"]) =>
             "is there no value? Then leave the entry or the constraint out",
         Number if is_decimal(word) => "decimals are not in the format: write a fraction, as 13/4",
         _ if has_mark || matches!(look, Number) => "a number is digits with or without a sign, or \
@@ -344,17 +346,25 @@ fn large_hint(fault: &TextFault<'_>, look: Look) -> &'static str {
     }
 }
 
-// Whether a token is one of these words, which spaces separate.
-fn is_any(word: &[u8], words: &[u8]) -> bool {
-    words.split(|byte| *byte == b' ').any(|other| other == word)
+// Whether a token is one of these words.
+fn is_any(word: &[u8], words: &[&[u8]]) -> bool {
+    for other in words {
+        if word == *other {
+            return true;
+        }
+    }
+    false
 }
 
 // Whether bytes are digits with a point.
 fn is_decimal(word: &[u8]) -> bool {
     let ([b'+' | b'-', number @ ..] | number) = word;
-    number.len() > 2
-        && number.split(|byte| *byte == b'.').count() == 2
-        && number.iter().all(|byte| b"0123456789.".contains(byte))
+    match parted(number, b".") {
+        Some((front, behind)) => {
+            number.len() > 2 && are_all(front, DIGITS) && are_all(behind, DIGITS)
+        }
+        None => false,
+    }
 }
 
 const LAST_REFERENCE: &str = "write the last reference behind `}`: the last derivation that names \
@@ -362,4 +372,4 @@ const LAST_REFERENCE: &str = "write the last reference behind `}`: the last deri
 
 const REASONS: [&[u8]; 5] = [b"asm", b"lin", b"rnd", b"uns", b"sol"];
 
-const LP_WORDS: &[u8] = b"Minimize Maximize minimize maximize min max";
+const LP_WORDS: [&[u8]; 4] = [b"minimize", b"maximize", b"min", b"max"];

@@ -24,6 +24,7 @@ use crate::items::open_derivations;
 use crate::text::{Reread, Subject};
 use std::alloc::AllocError;
 use std::cmp::Reverse;
+use std::fmt::{self, Display, Formatter, Write};
 use vipr_bytes::Bytes;
 use vipr_cert::{Derivation, Problem, Reason, References};
 use vipr_check::Table;
@@ -61,6 +62,13 @@ pub(crate) struct Join {
     pub(crate) l1: u32,
     pub(crate) i2: u32,
     pub(crate) l2: u32,
+}
+
+impl Display for Join {
+    fn fmt<W: Write>(&self, f: &mut Formatter<W>) -> fmt::Result {
+        let Join { i1, l1, i2, l2 } = *self;
+        write!(f, "`uns {i1} {l1} {i2} {l2}`")
+    }
 }
 
 /// A derivation that joins two branches, and whether it still rests on the assumption of each.
@@ -184,7 +192,6 @@ impl NearSearch {
     fn pass(&mut self, subject: Subject<'_>, problem: &Problem, step: &mut Derivation) -> Reread<()>
         requires room { self.old.replay.rows.next + 1 < 2 ^ 32 }
         requires names { NamesBelow (variables problem.now) (at step.old.constraint.row) }
-        requires searched { (ds : List Meant) × HasPassedAll subject problem.now ds self.old }
         ensures passed { (ds : List Meant) → HasPassedAll subject.entry problem.now ds self.old
             → OnOk result
             (HasPassedAll subject.entry problem.now (ds ++ derivation_of step.old ∷ []) self.new) }

@@ -32,9 +32,14 @@ pub(crate) fn step_indices(
     match reason.references() {
         References::Nothing => {}
         References::Entries(entries) => {
-            let at_fault = position_at_fault(fault, entries).and_then(|at| entries.get(at));
-            for entry in entries.iter().take(MOST_ENTRIES).chain(at_fault) {
+            for entry in &entries[..entries.len().min(MOST_ENTRIES)] {
                 add_earlier(&mut wanted, fault.index, entry.0)?;
+            }
+            match position_at_fault(fault, entries) {
+                Some(at) if at < entries.len() => {
+                    add_earlier(&mut wanted, fault.index, entries[at].0)?;
+                }
+                _ => {}
             }
         }
         References::Branches { i1, l1, i2, l2 } => {
@@ -44,8 +49,8 @@ pub(crate) fn step_indices(
         }
     }
     for change in [changes.multiplier, changes.exchange, changes.addition] {
-        if let Some(entry) = change.and_then(|change| change.entry()) {
-            add_earlier(&mut wanted, fault.index, entry.1)?;
+        if let Some(Change::Entry(_, index, _)) = change {
+            add_earlier(&mut wanted, fault.index, index)?;
         }
     }
     Ok(wanted)
@@ -69,7 +74,12 @@ fn position_at_fault(fault: StepFault<'_>, entries: &[(u32, Frac)]) -> Option<us
         StepDetail::Entry(entry) => Some(*entry as usize),
         StepDetail::Index(index) => {
             let is_any = fault.cause != cause::DROPPED;
-            entries.iter().position(|entry| entry.0 == *index && (is_any || !entry.1.is_zero()))
+            for (position, entry) in entries.iter().enumerate() {
+                if entry.0 == *index && (is_any || !entry.1.is_zero()) {
+                    return Some(position);
+                }
+            }
+            None
         }
         _ => None,
     }
@@ -101,8 +111,12 @@ pub(crate) fn part_at_fault(fault: StepFault<'_>, reason: &Reason, changes: &Cha
             })
         }
         (_, References::Branches { i1, l1, i2, .. }, Some(Change::Join(join))) => {
-            let is_same = [join.i1 == i1, join.l1 == l1, join.i2 == i2];
-            ItemPart::Reference(is_same.iter().take_while(|is_same| **is_same).count())
+            ItemPart::Reference(match join {
+                _ if join.i1 != i1 => 0,
+                _ if join.l1 != l1 => 1,
+                _ if join.i2 != i2 => 2,
+                _ => 3,
+            })
         }
         (StepDetail::Pair(..), ..) => ItemPart::Reference(1),
         (StepDetail::Sum(_) | StepDetail::Nothing, ..) => ItemPart::Reason,

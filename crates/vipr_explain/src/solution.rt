@@ -245,13 +245,19 @@ fn solution_hint(
 
 // Whether a value isn't whole.
 fn has_fraction(values: &Row) -> bool {
-    !values.entries().iter().all(|entry| entry.1.is_whole())
+    for entry in values.entries() {
+        if !entry.1.is_whole() {
+            return true;
+        }
+    }
+    false
 }
 
 // Writes a line of the values at a row's variables. Many are cut, with the number of variables.
 fn write_values(page: &mut Page, problem: &Problem, row: &Row, solution: &Solution) {
     let entries = row.entries();
-    for (position, entry) in entries.iter().take(MOST_VALUES).enumerate() {
+    let shown = &entries[..entries.len().min(MOST_VALUES)];
+    for (position, entry) in shown.iter().enumerate() {
         page.put(if position == 0 {
             "\n  at the solution: "
         } else {

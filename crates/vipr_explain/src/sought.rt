@@ -6,6 +6,7 @@ use crate::changes::Change;
 use crate::near::{Join, is_turned};
 use crate::text::Subject;
 use std::alloc::AllocError;
+use std::mem::replace;
 use vipr_cert::{Derivation, Problem, Reason, References};
 use vipr_check::Table;
 use vipr_frac::Frac;
@@ -33,16 +34,17 @@ pub(crate) struct Sum<'a> {
 }
 
 /// Changes of each kind.
-#[derive(Drop)]
+#[derive(Clone, Copy)]
 pub(crate) struct Candidates {
     pub(crate) multipliers: Ranking,
     pub(crate) exchanges: Ranking,
     pub(crate) additions: Ranking,
 }
 
-/// Changes with what each is ranked by, the least first.
-#[derive(Drop)]
-pub(crate) struct Ranking(pub(crate) Vec<(u64, Change)>);
+/// Changes with what each is ranked by, the least first. The last place is for one that is tried
+/// after all others.
+#[derive(Clone, Copy)]
+pub(crate) struct Ranking(pub(crate) [(u64, Option<Change>); MOST_TRIED + 1]);
 
 // An entry, and the constraint that would be right in its place with its multiplier.
 #[derive(Drop)]
@@ -59,20 +61,18 @@ impl Candidates {
         requires { length scratch.old.sums ≡ variables sum.problem.now }
         ensures { length scratch.new.sums ≡ length scratch.old.sums }
     {
-        let alloc = sum.subject.alloc;
         let mut found = Candidates {
-            multipliers: Ranking(Vec::new(alloc)),
-            exchanges: Ranking(Vec::new(alloc)),
-            additions: Ranking(Vec::new(alloc)),
+            multipliers: Ranking::new(),
+            exchanges: Ranking::new(),
+            additions: Ranking::new(),
         };
-        let added = match sum.step.reason.references() {
-            References::Entries(entries) => found.add_changes(sum, entries, scratch),
+        match sum.step.reason.references() {
+            References::Entries(entries) => found.add_changes(sum, entries, scratch)?,
             References::Branches { i1, l1, i2, l2 } => {
-                add_joins(&mut found.exchanges, sum, Join { i1, l1, i2, l2 })
+                add_joins(&mut found.exchanges, sum, Join { i1, l1, i2, l2 });
             }
-            References::Nothing => Ok(()),
-        };
-        or_drop!(added, found);
+            References::Nothing => {}
+        }
         Ok(found)
     }
 
@@ -90,10 +90,10 @@ impl Candidates {
         let Some(missing) = less_sum(sum, scratch, stated, Frac::one(), entries)? else {
             return Ok(());
         };
-        add_multipliers(&mut self.multipliers, sum, entries, &missing)?;
+        add_multipliers(&mut self.multipliers, sum, entries, &missing);
         let replacements = replacements(sum, entries, &missing, scratch)?;
-        self.add_others(sum, entries, &missing, replacements.as_slice())?;
-        self.exchanges.0.push((u64::MAX, Change::Word))?;
+        self.add_others(sum, entries, &missing, replacements.as_slice());
+        self.exchanges.0[MOST_TRIED].1 = Some(Change::Word);
         Ok(())
     }
 
@@ -105,46 +105,60 @@ impl Candidates {
         entries: &[(u32, Frac)],
         missing: &Constraint,
         replacements: &[Replacement],
-    ) -> Result<(), AllocError> {
+    ) {
         for index in 0..sum.rows.next() {
             if let Some(constraint) = constraint_at(sum, index) {
                 for replacement in replacements {
-                    add_exchange(&mut self.exchanges, sum, index, constraint, replacement)?;
+                    add_exchange(&mut self.exchanges, sum, index, constraint, replacement);
                 }
                 if let Some((multiplier, off)) = factor_for(constraint, missing) {
-                    let is_entry = entries.iter().any(|entry| entry.0 == index);
-                    if let (Some(rank), false) = (rank_of(sum, off), is_entry) {
+                    if let (Some(rank), false) = (rank_of(sum, off), has_entry(entries, index)) {
                         let change = Change::Entry(entries.len(), index, multiplier);
-                        self.additions.add(rank, change)?;
+                        self.additions.add(rank, change);
                     }
                 }
             }
         }
-        Ok(())
     }
 }
 
 impl Ranking {
-    // Keeps a change at its place among the first ones.
-    fn add(&mut self, rank: u64, change: Change) -> Result<(), AllocError> {
-        let place = self.0.iter().take_while(|known| known.0 <= rank).count();
-        let place = place.min(self.0.len());
-        self.0.insert(place, (rank, change))?;
-        self.0.truncate(MOST_TRIED);
-        Ok(())
+    // No change.
+    fn new() -> Ranking {
+        Ranking([(u64::MAX, None); MOST_TRIED + 1])
     }
+
+    // Keeps a change at its place among the first ones.
+    fn add(&mut self, rank: u64, change: Change) {
+        let mut kept = (rank, Some(change));
+        for place in 0..MOST_TRIED {
+            if kept.0 < self.0[place].0 {
+                kept = replace(&mut self.0[place], kept);
+            }
+        }
+    }
+}
+
+// Whether an entry is of a constraint.
+fn has_entry(entries: &[(u32, Frac)], index: u32) -> bool {
+    for entry in entries {
+        if entry.0 == index {
+            return true;
+        }
+    }
+    false
 }
 
 // Joins of the same four constraints, and then those with another one in the place of one, the
 // last ones first.
-fn add_joins(ranking: &mut Ranking, sum: Sum<'_>, join: Join) -> Result<(), AllocError> {
+fn add_joins(ranking: &mut Ranking, sum: Sum<'_>, join: Join) {
     let Join { i1, l1, i2, l2 } = join;
     let named = [i1, l1, i2, l2];
     for i1 in named {
         for l1 in named {
             for i2 in named {
                 for l2 in named {
-                    add_join(ranking, sum, 0, Join { i1, l1, i2, l2 })?;
+                    add_join(ranking, sum, 0, Join { i1, l1, i2, l2 });
                 }
             }
         }
@@ -153,41 +167,41 @@ fn add_joins(ranking: &mut Ranking, sum: Sum<'_>, join: Join) -> Result<(), Allo
     for index in 0..own {
         let rank = own - index;
         if has_row_of(sum, index, &sum.step.constraint) {
-            add_join(ranking, sum, rank, Join { i1: index, ..join })?;
-            add_join(ranking, sum, rank, Join { i2: index, ..join })?;
+            add_join(ranking, sum, rank, Join { i1: index, ..join });
+            add_join(ranking, sum, rank, Join { i2: index, ..join });
         }
         if is_other_side(sum, index, l2) {
-            add_join(ranking, sum, rank, Join { l1: index, ..join })?;
+            add_join(ranking, sum, rank, Join { l1: index, ..join });
         }
         if is_other_side(sum, index, l1) {
-            add_join(ranking, sum, rank, Join { l2: index, ..join })?;
+            add_join(ranking, sum, rank, Join { l2: index, ..join });
         }
     }
-    Ok(())
 }
 
 // Adds a join, if each case rests on its own assumption, and not on that of the other one.
-fn add_join(ranking: &mut Ranking, sum: Sum<'_>, rank: u32, join: Join) -> Result<(), AllocError> {
+fn add_join(ranking: &mut Ranking, sum: Sum<'_>, rank: u32, join: Join) {
     let Join { i1, l1, i2, l2 } = join;
     let is_own = rests_on(sum, i1, l1) && rests_on(sum, i2, l2);
     if is_own && !rests_on(sum, i1, l2) && !rests_on(sum, i2, l1) {
-        ranking.add(u64::from(rank), Change::Join(join))?;
+        ranking.add(u64::from(rank), Change::Join(join));
     }
-    Ok(())
 }
 
 // Whether a constraint rests on an assumption.
 fn rests_on(sum: Sum<'_>, index: u32, assumption: u32) -> bool {
-    sum.rows
-        .get(index)
-        .is_some_and(|entry| entry.assumptions.contains(assumption))
+    match sum.rows.get(index) {
+        Some(entry) => entry.assumptions.contains(assumption),
+        None => false,
+    }
 }
 
 // Whether a constraint has the row of another one.
 fn has_row_of(sum: Sum<'_>, index: u32, other: &Constraint) -> bool {
-    sum.rows
-        .get(index)
-        .is_some_and(|entry| entry.constraint.row.is_same(&other.row))
+    match sum.rows.get(index) {
+        Some(entry) => entry.constraint.row.is_same(&other.row),
+        None => false,
+    }
 }
 
 // Whether two constraints bound a row from both sides.
@@ -264,7 +278,7 @@ fn add_multipliers(
     sum: Sum<'_>,
     entries: &[(u32, Frac)],
     missing: &Constraint,
-) -> Result<(), AllocError> {
+) {
     for (position, entry) in entries.iter().enumerate() {
         let (index, present) = *entry;
         if let Some(constraint) = constraint_at(sum, index) {
@@ -275,12 +289,11 @@ fn add_multipliers(
                     let is_right = sense == Sense::E || is_stated == (factor.numer() > 0);
                     let is_first = is_right && multiplier == present.neg();
                     let change = Change::Entry(position, index, multiplier);
-                    ranking.add(if is_first { 0 } else { rank }, change)?;
+                    ranking.add(if is_first { 0 } else { rank }, change);
                 }
             }
         }
     }
-    Ok(())
 }
 
 // For each entry the constraint that would be right in its place.
@@ -299,7 +312,8 @@ fn replacements(
     let most = pairs / (sum.rows.next() as usize).max(1);
     let mut found = Vec::new(sum.subject.alloc);
     let mut size: usize = 0;
-    for (position, entry) in entries.iter().take(most).enumerate() {
+    let tried = &entries[..entries.len().min(most)];
+    for (position, entry) in tried.iter().enumerate() {
         let (index, multiplier) = *entry;
         if let Some(factor) = inverse(multiplier) {
             let own = [(index, Frac::one().neg())];
@@ -327,22 +341,21 @@ fn add_exchange(
     index: u32,
     constraint: &Constraint,
     replacement: &Replacement,
-) -> Result<(), AllocError> {
+) {
     let wanted = &replacement.wanted;
     if index == replacement.index || !constraint.row.is_same(&wanted.row) {
-        return Ok(());
+        return;
     }
     let multiplier = replacement.multiplier;
-    let off = constraint
-        .rhs
-        .add(wanted.rhs.neg())
-        .and_then(|gap| multiplier.mul(gap));
-    if let Some(rank) = off.ok().and_then(|off| rank_of(sum, off)) {
-        let distance = u64::from(index.abs_diff(replacement.index));
-        let change = Change::Entry(replacement.position, index, multiplier);
-        exchanges.add(rank.saturating_add(distance), change)?;
+    if let Ok(gap) = constraint.rhs.add(wanted.rhs.neg()) {
+        if let Ok(off) = multiplier.mul(gap) {
+            if let Some(rank) = rank_of(sum, off) {
+                let distance = u64::from(index.abs_diff(replacement.index));
+                let change = Change::Entry(replacement.position, index, multiplier);
+                exchanges.add(rank.saturating_add(distance), change);
+            }
+        }
     }
-    Ok(())
 }
 
 // The factor with which a constraint's row is what a sum lacks, and how far the side of the sum is
@@ -360,8 +373,9 @@ fn factor_between(row: &Row, other: &Row) -> Option<Frac> {
         return None;
     }
     let factor = wanted.first()?.1.mul(inverse(given.first()?.1)?).ok()?;
-    for (entry, wanted) in given.iter().zip(wanted) {
-        if entry.0 != wanted.0 || entry.1.mul(factor).ok() != Some(wanted.1) {
+    for (position, entry) in given.iter().enumerate() {
+        let (variable, coefficient) = wanted[position];
+        if entry.0 != variable || entry.1.mul(factor).ok() != Some(coefficient) {
             return None;
         }
     }

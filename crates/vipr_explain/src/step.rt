@@ -256,7 +256,7 @@ fn write_facts(page: &mut Page, refused: &RefusedStep<'_>, reason: &Reason, faul
             write_labelled(page, problem, "    stated     ", stated);
             write_differences(page, problem, computed, stated, differences);
             if let References::Entries(entries) = reason.references() {
-                for difference in differences.iter().take(MOST_SOURCES) {
+                for difference in &differences[..differences.len().min(MOST_SOURCES)] {
                     write_sources(page, refused, entries, difference.variable);
                 }
             }

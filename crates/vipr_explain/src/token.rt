@@ -26,6 +26,8 @@ pub(crate) enum Look {
 
 const INFINITIES: [&[u8]; 3] = [b"inf", b"infinity", b"infty"];
 
+pub(crate) const DIGITS: &[u8] = b"0123456789";
+
 impl Look {
     /// What these bytes look like.
     pub(crate) fn of(word: &[u8]) -> Look {
@@ -35,7 +37,7 @@ impl Look {
             (Some(_), _) => Look::SmallHeading,
             _ if !word.is_ascii() => Look::NotAscii,
             _ if matches!(word, [_, .., b',' | b';']) => Look::Separated,
-            _ if INFINITIES.iter().any(|it| it.eq_ignore_ascii_case(number)) => Look::Infinity,
+            _ if is_spelled(number, &INFINITIES) => Look::Infinity,
             (_, Some(fraction)) => Look::Decimal(fraction),
             _ if !matches!(number, [b'0'..=b'9' | b'.', ..]) => Look::Word,
             _ if number.contains(&b'/') => Look::Fraction,
@@ -48,20 +50,50 @@ impl Look {
 
 // Whether bytes are digits, with a point or without, a letter e, and an exponent.
 fn is_exponent(number: &[u8]) -> bool {
-    let mut parts = number.split(|byte| matches!(*byte, b'e' | b'E'));
-    match (parts.next(), parts.next(), parts.next()) {
-        (Some(front), Some([b'+' | b'-', size @ ..] | size), None) => {
-            front.iter().all(|byte| matches!(*byte, b'0'..=b'9' | b'.'))
-                && !size.is_empty()
-                && size.iter().all(|byte| byte.is_ascii_digit())
+    match parted(number, b"eE") {
+        Some((front, [b'+' | b'-', size @ ..] | size)) => {
+            are_all(front, b"0123456789.") && !size.is_empty() && are_all(size, DIGITS)
         }
-        _ => false,
+        None => false,
     }
+}
+
+/// What is before the first byte that is one of these, and behind it.
+pub(crate) fn parted<'a>(word: &'a [u8], at: &[u8]) -> Option<(&'a [u8], &'a [u8])> {
+    for (position, byte) in word.iter().enumerate() {
+        if at.contains(byte) {
+            return Some((&word[..position], &word[position + 1..]));
+        }
+    }
+    None
+}
+
+/// Whether each byte is one of these.
+pub(crate) fn are_all(word: &[u8], allowed: &[u8]) -> bool {
+    for byte in word {
+        if !allowed.contains(byte) {
+            return false;
+        }
+    }
+    true
+}
+
+/// Whether a token is one of these words, but for capitals.
+pub(crate) fn is_spelled(word: &[u8], words: &[&[u8]]) -> bool {
+    for other in words {
+        if word.eq_ignore_ascii_case(other) {
+            return true;
+        }
+    }
+    false
 }
 
 /// The keyword that these bytes are, but for capitals.
 pub(crate) fn keyword_of(word: &[u8]) -> Option<&'static str> {
-    KEYWORDS
-        .into_iter()
-        .find(|keyword| word.eq_ignore_ascii_case(keyword.as_bytes()))
+    for keyword in KEYWORDS {
+        if word.eq_ignore_ascii_case(keyword.as_bytes()) {
+            return Some(keyword);
+        }
+    }
+    None
 }

@@ -76,9 +76,12 @@ impl Section {
 
     /// Whether this keyword is that of a section before it.
     pub(crate) fn is_behind(self, keyword: &str) -> bool {
-        KEYWORDS[..self as usize]
-            .iter()
-            .any(|before| is_word(keyword.as_bytes(), before))
+        for before in &KEYWORDS[..self as usize] {
+            if is_word(keyword.as_bytes(), before) {
+                return true;
+            }
+        }
+        false
     }
 
     /// What one of its items is, if it has any, and what it is without an item.

@@ -130,8 +130,10 @@ fn dual_part(needed: &Option<Constraint>) -> ItemPart {
 fn claim_place<'a>(subject: Subject<'a>, part: ItemPart) -> Result<Option<Excerpt<'a>>, AllocError>
     ensures { IfOk result (IsClaimPlace subject.entry.text.now part) }
 {
-    let place = find_item(subject, ItemSort::Claim, 0, part)?;
-    Ok(place.map(|place| Excerpt::of(subject.text, place.part)))
+    match find_item(subject, ItemSort::Claim, 0, part)? {
+        Some(place) => Ok(Some(Excerpt::of(subject.text, place.part))),
+        None => Ok(None),
+    }
 }
 
 // Writes what was found.

@@ -1,8 +1,8 @@
 //! Rows and constraints as people write them, with the names of variables.
 ghost use Rattle.std.specs.Prelude.{◌≡◌, Some};
 ghost use Rattle.vipr_linear.specs.Constraint.{constraint_of, sense_of};
-ghost use Rattle.vipr_page.specs.Algebra.{algebra_text, sense_sign, shown_name, size, term_text};
-ghost use Rattle.vipr_page.specs.Algebra.{terms_text, variable_text};
+ghost use Rattle.vipr_page.specs.Algebra.{algebra_text, next_term, sense_sign, shown_name, size};
+ghost use Rattle.vipr_page.specs.Algebra.{term_text, terms_text, variable_text};
 
 use crate::stranger::StrangeBytes;
 use std::fmt::{self, Display, Formatter, Write};
@@ -91,17 +91,28 @@ impl Display for Terms<'_> {
         match self.1 {
             [] => f.write_str("0"),
             [first, others @ ..] => {
-                let entry = *first;
-                let sign = if entry.1.numer() < 0 { "-" } else { "" };
-                write!(f, "{sign}{}", Term(self.0, entry))?;
+                let sign = if first.1.numer() < 0 { "-" } else { "" };
+                write!(f, "{sign}{}", Term(self.0, *first))?;
                 for other in others {
-                    let entry = *other;
-                    let sign = if entry.1.numer() < 0 { " - " } else { " + " };
-                    write!(f, "{sign}{}", Term(self.0, entry))?;
+                    write!(f, "{}", NextTerm(self.0, *other))?;
                 }
                 Ok(())
             }
         }
+    }
+}
+
+// A term behind others.
+#[derive(Clone, Copy)]
+struct NextTerm<'a>(&'a Problem, (u32, Frac));
+
+impl Display for NextTerm<'_> {
+    ghost output = { λ t. Some (next_term t.0.now.names t.1) };
+
+    fn fmt<W: Write>(&self, f: &mut Formatter<W>) -> fmt::Result {
+        let entry = self.1;
+        let sign = if entry.1.numer() < 0 { " - " } else { " + " };
+        write!(f, "{sign}{}", Term(self.0, entry))
     }
 }
 

@@ -105,7 +105,8 @@ fn write_sides(page: &mut Page, computed: &Constraint, stated: &Constraint) {
 // Writes how two rows differ.
 fn write_rows(page: &mut Page, problem: &Problem, differences: &[Difference]) {
     page.put("the rows are not the same:");
-    for (position, difference) in differences.iter().take(MOST_SHOWN).enumerate() {
+    let shown = &differences[..differences.len().min(MOST_SHOWN)];
+    for (position, difference) in shown.iter().enumerate() {
         let front = if position == 0 { " " } else { "; " };
         let index = difference.variable;
         let name = VariableName(problem, index);

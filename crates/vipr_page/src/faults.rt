@@ -39,7 +39,7 @@ pub fn row_faults(alloc: Global, ints: &Ints, row: &Row) -> Result<Vec<RowFault>
 
 /// Writes the first faults of a row, a line each.
 pub fn write_faults(page: &mut Page, problem: &Problem, faults: &[RowFault]) {
-    for fault in faults.iter().take(MOST_SHOWN) {
+    for fault in &faults[..faults.len().min(MOST_SHOWN)] {
         match *fault {
             RowFault::NotWhole(index, value) => {
                 let name = VariableName(problem, index);
