@@ -408,6 +408,13 @@ def samples_go_round():
             yield 'tools/wrong.py: of %d, a sample of %d leaves some out' % (size, count)
 
 
+def edits_of_each_run_are_there():
+    """Each wrong version that tools/wrong.py tries in each run is one of wrong/."""
+    there = {wrong.name_of(path) for path in wrong.TOP.glob('crates/*/wrong/*.edit')}
+    for name in sorted(wrong.ALWAYS - there):
+        yield f'tools/wrong.py: {name} is no edit of wrong/'
+
+
 def versions_agree():
     """Each place that names the program's version names that of the command line."""
     number = re.search(r'\.version\("(.*)"\)', read(os.path.join(CRATES, 'vipr_command', 'src', 'args.rt')))[1]
@@ -456,7 +463,8 @@ def numbers_have_reasons():
 
 
 CHECKS = [foreign_proofs, private_lemmas, names_twice, types_twice, growing_types, plain_words, comments_stand_alone, unused_imports, imports_are_joined, dead_lemmas, dead_calls, laws_are_named, proofs_in_specs, long_lines, long_files, crates_are_there, graph_is_current,
-          statement_is_current, examples_are_there, causes_agree, edits_stand, samples_go_round, versions_agree, named_files_are_there,
+          statement_is_current, examples_are_there, causes_agree, edits_stand, samples_go_round, edits_of_each_run_are_there,
+          versions_agree, named_files_are_there,
           numbers_have_reasons, formatted]
 
 

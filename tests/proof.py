@@ -5,8 +5,8 @@ came since `make wrong` was last run whole, or says whether both are current.
 usage: tests/proof.py [--check]
 
 A row for each public call: the call, the names of its clauses (`-` for one without a name), the definitions that they
-cite, the laws that its proof cites, and the edits of its code: those of must-fail/, which `make test` tries, and those
-of wrong/, which `make wrong` tries. Edits of what lies below the public calls, of definitions and of laws stand in the
+cite, the laws that its proof cites, and the edits of its code: those that `make test` tries each time, of must-fail/ and
+some of wrong/, and the others of wrong/, which `make wrong` tries. Edits of what lies below the public calls, of definitions and of laws stand in the
 lines below a crate's table. Of docs/PROOF.md it says which crate has no heading there, and which clause in brackets is
 none of the calls before it, or of the record behind `of`. Without git and the commit of that run, what came since is left
 out, and a line says so.
@@ -36,8 +36,18 @@ def imports(text):
     return words
 
 
-# the folders of edits, and which command tries those
-FOLDERS = {'must-fail': 'make test', 'wrong': 'make wrong'}
+# the folders of edits
+FOLDERS = 'must-fail', 'wrong'
+
+
+def tried_by(crate):
+    """The edits of a crate by the command that tries all of them."""
+    out = {'make test': [], 'make wrong': []}
+    for folder in FOLDERS:
+        for edit in edits(crate, folder):
+            is_always = folder == 'must-fail' or f'{crate}/{edit[0]}' in wrong.ALWAYS
+            out['make test' if is_always else 'make wrong'].append(edit)
+    return out
 
 
 def laws(crate, name):
@@ -75,7 +85,7 @@ def traits(file, text, words):
 def table(crate):
     """The table of one crate, as lines."""
     rows, placed = [], set()
-    all_edits = {folder: list(edits(crate, folder)) for folder in FOLDERS}
+    all_edits = tried_by(crate)
     for path in files_of(crate, 'src', '.rt'):
         if 'tests' in str(path.relative_to(TOP)):
             continue
@@ -90,8 +100,8 @@ def table(crate):
             cited = []
             for _, _, clause in clauses:
                 cited += [word for word in re.findall(r"[A-Za-z_]\w*", clause) if word in words]
-            own = {folder: [edit for edit, place, old in there if place == file and old in text[start:end]]
-                   for folder, there in all_edits.items()}
+            own = {command: [edit for edit, place, old in there if place == file and old in text[start:end]]
+                   for command, there in all_edits.items()}
             placed |= {edit for there in own.values() for edit in there}
             kinds = [clause or '-' for kind, clause, _ in clauses if kind == 'ensures']
             needs = [clause or '-' for kind, clause, _ in clauses if kind == 'requires']
@@ -101,13 +111,13 @@ def table(crate):
                                       f'{" | ".join(", ".join(there) for there in own.values())} |'))
     lines = [f'### `{crate}`', '']
     if rows:
-        commands = ' | '.join(f'Edits of `{command}`' for command in FOLDERS.values())
+        commands = ' | '.join(f'Edits of `{command}`' for command in all_edits)
         lines += [f'| Call | Clauses | Definitions | Laws cited in its proof | {commands} |', '|---|---|---|---|---|---|']
         lines += [row for _, _, row in sorted(rows)]
     else:
         lines += ['No call of its own.']
-    for folder, command in FOLDERS.items():
-        rest = [edit for edit, _, _ in all_edits[folder] if edit not in placed]
+    for command, there in all_edits.items():
+        rest = [edit for edit, _, _ in there if edit not in placed]
         if rest:
             lines += ['', f'Edits below these calls, of `{command}`: {", ".join(rest)}.']
     return lines + ['']
@@ -124,7 +134,7 @@ def how_many():
     """The edits that there are today, as a sentence."""
     count = {folder: sum(len(list(edits(crate, folder))) for crate in crates()) for folder in FOLDERS}
     return '\n'.join([EDITS[0], 'Today there are ' + ' and '.join(f'{n} in `{folder}/`' for folder, n in count.items())
-                      + '.', EDITS[1]])
+                      + f'. Each `make test` tries {count["must-fail"] + len(wrong.ALWAYS)} of them, and ten others.', EDITS[1]])
 
 
 def came_since(text):

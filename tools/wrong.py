@@ -4,8 +4,8 @@
 usage: tools/wrong.py [CRATE | CRATE/EDIT ..]
        tools/wrong.py --sample N
 
-`make test` tries those of `must-fail/`, which turn the main promises. These are more of the same kind, and take longer
-than everything else together. Each is checked on a copy, over what the crate's last check proved: first the function that
+`make test` tries those of `must-fail/`, which turn the main promises, and those of ALWAYS, of crates whose whole proof would
+be done once more for a few of them. These are more of the same kind, and take longer than everything else together. Each is checked on a copy, over what the crate's last check proved: first the function that
 it changes, then all of its file, then the whole crate, and that once more from nothing; each only if what came before is
 still proved with the edit. Edits of one file follow one another. Crates are tried side by side, as many as memory allows.
 An edit is refused only if the prover leaves a goal or a type open at a place. It isn't judged if a proof file only lacks a
@@ -16,8 +16,8 @@ what came since: how many edits were added or changed, by git, and how many of t
 counts the former anew. A run by names adds the latter, and `tests/gate.py` does so from the log of a run. A run that is cut
 off goes on where it was: an edit that was refused over the same text isn't tried once more.
 
---sample tries N that follow one another, and each commit begins where the one before ends: as many commits as there are
-edits try each of them N times. Without all commits the text of the crates chooses. It takes over what `rt ci` proved, if
+--sample tries ALWAYS, and of the others N that follow one another. Each commit begins where the one before ends: as many
+commits as there are others try each of them N times. Without all commits the text of the crates chooses. It takes over what `rt ci` proved, if
 nothing changed since: then no more is proved than the functions that are changed and, once, those that they call.
 
 Prints what each came to, which were refused, each with its git blob, and last `N refused, M not, K not judged`. The exit
@@ -57,6 +57,12 @@ FUNCTION = re.compile(r'(    )?(?:pub(?:\([^)]*\))? )?(?:unsafe )?(?:extern "C" 
 IMPL = re.compile(r'impl (?:(?:\w+::)*(\w+) for )?&?(?:mut )?(?:\w+::)*(\w+)')
 # what one check may take of the memory, in kB
 ROOM = 4_000_000
+# edits for what a crate promises first, of which each sample tries all
+ALWAYS = {
+    'vipr_bytes/write_taken_is_zero', 'vipr_scan/token_ends_with_read', 'vipr_table/drops_before_the_last_reference',
+    'vipr_table/keep_all_shows_forgotten', 'vipr_table/union_loses_the_greatest', 'vipr_tighten/nothing_derived',
+    'vipr_tighten/split_assumptions_not_renumbered', 'vipr_tighten/writes_before_it_is_verified',
+    'vipr_tighten/writes_the_input_again'}
 # of how many edits one need not be judged
 UNJUDGED_IN = 50
 
@@ -89,6 +95,11 @@ def text_sum():
 def edits(crate):
     """The edits of a crate, those of one file in a row."""
     return sorted(Path(crate.folder, 'wrong').glob('*.edit'), key=lambda path: (changed(path), path.name))
+
+
+def name_of(path):
+    """How an edit is named on the command line and in ALWAYS."""
+    return f'{path.parent.parent.name}/{path.stem}'
 
 
 def sample(paths, count, turn):
@@ -305,13 +316,15 @@ def main(words):
         top = kit.copied(room, 'crates.txt', 'HANDLES', 'crates') if is_sample else TOP
         crates = {it.name: it for it in rt.rtlib.crates_below(str(top))}
         paths = [path for name, it in crates.items() for path in edits(it)
-                 if is_sample or not words or {name, f'{name}/{path.stem}'} & set(words)]
+                 if is_sample or not words or {name, name_of(path)} & set(words)]
         if is_sample:
             number, by = commit_number()
-            part = sample(paths, int(words[1]), number)
-            print(f'{len(part)} of the {len(paths)} wrong versions, chosen by {by}', flush=True)
-            paths = part
-        blobs = {f'{path.parent.parent.name}/{path.stem}': blob(path) for path in paths}
+            always = [path for path in paths if name_of(path) in ALWAYS]
+            others = [path for path in paths if path not in always]
+            part = sample(others, int(words[1]), number)
+            print(f'{len(always)} wrong versions, and {len(part)} of the {len(others)} others, chosen by {by}', flush=True)
+            paths = sorted(always + part, key=paths.index)
+        blobs = {name_of(path): blob(path) for path in paths}
         by_crate = {}
         for path in paths:
             by_crate.setdefault(path.parent.parent.name, []).append(path)
