@@ -9,7 +9,8 @@ machine. After one by two jobs they are about half too small, and after a check 
 the seconds by kind of part, and then those of the N functions or lemma files that took longest (20 without N), each with
 its dearest part. `Lts` is the account of a function's steps, `Proof` what the prover found by itself, `Answers` what is
 written by hand, and the others are what the toolchain derives from the code. The first part of a kind also has what it is
-the first to load.
+the first to load. A check over kept work goes in batches, by the depth of calls: what each loads, some seconds, counts as
+`itself` of the batch's first function. A build from nothing has no batches.
 """
 import re
 import sys
