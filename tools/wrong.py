@@ -4,8 +4,9 @@
 usage: tools/wrong.py [CRATE | CRATE/EDIT ..]
        tools/wrong.py --sample N
 
-`make test` tries those of `must-fail/`, which turn the main promises, and those of ALWAYS, of crates whose whole proof would
-be done once more for a few of them. These are more of the same kind, and take longer than everything else together. Each is checked on a copy, over what the crate's last check proved: first the function that
+`make test` tries the edits of `must-fail/`, which turn main promises. Those of ALWAYS do so, too; they are here since the
+toolchain would prove a whole crate once more for a few of them. The others are more of the same kind, and take longer than
+everything else together. Each is checked on a copy, over what the crate's last check proved: first the function that
 it changes, then all of its file, then the whole crate, and that once more from nothing; each only if what came before is
 still proved with the edit. Edits of one file follow one another. Crates are tried side by side, as many as memory allows.
 An edit is refused only if the prover leaves a goal or a type open at a place. It isn't judged if a proof file only lacks a
@@ -57,7 +58,7 @@ FUNCTION = re.compile(r'(    )?(?:pub(?:\([^)]*\))? )?(?:unsafe )?(?:extern "C" 
 IMPL = re.compile(r'impl (?:(?:\w+::)*(\w+) for )?&?(?:mut )?(?:\w+::)*(\w+)')
 # what one check may take of the memory, in kB
 ROOM = 4_000_000
-# edits for what a crate promises first, of which each sample tries all
+# edits of main promises: each sample tries all of them
 ALWAYS = {
     'vipr_bytes/write_taken_is_zero', 'vipr_scan/token_ends_with_read', 'vipr_table/drops_before_the_last_reference',
     'vipr_table/keep_all_shows_forgotten', 'vipr_table/union_loses_the_greatest', 'vipr_tighten/nothing_derived',
