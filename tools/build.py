@@ -28,8 +28,6 @@ PROGRAM = 'vipr'
 QUIET_SECONDS = 3
 # what has to be free, in kB, for one more process
 FREE = 3_000_000
-# these end the longest chain, and little is left to build beside them: they get all processors that are free
-LAST = {'vipr_check', 'vipr_explain', 'vipr_command'}
 # how this script calls itself for one command of the toolchain, under its own lock
 UNLOCKED = '--unlocked'
 # a library's first build: it keeps no work, and the library has its statements without their proofs
@@ -128,7 +126,7 @@ class Build:
 
     def jobs(self, crate, free):
         """By how many processes to prove a crate, of those that are free."""
-        return max(1, free if crate in LAST else 1 if crate in self.first or crate == PROGRAM else min(2, free))
+        return 1 if crate in self.first or crate == PROGRAM else max(1, min(2, free))
 
     def build(self, crate, number, jobs):
         """Builds a crate by so many processes, as many as the toolchain chooses for 0, and gives whether that went well."""
