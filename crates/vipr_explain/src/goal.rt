@@ -106,7 +106,7 @@ impl<'a> ProvedClaim<'a> {
     }
 }
 
-// Writes about what a bound is, if it isn't whole.
+// Writes a decimal that is close to a bound which isn't whole.
 fn write_about(page: &mut Page, bound: Option<Frac>) {
     match bound {
         Some(bound) if !bound.is_whole() => {
@@ -213,7 +213,7 @@ fn near_names(subject: Subject<'_>, near: &[Near]) -> Result<Marks, AllocError>
     find_names(subject, wanted.as_slice())
 }
 
-// Writes what to do, by the first of the nearest constraints that has an advice. Those that are
+// Writes what to do, by the first of the nearest constraints that leads to a step. Those that are
 // strong enough come first, then those that miss the bound by less, then those that are turned.
 fn write_advice(page: &mut Page, known: &UnprovedClaim<'_>) {
     let problem = &known.known.problem;
