@@ -3,7 +3,7 @@
 
 usage: tests/all.py [--anew]
 
-First `rt ci`: every proof, the must-fail edits, the tests. A kit whose `rt ci` knows --anew takes over what an earlier
+First `rt ci`: every proof and the tests. A kit whose `rt ci` knows --anew takes over what an earlier
 run of it passed on this machine, and nothing with --anew; other kits prove everything each time, and --anew isn't handed
 on to them. Then each script of SCRIPTS, which counts as one. Prints what each took, and what of the processor time went
 into each crate's proof, tests and edits, found by looking at the processes once a second, and the SHA-256 of the program

@@ -74,10 +74,8 @@ class Run:
         self.result = ends[-1] if ends else ''
         shares = re.findall(r'^(?:rt: )?ok; handles allowed: .*; (.*)$', text, re.M)
         self.share = shares[-1] if shares else 'not said'
-        edits = re.findall(r'must-fail edits: (\d+) refused', text)
         sample = re.findall(r'^(\d+) refused, (\d+) not, (\d+) not judged$', text, re.M)
-        self.edits = f'{edits[-1] if edits else 0} of `must-fail/`'
-        self.edits += f', {sample[-1][0]} of {sum(map(int, sample[-1]))} tried of `wrong/`' if sample else ''
+        self.edits = f'{sample[-1][0]} of {sum(map(int, sample[-1]))} that were tried' if sample else 'none was tried'
         refused = re.findall(rf'^{wrong.REFUSED}(.*)$', text, re.M)
         self.tried = re.findall(r'\S+ ([0-9a-f]+)', refused[-1]) if refused else []
         self.verdicts = dict(verdicts(text))

@@ -379,8 +379,8 @@ def causes_agree():
 
 
 def edits_stand():
-    """The `old:` text of each edit of must-fail/ and wrong/ stands once in its file."""
-    for crate, part, path in files(('must-fail', 'wrong'), ('.edit',)):
+    """The `old:` text of each edit of wrong/ stands once in its file."""
+    for crate, part, path in files(('wrong',), ('.edit',)):
         state, file, old = {}, None, None
         for n, line in enumerate(read(path).split('\n'), 1):
             if line.startswith('file: '):

@@ -5,9 +5,8 @@ came since `make wrong` was last run whole, or says whether both are current.
 usage: tests/proof.py [--check]
 
 A row for each public call: the call, the names of its clauses (`-` for one without a name), the definitions that they
-cite, the laws that its proof cites, and the edits of its code: those that `make test` tries each time, of must-fail/ and
-some of wrong/, and the others of wrong/, which `make wrong` tries. Edits of what lies below the public calls, of definitions and of laws stand in the
-lines below a crate's table. Of docs/PROOF.md it says which crate has no heading there, and which clause in brackets is
+cite, the laws that its proof cites, and the edits of its code: those that `make test` tries each time, and the others, which
+`make wrong` tries. Edits of what lies below the public calls, of definitions and of laws stand in the lines below a crate's table. Of docs/PROOF.md it says which crate has no heading there, and which clause in brackets is
 none of the calls before it, or of the record behind `of`. Without git and the commit of that run, what came since is left
 out, and a line says so.
 """
@@ -36,17 +35,11 @@ def imports(text):
     return words
 
 
-# the folders of edits
-FOLDERS = 'must-fail', 'wrong'
-
-
 def tried_by(crate):
     """The edits of a crate by the command that tries all of them."""
     out = {'make test': [], 'make wrong': []}
-    for folder in FOLDERS:
-        for edit in edits(crate, folder):
-            is_always = folder == 'must-fail' or f'{crate}/{edit[0]}' in wrong.ALWAYS
-            out['make test' if is_always else 'make wrong'].append(edit)
+    for edit in edits(crate):
+        out['make test' if f'{crate}/{edit[0]}' in wrong.ALWAYS else 'make wrong'].append(edit)
     return out
 
 
@@ -132,9 +125,8 @@ def tables():
 
 def how_many():
     """The edits that there are today, as a sentence."""
-    count = {folder: sum(len(list(edits(crate, folder))) for crate in crates()) for folder in FOLDERS}
-    return '\n'.join([EDITS[0], 'Today there are ' + ' and '.join(f'{n} in `{folder}/`' for folder, n in count.items())
-                      + f'. Each `make test` tries {count["must-fail"] + len(wrong.ALWAYS)} of them, and ten others.', EDITS[1]])
+    count = sum(len(list(edits(crate))) for crate in crates())
+    return '\n'.join([EDITS[0], f'Today there are {count}. Each `make test` tries {len(wrong.ALWAYS)} of them, and ten others.', EDITS[1]])
 
 
 def came_since(text):

@@ -5,9 +5,10 @@ It does as the file PLAN says, a word and what to do a line:
   proves CRATE HOW    `rt lib` or `rt run` of a crate: well, refused, killed, half (a line that is cut off), or nothing (no
                       program is left)
   gate HOW            `rt ci`: well, failed, killed, half, mute (a failure that it doesn't count), or nothing
-  edit NAME HOW       a check with an edit: goal, name, limit, killed, proved, or unread
-What isn't named goes well, and an edit is refused at a goal. Each command is written into the file LOG. As a module it has
-what tools/wrong.py asks the kit's own `rt` for.
+  edit NAME HOW       a check with an edit: goal, name, limit, killed, proved, unread, elsewhere (beside others the place is in
+                      another function), or the name of an edit whose function the edited one calls
+What isn't named goes well, and an edit is refused at a goal. Each command is written into the file LOG, and each check which
+edits it has. As a module it has what tools/wrong.py asks the kit's own `rt` for.
 """
 import hashlib
 import os
@@ -85,21 +86,45 @@ def main(words):
 
 # ---- as a module
 
+def edited(text, folder):
+    """The changed files of edits, and nothing; or nothing, and why."""
+    texts = {}
+    for file, old, new in re.findall(r'^file: (.*)\nold: (.*)\nnew: (.*)$', text, re.M):
+        texts.setdefault(file, Path(folder, file).read_text())
+        if texts[file].count(old) != 1:
+            return None, 'its text is not there once'
+        texts[file] = texts[file].replace(old, new)
+    return texts, None
+
+
 def read_edit(edit, folder):
-    """The changed files of an edit, and nothing; or nothing, and why."""
-    file, old, new = (re.search(rf'^{word}: (.*)$', Path(edit).read_text(), re.M)[1] for word in ('file', 'old', 'new'))
-    text = Path(folder, file).read_text()
-    return ({file: text.replace(old, new)}, '') if text.count(old) == 1 else ({}, 'its text is not there once')
+    return edited(Path(edit).read_text(), folder)
 
 
 def unread(line, texts):
     return 'cannot be read' in line
 
 
+def said_of_several(hows, text):
+    """What a check says of edits in the bodies of several functions of src/part.rt."""
+    places = {name: text[:text.index(f'// {name}, changed')].count('\n') + 1 for name in hows}
+    for name, how in hows.items():
+        place = f'note: src/part.rt:{places[name] if how != "elsewhere" else 1}:5: it is not proved that this returns'
+        calls = f'; it calls `low::part::{how}`, which is not proved' if how in hows else ''
+        yield {'name': f'proofs/part/{name}/Answers.antt:2:1: error: module `part.{name}.Goals` has no `gone`', 'proved': '',
+               'unread': 'src/part.rt:1:1: error: this cannot be read'}.get(how, place)
+        yield f'fn low::part::{name}: {"proved" if how == "proved" else "not proved"}{calls}'
+    yield f'only={len(hows)} pro' + ('' if 'killed' in hows.values() else f'ved={list(hows.values()).count("proved")}')
+
+
 def checked(crate, texts, flags, kept):
     """What the check of a crate with changed files answers: the plan knows an edit by what it changes."""
-    named = re.search(r'// (\w+), changed', ''.join(texts.values()))
-    how = plan().get(f'edit {named[1] if named else ""}', 'goal') if texts else 'proved'
+    names = re.findall(r'// (\w+), changed', ''.join(texts.values()))
+    log(f'check of {" ".join(names)}')
+    hows = {name: plan().get(f'edit {name}', 'goal') for name in names}
+    if len(hows) > 1:
+        return subprocess.CompletedProcess([], 1, '\n'.join(said_of_several(hows, ''.join(texts.values()))))
+    how = ''.join(hows.values()) if texts else 'proved'
     only = '--only' in flags
     said = {
         'goal': (1, 'src/lib.rt:1:1: error: a goal stays open\n' + ('only=1 proved=0' if only else 'logic=not-proved')),
@@ -110,7 +135,7 @@ def checked(crate, texts, flags, kept):
         'unread': (1, 'src/lib.rt:1:1: error: this cannot be read\n' + ('only=1 proved=0' if only else 'logic=not-proved')),
         'proved': (0, 'only=1 proved=1' if only else 'logic=proved'),
     }
-    return subprocess.CompletedProcess([], said[how][0], said[how][1])
+    return subprocess.CompletedProcess([], *said.get(how, said['goal']))
 
 
 class Crate:

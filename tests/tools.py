@@ -234,6 +234,37 @@ def wrong(place):
     status, out = tried('no_crate')
     check(status != 0, f'no edit at all: {status}, {out}')
     whole_runs(place, low)
+    together(place, low)
+
+
+def together(place, low):
+    """One check of several edits judges each by its own function. Those that it doesn't refuse are tried once more, together if
+    that can refuse one, and then alone. One that each sample tries has to be refused."""
+    names = ['four', 'one', 'three', 'two']
+    bodies = [f'fn {name}() {{\n    // {name}\n}}\n' for name in names]
+    (low / 'src/part.rt').write_text('\n'.join([*bodies, 'fn five()\n    ensures { unit } // five\n{\n}\n']))
+    for name in [*names, 'five']:
+        (low / 'wrong' / f'{name}.edit').write_text(f'file: src/part.rt\nold: // {name}\nnew: // {name}, changed\n')
+    everything = ' '.join(names)
+    for hows, said, checks in (
+            ({}, '4 refused, 0 not, 0 not judged', []),
+            ({'five': 'goal'}, '5 refused, 0 not, 0 not judged', ['five']),
+            ({'two': 'one'}, '4 refused, 0 not, 0 not judged', ['two']),
+            ({'two': 'one', 'three': 'two'}, '4 refused, 0 not, 0 not judged', ['three two', 'three']),
+            ({'two': 'elsewhere'}, '4 refused, 0 not, 0 not judged', ['two']),
+            ({'two': 'name'}, '3 refused, 0 not, 1 not judged', ['two'] * 4),
+            ({'two': 'proved'}, '3 refused, 1 not, 0 not judged', ['two'] * 4),
+            ({'two': 'killed'}, '3 refused, 0 not, 1 not judged', ['four', 'one', 'three'] + ['two'] * 4),
+            ({'two': 'unread'}, '3 refused, 1 not, 0 not judged', ['four', 'one', 'three'] + ['two'] * 4)):
+        place.plan(*(f'edit {name} {how}' for name, how in hows.items()))
+        status, out = place.python('tools/wrong.py', *(f'low/{name}' for name in {**dict.fromkeys(names), **hows}))
+        done = [row.removeprefix('check of ').split(' in ')[0] for row in place.log.read_text().split('\n') if row.startswith('check of')]
+        check((status, last(out), done) == (int(' 1 not,' in said), said, [everything, *checks]), f'together, {hows}: {status}, {last(out)}, {done}')
+    for always, wanted in ('one', 0), ('two', 1):
+        place.plan('edit two name')
+        status, out = place.python('-c', 'import sys; sys.path.insert(0, "tools"); import wrong; '
+                                   f'wrong.ALWAYS = {{"low/{always}"}}; sys.exit(wrong.main(["--sample", "1"]))')
+        check(status == wanted, f'{always} of each sample, and two is not judged: {status}, {last(out)}')
 
 
 def whole_runs(place, low):

@@ -4,13 +4,14 @@
 usage: tools/wrong.py [CRATE | CRATE/EDIT ..]
        tools/wrong.py --sample N
 
-`make test` tries the edits of `must-fail/`, which turn main promises. Those of ALWAYS do so, too; they are here since the
-toolchain would prove a whole crate once more for a few of them. The others are more of the same kind, and take longer than
-everything else together. Each is checked on a copy, over what the crate's last check proved: first the function that
-it changes, then all of its file, then the whole crate, and that once more from nothing; each only if what came before is
-still proved with the edit. Edits of one file follow one another. Crates are tried side by side, as many as memory allows.
-An edit is refused only if the prover leaves a goal or a type open at a place. It isn't judged if a proof file only lacks a
-name that the edit took away, if a limit of the toolchain ended the check, or if the check was killed.
+Those of ALWAYS turn main promises, and `make test` tries them. The others are more of the same kind, and take longer than
+everything else together. All are checked on a copy, over what the crate's last check proved. First one check has several, each
+in the body of another function: no proof of a function rests on the body of another. It refuses those of which it refuses the
+function itself, and not for a call. Each of the others is tried alone: first the function that it changes, then all of its
+file, then the whole crate, and that once more from nothing; each only if what came before is still proved with the edit.
+Edits of one file follow one another. Crates are tried side by side, as many as memory allows. An edit is refused only if the
+prover leaves a goal or a type open at a place. It isn't judged if a proof file only lacks a name that the edit took away, if
+a limit of the toolchain ended the check, or if the check was killed.
 
 Without words all are tried, and the day, the commit and the result are written into docs/PROOF.md. Behind them stands
 what came since: how many edits were added or changed, by git, and how many of those were tried and refused. `tests/proof.py`
@@ -22,7 +23,8 @@ commits as there are others try each of them N times. Without all commits the te
 nothing changed since: then no more is proved than the functions that are changed and, once, those that they call.
 
 Prints what each came to, which were refused, each with its git blob, and last `N refused, M not, K not judged`. The exit
-status is 1 if one isn't refused, if a crate isn't proved without an edit, or if more than 2 in 100 aren't judged.
+status is 1 if one isn't refused, if a crate isn't proved without an edit, if one of ALWAYS isn't judged, or if more than
+2 in 100 aren't.
 """
 import datetime
 import hashlib
@@ -48,22 +50,34 @@ MARKS = '<!-- last run: written by `make wrong`, and what came since by `tests/p
 # what a run prints of edits that were refused, and where the page keeps the blobs of those that were refused since
 REFUSED, TRIED = 'refused of wrong/: ', '<!-- refused since, by their git blobs:'
 # a place that a check names, and what it says of a proof that only lacks a name which the edit took away
-PLACE = re.compile(r'(note: )?\S+:\d+:\d+:')
-NAMES = re.compile(r'(note: )?(\./)?proofs/.*(has no field|is not in scope|has no `|was not admitted|were not checked)')
+PLACE = re.compile(r'(?:note: )?(?:\./)?(\S+?):(\d+):\d+:')
+NAMES = re.compile(r'(note: )?(\./)?proofs/.*(has no field|is not in scope|has no `|\(nearest: |was not admitted|were not checked)')
 # a proof file that answers a goal whose name is gone, and a goal that stayed open, at its place in the source
 GONE = re.compile(r'(?:\./)?proofs/(\S+?):\d+:\d+: error: .*: module `[^`]*\.Goals` has no `')
 OPEN = re.compile(r'note: src/(\S+?)\.rt:\d+:\d+:')
 # the head of a function, and the trait and the type of an `impl`
 FUNCTION = re.compile(r'(    )?(?:pub(?:\([^)]*\))? )?(?:unsafe )?(?:extern "C" )?fn (\w+)')
 IMPL = re.compile(r'impl (?:(?:\w+::)*(\w+) for )?&?(?:mut )?(?:\w+::)*(\w+)')
+# what a check says of a function that it refuses, but for one that it refuses for a call
+REFUSES = re.compile(r'fn \S+?::(\S+): (?:not proved|no proof)(?!.*it calls)')
+# how many functions one check may have edits of
+TOGETHER = 10
 # what one check may take of the memory, in kB
 ROOM = 4_000_000
 # edits of main promises: each sample tries all of them
-ALWAYS = {
-    'vipr_bytes/write_taken_is_zero', 'vipr_scan/token_ends_with_read', 'vipr_table/drops_before_the_last_reference',
-    'vipr_table/keep_all_shows_forgotten', 'vipr_table/union_loses_the_greatest', 'vipr_tighten/nothing_derived',
-    'vipr_tighten/split_assumptions_not_renumbered', 'vipr_tighten/writes_before_it_is_verified',
-    'vipr_tighten/writes_the_input_again'}
+ALWAYS = {f'vipr_{crate}/{name}' for crate, names in {
+    'bytes': 'write_taken_is_zero',
+    'check': 'always_a_fault always_refused every_text_is_verified explain_by_two goal_on_assumptions primal_never_tested '
+             'solutions_untested stops_at_the_goal',
+    'frac': 'add_in_wider_order mul_squares_whole overflowing_sum_is_rounded parse_signed_denominator parse_wraps '
+            'write_numer_twice',
+    'linear': 'absurd_turned dominates_any_sense later_sense_counts round_at_most_up round_outside_integers '
+              'rounds_up_past_a_whole_side split_with_gap',
+    'rules': 'apply_by_two sum_in_reverse uns_drops_from_the_joined_set zero_multipliers_count',
+    'scan': 'token_ends_with_read',
+    'table': 'drops_before_the_last_reference keep_all_shows_forgotten union_loses_the_greatest',
+    'tighten': 'nothing_derived split_assumptions_not_renumbered writes_before_it_is_verified writes_the_input_again',
+}.items() for name in names.split()}
 # of how many edits one need not be judged
 UNJUDGED_IN = 50
 
@@ -87,7 +101,7 @@ def git(*words):
 def text_sum():
     """A sum of the text of all crates."""
     total = hashlib.sha256()
-    for path in sorted(it for part in ('src', 'specs', 'proofs', 'must-fail', 'wrong')
+    for path in sorted(it for part in ('src', 'specs', 'proofs', 'wrong')
                        for it in TOP.glob(f'crates/*/{part}/**/*') if it.is_file()):
         total.update(f'{path.relative_to(TOP)}\n'.encode() + path.read_bytes())
     return total.hexdigest()
@@ -131,18 +145,45 @@ def plain(line):
     return line
 
 
-def functions(crate, texts):
-    """The function that holds the first change of an edit, as a check names it; none if that isn't clear."""
-    file, text = next(iter(texts.items()))
-    old, new = Path(crate.folder, file).read_text().split('\n'), text.split('\n')
-    at = next((n for n, pair in enumerate(zip(old, new)) if pair[0] != pair[1]), 0)
-    lines = [plain(it) for it in new[at::-1]]
-    function, owner = (next(filter(None, map(part.match, lines)), None) for part in (FUNCTION, IMPL))
-    if not modules(texts) or not function or (function[1] and not owner):
-        return []
+def head_of(lines, at):
+    """The head of the function that a line is in or behind, and its number."""
+    return next(((found, n) for n in range(at, -1, -1) if (found := FUNCTION.match(plain(lines[n])))), (None, 0))
+
+
+def function_at(file, lines, at):
+    """The function that a line of a source is in or behind, as a check names it; none if that isn't clear."""
+    head, number = head_of(lines, at)
+    owner = next(filter(None, (IMPL.match(plain(it)) for it in lines[number::-1])), None)
+    if not modules([file]) or not head or (head[1] and not owner):
+        return ''
     # (a method is named after its type, which may be of another module)
-    above = owner[2] + (owner[1] or '') if function[1] else modules(texts)[0]
-    return [f'{above}::{function[2]}']
+    above = owner[2] + (owner[1] or '') if head[1] else modules([file])[0]
+    return f'{above}::{head[2]}'
+
+
+def changes(crate, file, text):
+    """The numbers of the lines that an edit changes in a file: it adds and takes none."""
+    return [n for n, (old, new) in enumerate(zip(Path(crate.folder, file).read_text().split('\n'), text.split('\n'))) if old != new]
+
+
+def functions(crate, texts):
+    """The function that holds the first change of an edit; none if that isn't clear."""
+    file, text = next(iter(texts.items()))
+    found = modules(texts) and function_at(file, text.split('\n'), next(iter(changes(crate, file, text)), 0))
+    return [found] if found else []
+
+
+def body_of(crate, texts):
+    """The function of which an edit changes the body, and nothing else; none if that isn't clear."""
+    (file, text), *more = texts.items()
+    lines, changed = text.split('\n'), changes(crate, file, text) or [0]
+    head, number = head_of(lines, changed[0])
+    if more or not head:
+        return ''
+    indent = head[1] or ''
+    opened = next((n for n in range(number, len(lines)) if re.match(rf'{indent}(\S.*)?{{$', lines[n])), len(lines))
+    closed = next((n for n in range(opened, len(lines)) if lines[n] == indent + '}'), 0)
+    return function_at(file, lines, changed[0]) if opened < changed[0] and changed[-1] < closed else ''
 
 
 def places(lines):
@@ -156,17 +197,46 @@ def places(lines):
             yield line
 
 
-def said_of(rt, crate, texts, paths, flags, kept):
-    """What is said first against an edit if only these functions and modules are checked, and what they call; nothing if they
-    are proved, or if it isn't clear that the prover refused one."""
-    if not paths:
-        return ''
+def refusal(rt, crate, texts, paths, flags, kept):
+    """What a check says if it refuses some of these functions and modules, with what they call; nothing if it proves them, or
+    if it isn't clear that the prover refused one."""
     ran = rt.checked(crate, texts, [*flags, *(word for it in paths for word in ('--only', it))], kept)
     lines = ran.stdout.rstrip('\n').split('\n')
     count = re.match(r'only=(\d+) proved=(\d+)', lines[-1])
-    if ran.returncode != 1 or not count or int(count[1]) <= int(count[2]) or any(rt.unread(it, texts) for it in lines):
+    is_clear = ran.returncode == 1 and count and int(count[1]) > int(count[2]) and not any(rt.unread(it, texts) for it in lines)
+    return lines if is_clear else []
+
+
+def said_of(rt, crate, texts, paths, flags, kept):
+    """What is said first against an edit if only these functions and modules are checked, and what they call."""
+    return next((it[:160] for it in places(refusal(rt, crate, texts, paths, flags, kept))), '') if paths else ''
+
+
+def said_at(function, texts, lines):
+    """What a check says first against a function at a place of its own, if it refuses it, and not for a call."""
+    if not any(found and f'::{found[1]}'.endswith(f'::{function}') for found in map(REFUSES.match, lines)):
         return ''
-    return next((it[:160] for it in places(lines)), '')
+    for line in places(lines):
+        file, number = PLACE.match(line).groups()
+        if (f'/{function.replace("::", "/")}/' in file
+                or file in texts and function_at(file, texts[file].split('\n'), int(number) - 1) == function):
+            return line[:160]
+    return ''
+
+
+def said_together(rt, crate, paths, flags, kept):
+    """What is said against each edit that is refused if one check has several of them, each in the body of another function: no
+    function's proof rests on another's body."""
+    there = {}
+    for path in paths:
+        texts, _ = rt.read_edit(str(path), crate.folder)
+        if texts and len(there) < TOGETHER:
+            there.setdefault(body_of(crate, texts), path)
+    there.pop('', None)
+    texts, _ = rt.edited('\n'.join(path.read_text() for path in there.values()), crate.folder)
+    lines = refusal(rt, crate, texts, there, flags, kept) if texts and len(there) > 1 else []
+    said = {path: said_at(function, texts, lines) for function, path in there.items()}
+    return {path: line for path, line in said.items() if line}
 
 
 def said_of_all(rt, crate, path, texts, flags, kept):
@@ -237,12 +307,19 @@ def tried(rt, crate, paths, kept, goes_on):
     if not crate.is_built() and rt.checked(crate, {}, one, str(kept)).returncode:
         print(f'{crate.name} is not proved', flush=True)
         return out + [(f'{crate.name}/{path.stem}', Verdict.MISSED, False) for path in paths]
-    for path in paths:
-        verdict, text = judged(rt, crate, path, one, str(kept))
+
+    def end(path, verdict, text):
         print(text, flush=True)
-        out.append((f'{crate.name}/{path.stem}', verdict, False))
+        out.append((name_of(path), verdict, False))
         if verdict is Verdict.REFUSED:
             refused.add(path)
+    # (those that a check refuses for the call of another's function are refused by one of the next)
+    while said := said_together(rt, crate, paths, one, str(kept)):
+        paths = [path for path in paths if path not in said]
+        for path, line in said.items():
+            end(path, Verdict.REFUSED, f'{crate.name}/{path.name}: refused, as it must be: {line}')
+    for path in paths:
+        end(path, *judged(rt, crate, path, one, str(kept)))
     shutil.rmtree(kept, ignore_errors=True)
     return out
 
@@ -352,7 +429,8 @@ def main(words):
         for name in names:
             print(f'{verdict.value}: {name}')
     print(f'{len(refused)} refused, {len(missed)} not, {len(unjudged)} not judged')
-    return 1 if missed or UNJUDGED_IN * len(unjudged) > max(len(results), UNJUDGED_IN) or not results else 0
+    is_left = ALWAYS & set(unjudged) or UNJUDGED_IN * len(unjudged) > max(len(results), UNJUDGED_IN)
+    return 1 if missed or is_left or not results else 0
 
 
 if __name__ == '__main__':
