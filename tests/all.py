@@ -6,7 +6,7 @@ usage: tests/all.py [--anew]
 First `rt ci`: every proof and the tests. A kit whose `rt ci` knows --anew takes over what an earlier
 run of it passed on this machine, and nothing with --anew; other kits prove everything each time, and --anew isn't handed
 on to them. Then each script of SCRIPTS, which counts as one. Prints what each took, and what of the processor time went
-into each crate's proof, tests and edits, found by looking at the processes once a second, and the SHA-256 of the program
+into each crate's proof and tests, found by looking at the processes once a second, and the SHA-256 of the program
 and of the libraries. The last line is `N passed, M failed`, and behind it `, K skipped` if a script says K times that it
 left something out, since strace, valgrind, GNU time, git, coqc or a C compiler isn't installed here. The exit status
 is 1 if one failed. `tests/gate.py` makes a page of this output.
@@ -103,13 +103,12 @@ class Watch:
             try:
                 fields = (folder / 'stat').read_text().rpartition(')')[2].split()
                 words = (folder / 'cmdline').read_text(errors='replace').split('\0')
-                place = os.readlink(folder / 'cwd')
             except OSError:
                 continue
             # (the parent, when it began, and own time with that of the processes that have ended below)
-            processes[int(folder.name)] = int(fields[1]), fields[19], sum(map(int, fields[11:15])), words, place
+            processes[int(folder.name)] = int(fields[1]), fields[19], sum(map(int, fields[11:15])), words
         checks = defaultdict(int)
-        for pid, (_, _, ticks, _, _) in processes.items():
+        for pid, (_, _, ticks, _) in processes.items():
             above, check = pid, None
             while above in processes:
                 if '--crate-name' in processes[above][3]:
@@ -120,9 +119,9 @@ class Watch:
             if check and above == os.getpid():
                 checks[check] += ticks
         for check, ticks in checks.items():
-            _, began, _, words, place = processes[check]
+            _, began, _, words = processes[check]
             crate = words[words.index('--crate-name') + 1]
-            kind = 'edits' if '/rt-edit' in place else 'tests' if '--test' in words else 'proof'
+            kind = 'tests' if '--test' in words else 'proof'
             key = check, began, crate, kind
             self.spent[key] = max(self.spent.get(key, 0), ticks / TICKS)
 
@@ -131,7 +130,7 @@ class Watch:
         for (_, _, crate, kind), seconds in self.spent.items():
             total[crate, kind] += seconds / 60
         for crate in sorted({crate for crate, _ in total}):
-            parts = ', '.join(f'{kind} {total[crate, kind]:.1f}' for kind in ('proof', 'tests', 'edits'))
+            parts = ', '.join(f'{kind} {total[crate, kind]:.1f}' for kind in ('proof', 'tests'))
             yield f'{crate}: {parts} minutes of processor time'
 
 

@@ -35,7 +35,7 @@ STUB = 'No run is written here yet.\n'
 YARDSTICK = 'itoa'
 # a yardstick of the page that was taken for another command
 ELSEWHERE = re.compile(r'; (at commit `(\w+)`[^;|]*\w)')
-KINDS = ('proof', 'tests', 'edits')
+KINDS = ('proof', 'tests')
 # the commands beside `make test`, and what their rows say if they weren't run
 OTHERS = ('make build', 'make lib', 'make dist', 'make wrong')
 NOT_RUN = 'not in this run', ''
@@ -63,7 +63,7 @@ class Run:
         self.others = {name.replace('built', 'make build'): (*at, number(wall), number(spent)) for name, wall, spent in re.findall(
             r'^(built|make (?:lib|dist|wrong)): ([\d.]+) minutes, ([\d.]+) of processor time$', text, re.M)}
         self.crates = {crate: tuple(map(number, rest)) for crate, *rest in re.findall(
-            r'^(\w+): proof ([\d.]+), tests ([\d.]+), edits ([\d.]+) minutes of processor time$', text, re.M)}
+            r'^(\w+): proof ([\d.]+), tests ([\d.]+) minutes of processor time$', text, re.M)}
         self.steps = [(name, number(wall), number(spent)) for name, wall, spent in re.findall(
             r'^(\S.*): ([\d.]+) minutes, ([\d.]+) of processor time$', text, re.M)
             if re.search(r'rt ci( --anew)?$', name) or '.py' in name]
@@ -73,7 +73,8 @@ class Run:
         ends = re.findall(r'^\d+ passed, \d+ failed(?:, \d+ skipped)?$', text, re.M)
         self.result = ends[-1] if ends else ''
         shares = re.findall(r'^(?:rt: )?ok; handles allowed: .*; (.*)$', text, re.M)
-        self.share = shares[-1] if shares else 'not said'
+        # (no crate has a must-fail edit)
+        self.share = shares[-1].replace(' and must-fail edit', '') if shares else 'not said'
         sample = re.findall(r'^(\d+) refused, (\d+) not, (\d+) not judged$', text, re.M)
         self.edits = f'{sample[-1][0]} of {sum(map(int, sample[-1]))} that were tried' if sample else 'none was tried'
         refused = re.findall(rf'^{wrong.REFUSED}(.*)$', text, re.M)
@@ -176,9 +177,8 @@ def page(run):
     lines.append(row('`make test`', *[sum(step[at] for step in run.steps) for at in (1, 2)]))
     lines += [row(f'its step `{name}`', wall, spent) for name, wall, spent in run.steps]
     lines += [run.took(name, commit) for name in OTHERS[1:]]
-    lines += ['', 'The same by crates, in processor minutes. `make test` proves a crate with its tests once more. It also proves a '
-              'crate with wrong versions once more before it tries those, which counts with them here.', '',
-              '| Crate | `make build` | `make test`: proof | tests | wrong versions |', '|---|---|---|---|---|']
+    lines += ['', 'The same by crates, in processor minutes. `make test` proves a crate with its tests once more.', '',
+              '| Crate | `make build` | `make test`: proof | tests |', '|---|---|---|---|']
     for crate in sorted(run.crates | run.built):
         lines.append(row(f'`{crate}`', run.minutes_built(crate), *run.crates.get(crate, [''] * len(KINDS))))
     sums = [float(sum(it[at] for it in run.crates.values())) for at in range(len(KINDS))]

@@ -5,9 +5,9 @@ usage: tools/wrong.py [CRATE | CRATE/EDIT ..]
        tools/wrong.py --sample N
 
 Those of ALWAYS turn main promises, and `make test` tries them. The others are more of the same kind, and take longer than
-everything else together. All are checked on a copy, over what the crate's last check proved. First one check has several, each
-in the body of another function: no proof of a function rests on the body of another. It refuses those of which it refuses the
-function itself, and not for a call. Each of the others is tried alone: first the function that it changes, then all of its
+everything else together. All are checked on a copy, over what the crate's last check proved. One check has several of them,
+each in the body of another function, since no function's proof rests on another's body. It refuses an edit if it refuses its
+function, and not for a call. All that are left are tried alone: first the function that the edit changes, then all of its
 file, then the whole crate, and that once more from nothing; each only if what came before is still proved with the edit.
 Edits of one file follow one another. Crates are tried side by side, as many as memory allows. An edit is refused only if the
 prover leaves a goal or a type open at a place. It isn't judged if a proof file only lacks a name that the edit took away, if
@@ -19,8 +19,9 @@ counts the former anew. A run by names adds the latter, and `tests/gate.py` does
 off goes on where it was: an edit that was refused over the same text isn't tried once more.
 
 --sample tries ALWAYS, and of the others N that follow one another. Each commit begins where the one before ends: as many
-commits as there are others try each of them N times. Without all commits the text of the crates chooses. It takes over what `rt ci` proved, if
-nothing changed since: then no more is proved than the functions that are changed and, once, those that they call.
+commits as there are others try each of them N times. Without all commits the text of the crates chooses. It takes over what
+`rt ci` proved, if nothing changed since: then no more is proved than the functions that are changed and, once, those that
+they call.
 
 Prints what each came to, which were refused, each with its git blob, and last `N refused, M not, K not judged`. The exit
 status is 1 if one isn't refused, if a crate isn't proved without an edit, if one of ALWAYS isn't judged, or if more than
@@ -176,14 +177,14 @@ def functions(crate, texts):
 def body_of(crate, texts):
     """The function of which an edit changes the body, and nothing else; none if that isn't clear."""
     (file, text), *more = texts.items()
-    lines, changed = text.split('\n'), changes(crate, file, text) or [0]
-    head, number = head_of(lines, changed[0])
+    lines, numbers = text.split('\n'), changes(crate, file, text) or [0]
+    head, number = head_of(lines, numbers[0])
     if more or not head:
         return ''
     indent = head[1] or ''
     opened = next((n for n in range(number, len(lines)) if re.match(rf'{indent}(\S.*)?{{$', lines[n])), len(lines))
     closed = next((n for n in range(opened, len(lines)) if lines[n] == indent + '}'), 0)
-    return function_at(file, lines, changed[0]) if opened < changed[0] and changed[-1] < closed else ''
+    return function_at(file, lines, numbers[0]) if opened < numbers[0] and numbers[-1] < closed else ''
 
 
 def places(lines):
@@ -225,8 +226,7 @@ def said_at(function, texts, lines):
 
 
 def said_together(rt, crate, paths, flags, kept):
-    """What is said against each edit that is refused if one check has several of them, each in the body of another function: no
-    function's proof rests on another's body."""
+    """What one check of several edits, each in the body of another function, says against those that it refuses."""
     there = {}
     for path in paths:
         texts, _ = rt.read_edit(str(path), crate.folder)
