@@ -5,7 +5,7 @@ It does as the file PLAN says, a word and what to do a line:
   proves CRATE HOW    `rt lib` or `rt run` of a crate: well, refused, killed, half (a line that is cut off), or nothing (no
                       program is left)
   gate HOW            `rt ci`: well, failed, killed, half, mute (a failure that it doesn't count), or nothing
-  edit NAME HOW       a check with an edit: goal, name, limit, killed, proved, unread, elsewhere (beside others the place is in
+  edit NAME HOW       a check with an edit: goal, name, field, limit, killed, proved, unread, elsewhere (beside others the place is in
                       another function), or the name of an edit whose function the edited one calls
 What isn't named goes well, and an edit is refused at a goal. Each command is written into the file LOG, and each check which
 edits it has. As a module it has what tools/wrong.py asks the kit's own `rt` for.
@@ -130,6 +130,8 @@ def checked(crate, texts, flags, kept):
         'goal': (1, 'src/lib.rt:1:1: error: a goal stays open\n' + ('only=1 proved=0' if only else 'logic=not-proved')),
         'name': (1, 'proofs/one/Answers.antt:2:1: error: module `one.Goals` has no `gone`\n'
                     + ('only=1 proved=0' if only else 'logic=not-proved')),
+        'field': (1, 'proofs/one/Answers.antt:2:1: error: record `one.Lts.After` (nearest: .other)\n'
+                     + ('only=1 proved=0' if only else 'logic=not-proved')),
         'limit': (3, 'src/lib.rt:1:1: error: the search ends at its limit of steps\nlogic=unknown'),
         'killed': (-signal.SIGKILL, 'only=1 pro' if only else 'logic=not-pro'),
         'unread': (1, 'src/lib.rt:1:1: error: this cannot be read\n' + ('only=1 proved=0' if only else 'logic=not-proved')),

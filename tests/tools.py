@@ -225,7 +225,7 @@ def wrong(place):
     for how, said in (('proved', '99 refused, 1 not, 0 not judged'), ('unread', '99 refused, 1 not, 0 not judged')):
         status, out = tried(edit00=how)
         check((status, last(out)) == (1, said) and 'not refused: low/edit00' in out, f'an edit is {how}: {status}, {last(out)}')
-    for how in ('name', 'limit', 'killed'):
+    for how in ('name', 'field', 'limit', 'killed'):
         status, out = tried(edit00=how, edit01=how)
         check((status, last(out)) == (0, '98 refused, 0 not, 2 not judged') and 'not judged: low/edit00' in out,
               f'two edits by {how}: {status}, {last(out)}')
