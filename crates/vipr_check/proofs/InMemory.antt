@@ -32,8 +32,10 @@ pub refused : (bytes : List ℕ) (refusal : Refusal) → length bytes < 2 ^ 64
     → Answers bytes (Ok (Refused refusal)) → SpellsProof bytes → ⊥
 refused bytes refusal short c p = c.every short refl p.0 p.1 p.2
 
-pub meaning : {E : Type 0} (bytes : List ℕ) (r : Result Bool E)
+-- what a yes says, if it says that the bytes mean what they claim
+pub if_yes : {E : Type 0} (bytes : List ℕ) (r : Result Bool E) (Q : Type 0)
     → ((P : Profile) (bytes : List ℕ) (c : Certificate) → Spells bytes c → IsProof P c → Means bytes)
-    → IfOk r (λ v. IsTrue v ↔ SpellsProof bytes) → IfOk r (λ v. IsTrue v → Means bytes)
-meaning bytes (Ok v) mean h = λ t. let p = h.0 t in mean one bytes p.0 p.1 p.2
-meaning bytes (Err e) mean h = tt
+    → (Means bytes → Q)
+    → IfOk r (λ v. IsTrue v ↔ SpellsProof bytes) → IfOk r (λ v. IsTrue v → Q)
+if_yes bytes (Ok v) Q mean follows h = λ t. let p = h.0 t in follows (mean one bytes p.0 p.1 p.2)
+if_yes bytes (Err e) Q mean follows h = tt

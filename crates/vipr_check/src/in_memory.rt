@@ -1,7 +1,7 @@
 //! The answer for bytes in memory, as yes or no.
 
-ghost use Rattle.std.specs.Prelude.{◌≡◌, ◌↔◌, IfErr, IfOk, IsTrue};
-ghost use Rattle.vipr_spec.specs.Short.{Means};
+ghost use Rattle.std.specs.Prelude.{◌≡◌, ◌↔◌, IfErr, IfOk, IsTrue, List};
+ghost use Rattle.vipr_spec.specs.Short.{Holds, Problem, Row, States};
 ghost use Rattle.vipr_check.specs.Promises.{SpellsProof, SpellsTruth};
 
 use crate::checks::check;
@@ -28,14 +28,18 @@ pub fn is_proof(alloc: Global, text: &[u8]) -> Result<bool, Fault>
     }
 }
 
-/// Whether the bytes are verified. If they are, they state a problem and listed solutions, and what
-/// they claim is true. The answer is that of [`is_proof`].
+/// Whether the bytes are a certificate that is a proof, as [`is_proof`] says it. If they are, they
+/// state a problem and listed solutions, and of whatever problem they state the claim is true.
 ///
 /// # Errors
 ///
 /// As for [`is_proof`].
 pub fn is_verified(alloc: Global, text: &[u8]) -> Result<bool, Fault>
-    ensures means { IfOk result (λ verified. IsTrue verified → Means text.now) }
+    ensures proof { IfOk result (λ verified. IsTrue verified ↔ SpellsProof text.now) }
+    ensures states { IfOk result (λ verified. IsTrue verified
+        → (p : Problem) × (ss : List Row) × States text.now p ss) }
+    ensures holds { IfOk result (λ verified. IsTrue verified
+        → (p : Problem) (ss : List Row) → States text.now p ss → Holds p ss p.bounds) }
     ensures error { IfErr result (λ fault. fault ≡ Fault.Memory) }
 {
     proofs_mean();

@@ -18,6 +18,8 @@ pub use Rattle.vipr_spec.proofs.Fractions.{is_self, is_whole, is_zero, le_in, le
 pub use Rattle.vipr_spec.proofs.Fractions.{le_of_whole, le_out, mul-zero_ℚ, same_ℚ, whole-add}
 pub use Rattle.vipr_spec.proofs.Fractions.{over_common, over_equal, whole-mul, zero-add_ℚ}
 pub use Rattle.vipr_spec.proofs.Fractions.{zero-mul_ℚ, zero_from_numer, zero_numer, zero_or_not}
+-- Of whatever problem a text states, the claim holds
+pub use Rattle.vipr_spec.proofs.OneStated.{holds_of_any}
 -- What is a proof under profile one is one under profile two
 pub use Rattle.vipr_spec.proofs.Goals.{proof_two}
 -- The faults of each item

@@ -1,21 +1,21 @@
 -- A text that spells a proof means what it claims
-use Rattle.std.proofs.Common.{◌≡◌, ℕ, zero, suc, ◌<◌, Bool, false, ◌==◌, nat_eq, if◌then◌else◌}
+use Rattle.std.proofs.Common.{◌≡◌, ℕ, zero, suc, ◌<◌, Bool, nat_eq, if◌then◌else◌}
 use Rattle.std.proofs.Common.{List, [], ◌∷◌, length, slice_index_or, Option, Some, None, IfSome}
-use Rattle.std.proofs.Common.{All, Any, Contains, codes, arith, refl, sym, ◌∙◌, ap, subst}
+use Rattle.std.proofs.Common.{All, Any, Contains, arith, refl, sym, ◌∙◌, subst}
 use Rattle.std.proofs.lemmas.List.Elements.{All-nil, All-cons, All-head, All-tail, All-weaker}
 use Rattle.std.proofs.lemmas.List.Elements.{All-contains_itself}
 use Rattle.std.proofs.lemmas.List.Folds.{Any-from_list_any, list_any-from_Any}
-use Rattle.std.proofs.{lemmas.Bool.eq-eqb, lemmas.Bool.false≢true, lemmas.Bool.Decides.nat_tests}
+use Rattle.std.proofs.{lemmas.Bool.eq-eqb, lemmas.Bool.Decides.nat_tests}
 use Rattle.std.specs.{FinSet.contains-from_list_nat, List.AllZip}
-use Rattle.vipr_spec.specs.Constraint.{Profile, Sense, Row, Constraint}
+use Rattle.vipr_spec.specs.Constraint.{Profile, Sense, at_most, equal, at_least, Row, Constraint}
 use Rattle.vipr_spec.specs.Constraint.{at, condition, Point, Compares, IsTrueAt, IsInteger}
 use Rattle.vipr_spec.specs.Certificate.{Certificate, IsProof, Named, Direction, minimum, maximum}
 use Rattle.vipr_spec.specs.Certificate.{Claim, infeasible, range, Problem, variables, IsFeasible}
 use Rattle.vipr_spec.specs.Certificate.{IsTrueClaim, IsAttained, IsAsGood, objective_at, dual_bound}
 use Rattle.vipr_spec.specs.Certificate.{primal_bound}
-use Rattle.vipr_spec.specs.{Fraction.ℚ, Fraction.IsWhole, Fraction.◌≤ℚ◌, Grammar.Spells}
+use Rattle.vipr_spec.specs.{Fraction.ℚ, Fraction.IsWhole, Grammar.Spells}
 use Rattle.vipr_spec.specs.Short as short
-use Rattle.vipr_spec.proofs.ShortTexts.{sense_word, is_min, bounds_of, AreOneConstraint}
+use Rattle.vipr_spec.proofs.ShortTexts.{sense_of, is_min, bounds_of, AreOneConstraint}
 use Rattle.vipr_spec.proofs.ShortTexts.{AreOneSolution, AreStated, states}
 use Rattle.vipr_spec.proofs.{ShortRows.value_at_point, Soundness.claim_true, Stated.spelled_states}
 
@@ -44,24 +44,22 @@ module _ {A B : Type 0} (R : A → B → Type 0) (Q : B → Type 0) where
 
 -- ---- constraints
 
-abbrev Says : List ℕ → ℚ → ℚ → Type 0
-Says s v b = ((s ≡ codes "L") → v ≤ℚ b) × ((s ≡ codes "G") → b ≤ℚ v) × ((s ≡ codes "E") → v ≡ b)
+says : (s : Sense) (v b : ℚ) → Compares s v b → short.Compares (sense_of s) v b
+says at_most v b h = h
+says equal v b h = h
+says at_least v b h = h
 
-differ : (a b : ℕ) → (a == b) ≡ false → a ∷ [] ≡ b ∷ [] → ⊥
-differ a b n e = false≢true (sym n ∙ eq-eqb a b (ap (λ l. slice_index_or l 0 0) e))
-
-says : (s : Sense) (v b : ℚ) → Compares s v b → Says (sense_word s) v b
-says s v b h = grind (arith, differ)
-
-said : (s : Sense) (v b : ℚ) → Says (sense_word s) v b → Compares s v b
-said s v b h = grind arith
+said : (s : Sense) (v b : ℚ) → short.Compares (sense_of s) v b → Compares s v b
+said at_most v b h = h
+said equal v b h = h
+said at_least v b h = h
 
 true_to : (n : ℕ) (c : Named Constraint) (d : short.Constraint) (v w : ℚ) → AreOneConstraint n c d
-    → v ≡ w → Compares c.item.sense v c.item.bound → Says d.sense w d.bound
+    → v ≡ w → Compares c.item.sense v c.item.bound → short.Compares d.sense w d.bound
 true_to n c d v w r e h = grind (arith, says)
 
 true_from : (n : ℕ) (c : Named Constraint) (d : short.Constraint) (v w : ℚ) → AreOneConstraint n c d
-    → v ≡ w → Says d.sense w d.bound → Compares c.item.sense v c.item.bound
+    → v ≡ w → short.Compares d.sense w d.bound → Compares c.item.sense v c.item.bound
 true_from n c d v w r e h = grind (arith, said)
 
 -- ---- points

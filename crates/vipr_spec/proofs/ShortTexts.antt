@@ -108,22 +108,23 @@ vector n row ts t = (
 
 -- ---- constraints
 
-abbrev pub sense_word : Sense → List ℕ
-sense_word at_most = codes "L"
-sense_word equal = codes "E"
-sense_word at_least = codes "G"
+abbrev pub sense_of : Sense → short.Sense
+sense_of at_most = short.at_most
+sense_of equal = short.equal
+sense_of at_least = short.at_least
 
-spelled_sense : (t : List ℕ) (s : Sense) → SpellsSense t s → t ≡ sense_word s
+spelled_sense : (t : List ℕ) (s : Sense) → SpellsSense t s → t ≡ short.sense_word (sense_of s)
 spelled_sense t at_most e = e
 spelled_sense t equal e = e
 spelled_sense t at_least e = e
 
-sense : (s : Sense) (ts : List (List ℕ)) → long.one SpellsSense s ts → short.word (sense_word s) ts
+sense : (s : Sense) (ts : List (List ℕ)) → long.one SpellsSense s ts
+    → short.word (short.sense_word (sense_of s)) ts
 sense s ts t = t.1 ∙ ap (λ w. w ∷ []) (spelled_sense t.0 s t.2)
 
 pub record AreOneConstraint (n : ℕ) (c : Named Constraint) (d : short.Constraint) : Type 0 where
   pub row : AreOne n c.item.row d.row
-  pub sense : d.sense ≡ sense_word c.item.sense
+  pub sense : d.sense ≡ sense_of c.item.sense
   pub bound : d.bound ≡ c.item.bound
 
 abbrev short_coefficients : short.Row → short.Row → List (List ℕ) → Type 0
@@ -141,7 +142,7 @@ constraint : (n : ℕ) (objective : Row) (os : short.Row) → AreOne n objective
 constraint n objective os o c ts t =
     let s = t.4 in let b = s.4 in
     let r = coefficients n objective c.item.row os o b.1 b.4 in (
-      record { row = r.0; sense = sense_word c.item.sense; bound = c.item.bound },
+      record { row = r.0; sense = sense_of c.item.sense; bound = c.item.bound },
       record { row = r.1; sense = refl; bound = refl },
       (t.0, t.1, t.2, (c.name, t.3), (s.0, s.1, s.2, sense c.item.sense s.0 s.3, (b.0, b.1, b.2, fraction c.item.bound b.0 b.3, r.2))),
     )

@@ -25,16 +25,23 @@ abbrev pub point_of : Row → Point
 point_of [] j = whole (pos 0)
 point_of (p ∷ ps) j = if p.0 == j then p.1 else point_of ps j
 
--- the sense is the word L, E or G
+pub data Sense : Type 0 where
+  at_most : Sense
+  at_least : Sense
+  equal : Sense
+
+abbrev pub Compares : Sense → ℚ → ℚ → Type 0
+Compares at_most v b = v ≤ℚ b
+Compares at_least v b = b ≤ℚ v
+Compares equal v b = v ≡ b
+
 pub record Constraint : Type 0 where
   pub row : Row
-  pub sense : List ℕ
+  pub sense : Sense
   pub bound : ℚ
 
 abbrev pub IsTrueAt : Constraint → Point → Type 0
-IsTrueAt c x = ((c.sense ≡ codes "L") → value c.row x ≤ℚ c.bound)
-    × ((c.sense ≡ codes "G") → c.bound ≤ℚ value c.row x)
-    × ((c.sense ≡ codes "E") → value c.row x ≡ c.bound)
+IsTrueAt c x = Compares c.sense (value c.row x) c.bound
 
 -- the bounds are those behind RTP, a lower and an upper one, of which each may be infinite; there
 -- are none if infeasibility is claimed
@@ -125,8 +132,13 @@ counted P xs = one Natural (length xs) then each P xs
 abbrev pub vector : Row → Shape
 vector row = counted (λ p. one Natural p.0 then one Number p.1) row
 
+abbrev pub sense_word : Sense → List ℕ
+sense_word at_most = codes "L"
+sense_word at_least = codes "G"
+sense_word equal = codes "E"
+
 abbrev pub constraint : Row → Constraint → Shape
-constraint objective c = any then word c.sense then one Number c.bound
+constraint objective c = any then word (sense_word c.sense) then one Number c.bound
     then (λ ts. vector c.row ts ⊎ (word (codes "OBJ") ts × (c.row ≡ objective)))
 
 abbrev pub bound : List ℕ → List ℕ → Option ℚ → Type 0
