@@ -13,7 +13,7 @@ GOOD, BAD = (TOP / 'examples/infeasible.vipr').read_bytes(), (TOP / 'examples/ov
 LONG = (TOP / 'examples/long_chain.vipr').read_bytes()
 # what the second profile alone verifies
 SPLIT = (TOP / 'examples/covering_split.vipr').read_bytes()
-FIELDS = ('result', 'seconds', 'file', 'line', 'bytes', 'changed', 'profile', 'sha256')
+FIELDS = ('result', 'seconds', 'file', 'line', 'bytes', 'changed', 'profile', 'program', 'sha256')
 
 
 def without_rights():
@@ -110,9 +110,10 @@ def unseen(many):
     os.mkfifo(many.room / 'c/pipe.vipr')
     (many.room / 'c/locked').chmod(0)
     (many.room / 'c/shut.vipr').chmod(0)
-    unread = ('c/locked', 'c/open/gone.vipr', 'c/ring.vipr', 'c/pipe.vipr', 'c/shut.vipr')
+    (many.room / 'c/open/more').symlink_to('/mnt/not-mounted')
+    unread = ('c/locked', 'c/open/gone.vipr', 'c/open/more', 'c/ring.vipr', 'c/pipe.vipr', 'c/shut.vipr')
     many.wants('what is locked', ['c'], 1, {'c/open/good.vipr': 'verified', **dict.fromkeys(unread, 'unread')},
-               '6 checked: 5 unread, 1 verified', preexec_fn=without_rights)
+               '7 checked: 6 unread, 1 verified', preexec_fn=without_rights)
     many.check(many.rows()['c/locked']['line'] == 'Permission denied', many.rows())
     many.wants('a link to a folder', ['d'], 1, {'d/good.vipr': 'verified', 'd/far/far.vipr': 'refused'})
     many.wants('a file that is not there', ['x.vipr'], 1, {'x.vipr': 'unread'}, '1 checked: 1 unread')
@@ -135,6 +136,9 @@ def resumed(many):
     many.wants('a changed file', ['--resume', '--profile', '2', 'e'], 1, {**verified, 'e/a.vipr': 'refused'},
                '1 checked, 1 before: 1 refused, 1 verified')
     many.put({'e/a.vipr': GOOD})
+    liar = many.script('liar', 'cat > /dev/null; echo verified infeas; echo solutions 0 derived 1 peak 1')
+    many.wants('a program that verifies all', ['e'], 0, verified, program=liar)
+    many.wants('the rows of another program', ['--resume', 'e'], 1, results, '2 checked: 1 refused, 1 verified')
     many.wants('a fault', ['e'], 1, dict.fromkeys(results, 'fault'), program=many.script('fails', 'echo fault memory >&2; exit 3'))
     many.wants('a fault before', ['--resume', 'e'], 1, results, '2 checked: 1 refused, 1 verified')
     for flags in ([], ['--json']):
@@ -178,9 +182,9 @@ def hostile_names(many):
 
 def other_programs(many):
     """Nothing but the checker's own lines is a verdict; runs and unpackers are ended at their limits."""
-    many.put({'g/good.vipr': GOOD, 'h/good.vipr.xz': lzma.compress(GOOD), 'h/good.vipr.zst': GOOD, 'g/split.vipr': SPLIT})
-    plain, packed = ['g/good.vipr'], ['h/good.vipr.xz']
-    fault, unpack, late = ({'g/good.vipr': 'fault'}, {'h/good.vipr.xz': 'unpack'}, {'h/good.vipr.xz': 'time'})
+    many.put({'g/good.vipr': GOOD, 'h/good.vipr.zst': GOOD, 'g/split.vipr': SPLIT})
+    plain, packed = ['g/good.vipr'], ['h/good.vipr.zst']
+    fault, unpack, late = ({'g/good.vipr': 'fault'}, {'h/good.vipr.zst': 'unpack'}, {'h/good.vipr.zst': 'time'})
     for text in ('exit 0', 'echo verified', 'echo refused 1 at byte 0', 'exit 1', 'kill -9 $$', 'exit 139',
                  *(f'{many.program} check < {TOP}/examples/{name}.vipr; kill -9 $$' for name in ('infeasible', 'overflow'))):
         many.wants(text, plain, 1, fault, program=many.script('other', text))
@@ -188,15 +192,15 @@ def other_programs(many):
     many.wants('/bin/true', plain, 1, fault, program='/bin/true')
     for text in ('cat; kill -9 $$', 'echo VER; kill -9 $$', f'cat {TOP}/examples/infeasible.vipr; kill -9 $$',
                  f'cat {TOP}/examples/infeasible.vipr; kill -PIPE $$', 'exit 1'):
-        many.script('xz', text)
+        many.script('zstd', text)
         many.wants(f'unpacked by {text}', packed, 1, unpack)
     text = f'ulimit -v > {many.room}/limit; cat {TOP}/examples/infeasible.vipr'
-    many.script('xz', text)
-    many.wants('a limit of memory', ['--memory', '1000', *packed], 0, {'h/good.vipr.xz': 'verified'})
+    many.script('zstd', text)
+    many.wants('a limit of memory', ['--memory', '1000', *packed], 0, {'h/good.vipr.zst': 'verified'})
     many.check((many.room / 'limit').read_text() == f'{1000 * 1024}\n', 'the unpacker has another limit')
     for text in ('exec sleep 1000', f'cat {TOP}/examples/infeasible.vipr; exec sleep 1000',
                  f'cat {TOP}/examples/infeasible.vipr; exec >&-; exec sleep 1000'):
-        many.script('xz', text)
+        many.script('zstd', text)
         many.wants(f'unpacked by {text}', ['--seconds', '1', *packed], 1, late)
     shutil.rmtree(many.room / 'bin')
     many.wants('a long run', ['--seconds', '1', *plain], 1, {'g/good.vipr': 'time'}, program=many.script('other', 'exec sleep 1000'))
@@ -229,12 +233,33 @@ def misused(many):
         done = many.run('j', *words)
         many.check(done.returncode == 2 and not done.stdout and b'usage' in done.stderr, f'{words}: {done}')
     many.check(many.run().returncode == 2, 'no PATH is no fault')
+    many.check(many.run('').returncode == 2, 'an empty PATH is a folder')
     many.check((many.room / 'j/good.vipr').read_bytes() == GOOD, 'a certificate was replaced')
     done = many.run('j', '-o', '/dev/full')
     many.check(done.returncode == 3 and b'No space' in done.stderr, done)
 
 
+def outputs(many):
+    """A table never takes the place of what is read, by whatever name."""
+    many.put({'k/good.vipr': GOOD, 'k/cert': GOOD, 'list': b'k/good.vipr\n'})
+    (many.room / 'tab').symlink_to('k/good.vipr')
+    os.link(many.room / 'k/good.vipr', many.room / 'hard')
+    for words in (['-o', 'k/cert', 'k/cert'], ['-o', 'tab', 'k'], ['-o', 'hard', 'k'], ['-o', 'list', '--list', 'list']):
+        done = many.run(*words)
+        many.check(done.returncode == 3 and b'one of the files that are read' in done.stderr, f'{words}: {done}')
+    for name, text in (('k/good.vipr', GOOD), ('k/cert', GOOD), ('list', b'k/good.vipr\n')):
+        many.check((many.room / name).read_bytes() == text, f'{name} was replaced')
+
+
+def changing(many):
+    """A file that changes while it is checked isn't taken for checked."""
+    many.put({'l/grows.vipr': GOOD})
+    grows = many.script('grows', f'printf x >> {many.room}/l/grows.vipr; exec {many.program} "$@"')
+    many.wants('a file that grows', ['l/grows.vipr'], 1, {'l/grows.vipr': 'unread'}, program=grows)
+    many.wants('a file that grew', ['--resume', 'l/grows.vipr'], 1, {'l/grows.vipr': 'refused'}, '1 checked: 1 refused')
+
+
 def check_all(check, room, words, program):
     many = Many(check, room / 'many', words, program)
-    for part in (folders, unseen, resumed, hostile_names, other_programs, parts, misused):
+    for part in (folders, unseen, resumed, hostile_names, other_programs, parts, misused, outputs, changing):
         part(many)

@@ -44,6 +44,7 @@ from pathlib import Path
 from texts import TOP, Checks, program, run, text_of
 import families
 import many_files
+import packed_files
 
 PROGRAM = program(sys.argv[1:])
 sys.path.insert(0, str(TOP / 'python'))
@@ -696,13 +697,21 @@ def check_all(room, words):
     many_files.check_all(check, room, words['check-all'], PROGRAM)
 
 
+def packed(room, words):
+    packed_files.packed_files(check, room, words, PROGRAM, library())
+
+
+def closed(words):
+    packed_files.closed_streams(check, words)
+
+
 def called(texts):
     if library():
         calls(texts[::3])
 
 
 PARTS = (called, inputs, types, causes, comparisons, sides, many_rows, turned_claims, figures, sets_of_assumptions, pictures, hostile, commands,
-         manual, check_all, large)
+         manual, check_all, packed, closed, large)
 
 
 def main():

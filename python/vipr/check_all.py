@@ -11,6 +11,7 @@ JSON object:
   bytes     the size of the file, before it is unpacked
   changed   the time of its last change, as `stat -c %.9Z` prints it
   profile   the profile of the rules
+  program   the version of the program, and the SHA-256 of its file
   sha256    with --sum the SHA-256 of the text, once it is unpacked
 
 A result is one of these:
@@ -18,11 +19,11 @@ A result is one of these:
   verified, refused   the verdict
   fault               vipr failed (status 3), or has another status that is no verdict, as that of a killed program
   time                there was no verdict within --seconds
-  unpack              the file can't be unpacked: what was checked isn't what it holds
-  unread              the file or folder can't be read, or is a link that leads nowhere
+  unpack              the file can't be unpacked to its end: what was checked isn't what it holds
+  unread              the file or folder can't be read, is a link that leads nowhere, or changed while it was checked
 
-With --resume a verdict that TABLE has for a file counts if its bytes, its time and the profile are those of now, and with
---sum if it has a digest; all others are checked, and the last row of a file counts. With --part K/N a file is of the K-th
+With --resume a verdict that TABLE has for a file counts if its bytes, its time, the profile and the program are those of
+now, and with --sum if it has a digest; all others are checked, and the last row of a file counts. With --part K/N a file is of the K-th
 of N parts by its name alone, so N runs with the same PATHs check each file once, whatever is added meanwhile.
 
 The last lines, on standard error, count refusals by cause, and all results. The exit status is 0 if all are verified, by
@@ -32,14 +33,15 @@ TABLE or a list can't be read or written.
 from __future__ import annotations
 
 import argparse
+import hashlib
 import json
 import os
 import re
 import shutil
-import signal
 import stat
 import subprocess
 import sys
+import threading
 import time
 import zlib
 from collections import Counter
@@ -47,14 +49,14 @@ from concurrent.futures import ThreadPoolExecutor, as_completed
 from pathlib import Path
 from typing import IO, Counter as Counts, Dict, Iterable, Iterator, List, NamedTuple, Optional, Set, Tuple
 
-from .files import REFUSED, VERIFIED, Parser, number, printable, run
+from .files import REFUSED, VERIFIED, Parser, is_one_file, number, printable, run
+from .packed import SUFFIXES, NotWhole, unpacked
 from .verdict import Cause, Verdict
 
-UNPACKERS = {'.xz': ['xz', '-dc'], '.gz': ['gzip', '-dc'], '.zst': ['zstd', '-dcq'], '.bz2': ['bzip2', '-dc']}
 VERDICTS = {0: 'verified', 1: 'refused'}
 START = 200_000  # the start of a run takes as long as about so many bytes of a certificate
 FIELDS = re.compile('\t'.join([r'(\w+)', r'(\d+\.\d\d)', '([^\t]+)', '([^\t]*)', r'(\d+|)', r'(\d+\.\d{9}|)', '([12])',
-                               '([0-9a-f]{64}|)']))
+                               '([^\t]*)', '([0-9a-f]{64}|)']))
 
 
 class Stamp(NamedTuple):
@@ -62,6 +64,7 @@ class Stamp(NamedTuple):
     bytes: Optional[int]
     changed: str
     profile: str
+    program: str
 
 
 class Row(NamedTuple):
@@ -73,17 +76,18 @@ class Row(NamedTuple):
     bytes: Optional[int]
     changed: str
     profile: str
+    program: str
     sha256: str
 
     def text(self, as_json: bool) -> str:
         if as_json:
             return json.dumps(self._asdict())
         return '\t'.join([self.result, f'{self.seconds:.2f}', printable(self.file), self.line,
-                          '' if self.bytes is None else str(self.bytes), self.changed, self.profile, self.sha256])
+                          '' if self.bytes is None else str(self.bytes), self.changed, self.profile, self.program, self.sha256])
 
     @property
     def stamp(self) -> Stamp:
-        return Stamp(self.bytes, self.changed, self.profile)
+        return Stamp(self.bytes, self.changed, self.profile, self.program)
 
     @classmethod
     def read(cls, text: str, as_json: bool) -> Iterator[Tuple[str, Row]]:
@@ -107,7 +111,7 @@ class Found(NamedTuple):
 def is_named(name: str) -> bool:
     """Whether it is the name of a certificate."""
     path = Path(name)
-    return (path.with_suffix('') if path.suffix in UNPACKERS else path).suffix == '.vipr'
+    return (path.with_suffix('') if path.suffix in SUFFIXES else path).suffix == '.vipr'
 
 
 def found(path: Path, is_given: bool) -> Found:
@@ -141,7 +145,7 @@ def below(top: Path) -> Iterator[Found]:
             path = folder / entry.name
             if is_folder(path):
                 (links if entry.is_symlink() else folders).append(path)
-            elif is_named(entry.name):
+            elif is_named(entry.name) or leads_nowhere(path):
                 yield found(path, False)
 
 
@@ -153,6 +157,11 @@ def is_folder(path: Path) -> bool:
         return False
     except OSError:
         return not is_named(path.name)
+
+
+def leads_nowhere(path: Path) -> bool:
+    """Whether it is a link to nothing that is there."""
+    return path.is_symlink() and not path.exists()
 
 
 def files(paths: Iterable[str]) -> List[Found]:
@@ -173,54 +182,77 @@ def limited(words: List[str], job: argparse.Namespace) -> List[str]:
     return [*(['sh', '-c', 'ulimit -v "$0" && exec "$@"', str(job.memory * 1024)] if job.memory else []), *words]
 
 
-def checked(source: Optional[IO[bytes]], job: argparse.Namespace) -> Tuple[str, str, str]:
-    """What came of the bytes that a stream gives, the first line that was printed, and the digest."""
-    words = [job.vipr, 'check', '--profile', job.profile, *(['--sum'] if job.sum else [])]
-    try:
-        done = subprocess.run(limited(words, job), stdin=source, capture_output=True, text=True, errors='surrogateescape',
-                              check=False, timeout=job.seconds)
-    except subprocess.TimeoutExpired:
-        return 'time', f'no verdict in {job.seconds} s', ''
-    said, _, digest = (done.stdout or done.stderr).rstrip('\n').partition('\nsha256 ')
-    first = printable(said.split('\n')[0])
-    if done.returncode in VERDICTS:
+def answer(status: int, printed: bytes, said: bytes, job: argparse.Namespace) -> Tuple[str, str, str]:
+    """What came of a run: the result, the first line that was printed, and the digest."""
+    lines, _, digest = (printed or said).decode(errors='surrogateescape').rstrip('\n').partition('\nsha256 ')
+    first = printable(lines.split('\n')[0])
+    if status in VERDICTS:
         try:
-            if bool(Verdict.parse(said)) == (done.returncode == 0) and (digest or not job.sum or done.returncode):
-                return VERDICTS[done.returncode], first, digest
+            if bool(Verdict.parse(lines)) == (status == 0) and (digest or not job.sum or status):
+                return VERDICTS[status], first, digest
         except ValueError:
             pass
-    return 'fault', first if done.returncode == 3 else f'status {done.returncode} {first}'.rstrip(), ''
+    return 'fault', first if status == 3 else f'status {status} {first}'.rstrip(), ''
 
 
-def unpacked(file: IO[bytes], words: List[str], job: argparse.Namespace) -> Tuple[str, str, str]:
-    """The same for a compressed file. A verdict on a part of what it holds is none."""
-    with subprocess.Popen(limited(words, job), stdin=file, stdout=subprocess.PIPE, stderr=subprocess.DEVNULL) as unpacker:
-        assert unpacker.stdout
+def checked(file: IO[bytes], suffix: str, job: argparse.Namespace) -> Tuple[str, str, str]:
+    """What came of the text of a file, which is unpacked if it has such a suffix. A verdict on a part of it is none."""
+    words = limited([job.vipr, 'check', '--profile', job.profile, *(['--sum'] if job.sum else [])], job)
+    is_packed = suffix in SUFFIXES
+    with subprocess.Popen(words, stdin=subprocess.PIPE if is_packed else file, stdout=subprocess.PIPE,
+                          stderr=subprocess.PIPE) as child:
+        late = threading.Event()
+        running: List[subprocess.Popen[bytes]] = [child]
+
+        def end() -> None:
+            late.set()
+            for process in running:
+                process.kill()
+
+        clock = threading.Timer(job.seconds or threading.TIMEOUT_MAX, end)
+        clock.daemon = True
+        clock.start()
         try:
-            result = checked(unpacker.stdout, job)
-            unpacker.stdout.close()
-            if result[0] == 'time':
-                return result
-            status = unpacker.wait(job.seconds)
-        except subprocess.TimeoutExpired:
-            return 'time', f'{words[0]}: no end in {job.seconds} s', ''
+            fault = feed(child, unpacked(file, suffix, job.memory and job.memory * 1024 * 1024, running.append)) if is_packed else ''
+            printed, said = child.communicate()
         finally:
-            unpacker.kill()
-    # (a text that is refused before its end ends the unpacker by this signal)
-    is_cut_off = status == -signal.SIGPIPE and result[0] != 'verified'
-    return ('unpack', f'{words[0]}: status {status}', '') if status and not is_cut_off else result
+            clock.cancel()
+            child.kill()
+    if late.is_set():
+        return 'time', f'no verdict in {job.seconds} s', ''
+    return ('unpack', fault, '') if fault else answer(child.returncode, printed, said, job)
+
+
+def feed(child: subprocess.Popen[bytes], pieces: Iterator[bytes]) -> str:
+    """Hands a text that is unpacked to a run, and gives why it can't be unpacked. A run that has its answer reads no more."""
+    assert child.stdin
+    fault = ''
+    try:
+        for piece in pieces:
+            child.stdin.write(piece)
+    except BrokenPipeError:
+        pass
+    except NotWhole as damage:
+        fault = str(damage)
+    try:
+        child.stdin.close()
+    except BrokenPipeError:
+        pass
+    child.stdin = None
+    return fault
 
 
 def check(it: Found, job: argparse.Namespace) -> Row:
-    start, stamp = time.monotonic(), Stamp(None, '', job.profile)
+    start, stamp = time.monotonic(), Stamp(None, '', job.profile, job.program)
     result, line, digest = 'unread', it.fault, ''
     try:
         if not it.fault:
             with open(it.path, 'rb') as file:
                 stamp = stamp_of(os.fstat(file.fileno()), job)
-                result = 'unpack' if it.path.suffix in UNPACKERS else 'fault'
-                result, line, digest = (unpacked(file, UNPACKERS[it.path.suffix], job) if it.path.suffix in UNPACKERS
-                                        else checked(file, job))
+                result = 'unpack' if it.path.suffix in SUFFIXES else 'fault'
+                result, line, digest = checked(file, it.path.suffix, job)
+                if stamp_of(os.fstat(file.fileno()), job) != stamp:
+                    result, line, digest = 'unread', 'it changed while it was checked', ''
     except OSError as fault:
         line = fault.strerror if result == 'unread' else f'{fault.filename}: {fault.strerror}'
     return Row(result, round(time.monotonic() - start, 2), str(it.path), printable(line), *stamp, digest)
@@ -228,7 +260,7 @@ def check(it: Found, job: argparse.Namespace) -> Row:
 
 def stamp_of(about: os.stat_result, job: argparse.Namespace) -> Stamp:
     seconds, rest = divmod(about.st_ctime_ns, 10**9)
-    return Stamp(about.st_size, f'{seconds}.{rest:09}', job.profile)
+    return Stamp(about.st_size, f'{seconds}.{rest:09}', job.profile, job.program)
 
 
 def counted(counts: Dict[str, int]) -> str:
@@ -320,8 +352,23 @@ def summary(rows: List[Row], checked_now: int) -> Iterator[str]:
     yield f'{checked_now} checked{before}: {counted(Counter(it.result for it in rows))}'
 
 
+def program(name: str, seconds: Optional[int]) -> str:
+    """The version of a program and the SHA-256 of its file, so that rows of another one don't count."""
+    file = shutil.which(name) or name
+    try:
+        said = subprocess.run([file, '--version'], stdin=subprocess.DEVNULL, capture_output=True, check=False,
+                              timeout=seconds or 10).stdout
+    except subprocess.TimeoutExpired:
+        said = b''
+    version = printable(said.decode(errors='surrogateescape').split('\n')[0].rpartition(' ')[2])
+    return f'{version} {hashlib.sha256(Path(file).read_bytes()).hexdigest()}'
+
+
 def command(job: argparse.Namespace) -> int:
+    job.program = program(job.vipr, job.seconds)
     there = files(listed(job))
+    if job.out != '-' and is_one_file(job.out, [*(name for name in job.list if name != '-'), *(str(found.path) for found in there)]):
+        raise OSError(None, 'the table is one of the files that are read', job.out)
     mine = [it for it in there if is_of_part(it, job.part)]
     before = rows_of(job)
     kept, todo = [], []
@@ -390,6 +437,8 @@ def main() -> int:
     job = made.parse_args()
     if not job.paths and not job.list:
         made.error('there is no PATH and no --list')
+    if '' in job.paths:
+        made.error('a PATH is empty')
     if is_named(job.out):
         made.error(f'{job.out} has the name of a certificate: a table would replace it')
     if job.out == '-' and job.resume:

@@ -2,33 +2,45 @@
 from __future__ import annotations
 
 import argparse
-import bz2
-import gzip
 import io
-import lzma
 import os
-import subprocess
 import sys
-import zlib
 from pathlib import Path
-from typing import Callable, Dict, NoReturn, Optional, Union
+from typing import Callable, Iterable, NoReturn, Optional, Union
 
-UNPACKERS: Dict[str, Callable[[bytes], bytes]] = {
-    '.gz': gzip.decompress, '.bz2': bz2.decompress, '.xz': lzma.decompress,
-    '.zst': lambda packed: subprocess.run(['zstd', '-dcq'], input=packed, capture_output=True, check=True).stdout,
-}
+from .packed import SUFFIXES, NotWhole, unpacked
+
 VERIFIED, REFUSED, MISUSED, FAILED = range(4)
 SHORT = {'\\': '\\\\', '\t': '\\t', '\n': '\\n', '\r': '\\r'}
 
 
 def read_file(name: str) -> bytes:
     """The bytes of a file, unpacked by its suffix; `-` is standard input. Raises OSError, also if it can't be unpacked."""
-    text = sys.stdin.buffer.read() if name == '-' else Path(name).read_bytes()
-    unpack = UNPACKERS.get(Path(name).suffix)
+    if name == '-':
+        return sys.stdin.buffer.read()
+    suffix = Path(name).suffix
+    if suffix not in SUFFIXES:
+        return Path(name).read_bytes()
+    with open(name, 'rb') as file:
+        try:
+            return b''.join(unpacked(file, suffix))
+        except NotWhole as fault:
+            raise OSError(None, f'not unpacked: {fault}', name) from fault
+
+
+def is_one_file(name: str, others: Iterable[str]) -> bool:
+    """Whether a file is one of these, by whatever names."""
     try:
-        return unpack(text) if unpack else text
-    except (EOFError, ValueError, zlib.error, lzma.LZMAError, OSError, subprocess.CalledProcessError) as fault:
-        raise OSError(None, f'not unpacked: {fault}', name) from fault
+        about = os.stat(name)
+    except OSError:
+        return False
+    for other in others:
+        try:
+            if os.path.samestat(about, os.stat(other)):
+                return True
+        except OSError:
+            continue
+    return False
 
 
 def escaped(character: str) -> str:
@@ -48,10 +60,20 @@ def printable(name: Union[bytes, str]) -> str:
     return ''.join(it if it.isprintable() and it != '\\' else escaped(it) for it in text)
 
 
+def open_streams() -> None:
+    """Ends a run without standard output, with the status of a failed write. Without standard error nothing is said."""
+    if sys.stderr is None:
+        sys.stderr = open(os.devnull, 'w', encoding='utf-8')
+    if sys.stdout is None:
+        print('standard output is closed', file=sys.stderr)
+        sys.exit(FAILED)
+
+
 class Parser(argparse.ArgumentParser):
     """The command line of a command. What is wrong with one is printed as names are, since it quotes them."""
 
     def __init__(self, name: str, about: Optional[str]):
+        open_streams()
         super().__init__(prog=f'vipr-{name}', description=about, formatter_class=argparse.RawDescriptionHelpFormatter)
 
     def error(self, message: str) -> NoReturn:

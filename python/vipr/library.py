@@ -179,11 +179,14 @@ def digest(text: Text) -> str:
 
 
 def file() -> Optional[Path]:
-    """The file from which the library was loaded, if the system says so. Raises LibraryMissing."""
-    _library()
+    """The file that holds the code of the library's calls, if the system says so. Raises LibraryMissing."""
+    address = ctypes.cast(_library().vipr_version, ctypes.c_void_p).value or 0
     maps = Path('/proc/self/maps')
-    rows = maps.read_text().split('\n') if maps.is_file() else []
-    return next((Path(row.split(maxsplit=5)[5]) for row in rows if 'libvipr' in row), None)
+    for row in maps.read_text(errors='surrogateescape').split('\n') if maps.is_file() else []:
+        start, _, end = row.partition(' ')[0].partition('-')
+        if row and int(start, 16) <= address < int(end, 16):
+            return Path(row.split(maxsplit=5)[5])
+    return None
 
 
 def version() -> str:
