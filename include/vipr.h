@@ -50,7 +50,12 @@ struct vipr_answer {
     uint32_t goal;      /* the least index of one that does */
 };
 
-/* Checks the text of a certificate by the rules of the first profile. */
+/* Whether the text is verified by the rules of the first profile: VIPR_VERIFIED, VIPR_REFUSED or VIPR_NO_MEMORY. This call
+ * has the shortest proved statement. If it answers VIPR_VERIFIED, the text states a problem and listed solutions, and of
+ * whatever problem it states the claim is true: docs/STATEMENT.md, part 1. */
+int32_t vipr_is_verified(const void *text, size_t size);
+
+/* Checks the text of a certificate by the rules of the first profile, and gives the verdict in numbers. */
 int32_t vipr_check(const void *text, size_t size, struct vipr_answer *answer);
 
 /* The calls below write a text to a buffer of the caller, and its whole length to *length. They write at most `room`

@@ -8,8 +8,10 @@ mod shown;
 mod status_and_text;
 mod tightened;
 
-ghost use Rattle.std.specs.Prelude.{◌≡◌, ℕ, List, Result, Some, codes, false, length};
+ghost use Rattle.std.specs.Prelude.{◌≡◌, ◌⊎◌, ℕ, List, Result, Some, codes, false, length, pos};
 ghost use Rattle.vipr_spec.specs.Causes.{cause_name};
+ghost use Rattle.vipr_spec.specs.Short.{Holds, Problem, Row, States};
+ghost use Rattle.vipr_check.specs.Promises.{SpellsProof};
 ghost use Rattle.vipr_check.specs.declared.verdict.Verdict.{Verdict as Answered};
 ghost use Rattle.vipr_check.specs.{Checks.Checks, declared.verdict.Fault.Fault as Failure};
 ghost use Rattle.vipr_text.specs.Digest.{hex_digest};
@@ -20,12 +22,31 @@ ghost use Rattle.vipr_c.specs.Written.{ReturnsText, TightensBy, form_flagged};
 
 use crate::answer::{Answer, NOTHING, answer_of};
 use crate::shown::form_flagged;
-use crate::status_and_text::{NO_MEMORY, end};
+use crate::status_and_text::{NO_MEMORY, REFUSED, VERIFIED, end};
 use crate::tightened::Figures;
 use std::alloc::Global;
 use vipr_bytes::Bytes;
-use vipr_check::{Fault, Verdict, check};
+use vipr_check::{Fault, Verdict, check, is_verified};
 use vipr_text::hex_digest;
+
+/// Returns 0 if the text is a certificate that is a proof, 1 if it isn't, and 3 if a growth was
+/// refused and there is no answer. A text with the answer 0 states a problem and listed solutions,
+/// and of whatever problem it states the claim is true.
+#[unsafe(no_mangle)]
+pub extern "C" fn vipr_is_verified(alloc: Global, text: &[u8]) -> i32
+    ensures proof { (result ≡ pos 0) → SpellsProof text.now }
+    ensures refused { (result ≡ pos 1) → ¬ SpellsProof text.now }
+    ensures states { (result ≡ pos 0) → (p : Problem) × (ss : List Row) × States text.now p ss }
+    ensures holds { (result ≡ pos 0)
+        → (p : Problem) (ss : List Row) → States text.now p ss → Holds p ss p.bounds }
+    ensures answers { (result ≡ pos 0) ⊎ (result ≡ pos 1) ⊎ (result ≡ pos 3) }
+{
+    match is_verified(alloc, text) {
+        Ok(true) => VERIFIED,
+        Ok(false) => REFUSED,
+        Err(_) => NO_MEMORY,
+    }
+}
 
 /// Checks the certificate in memory, writes the verdict to `answer`, and returns 0 if
 /// it is verified, 1 if it is refused, and 3 if a growth was refused and there is no verdict.

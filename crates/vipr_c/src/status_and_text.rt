@@ -8,6 +8,10 @@ use std::alloc::Global;
 use vipr_check::{Fault, Verdict};
 use vipr_rules::Profile;
 
+/// The status of a text that is verified.
+pub(crate) const VERIFIED: i32 = 0;
+/// The status of a text that is refused.
+pub(crate) const REFUSED: i32 = 1;
 /// The status of a profile that there isn't.
 pub(crate) const NO_PROFILE: i32 = 2;
 /// The status without memory.
