@@ -9,7 +9,7 @@ on to them. Then each script of SCRIPTS, which counts as one. Prints what each t
 into each crate's proof and tests, found by looking at the processes once a second, and the SHA-256 of the program
 and of the libraries. The last line is `N passed, M failed`, and behind it `, K skipped` if a script says K times that it
 left something out, since strace, valgrind, GNU time, git, coqc or a C compiler isn't installed here. The exit status
-is 1 if one failed. `tests/gate.py` makes a page of this output.
+is 1 if one failed.
 """
 import datetime
 import os
@@ -56,7 +56,7 @@ SCRIPTS = [
     ['docs/architecture.py', '--check'],
 ]
 # what isn't run there: this script, what makes a page of its output, and modules of the others
-OTHERS = {'all', 'damage', 'gate', 'literals', 'many_files', 'mps_changes', 'page_facts', 'page_hints', 'page_lines', 'page_model', 'page_texts', 'sources', 'statement', 'texts', 'toolchain', 'wrong_rules'}
+OTHERS = {'all', 'damage', 'many_files', 'mps_changes', 'page_facts', 'page_hints', 'page_lines', 'page_model', 'page_texts', 'sources', 'statement', 'texts', 'toolchain', 'wrong_rules'}
 TICKS = os.sysconf('SC_CLK_TCK')
 SECONDS_BETWEEN = 1
 

@@ -17,9 +17,7 @@ import sys
 ROOT = os.path.dirname(os.path.dirname(os.path.abspath(__file__)))
 CRATES = os.path.join(ROOT, 'crates')
 sys.path.insert(0, os.path.join(ROOT, 'tools'))
-import imports  # noqa: E402
 import wrong  # noqa: E402
-import literals  # noqa: E402
 import statement  # noqa: E402
 from sources import crates, head_of, levels, read, replaced  # noqa: E402
 
@@ -177,13 +175,6 @@ def unused_imports():
                 pieces = [piece for piece in name.split('◌') if piece] or [name]
                 if name not in UNNAMED and not all(it in words or '◌' in name and it in rest for it in pieces):
                     yield '%s:%d: %s' % (shown(path), text[:use.start()].count('\n') + 1, name)
-
-
-def imports_are_joined():
-    """Imports have as few lines as tools/imports.py CRATE writes."""
-    for crate in sorted(os.listdir(CRATES)):
-        for path, old, new in imports.changed(crate):
-            yield '%s: could have %d lines fewer' % (shown(path), old.count('\n') - new.count('\n'))
 
 
 def heads(lines):
@@ -430,15 +421,14 @@ def versions_agree():
 
 
 def named_files_are_there():
-    """Each file of the repository that a page names in code quotes is there, in the folder or crate that it names; docs/GATE.md
-    has the scripts of the commit that it is of."""
+    """Each file of the repository that a page names in code quotes is there, in the folder or crate that it names."""
     listed = (wrong.git('ls-files') or '').split('\n')
     if not any(listed):
         print('house: no git that knows this folder, so the files that pages name are not looked for')
     # as they are named: STATEMENT.md leaves out `crates` and `specs`
     known = ['/' + path for path in listed] + ['/' + path.replace('crates/', '').replace('/specs/', '/') for path in listed]
     for page in listed:
-        if page.endswith('.md') and page != 'docs/GATE.md':
+        if page.endswith('.md'):
             for n, line in enumerate(read(os.path.join(ROOT, page)).split('\n'), 1):
                 for name in re.findall(r'`([\w./-]*\w\.(?:rt|antt|py))`', line):
                     if not any(path.endswith('/' + name) for path in known):
@@ -457,15 +447,10 @@ def formatted():
             yield line.removeprefix(ROOT + os.sep)
 
 
-def numbers_have_reasons():
-    """Each number above 64 in the code, and each shift by a number, has a row in docs/ARCHITECTURE.md that says why."""
-    return literals.faults()
-
-
-CHECKS = [foreign_proofs, private_lemmas, names_twice, types_twice, growing_types, plain_words, comments_stand_alone, unused_imports, imports_are_joined, dead_lemmas, dead_calls, laws_are_named, proofs_in_specs, long_lines, long_files, crates_are_there, graph_is_current,
+CHECKS = [foreign_proofs, private_lemmas, names_twice, types_twice, growing_types, plain_words, comments_stand_alone, unused_imports, dead_lemmas, dead_calls, laws_are_named, proofs_in_specs, long_lines, long_files, crates_are_there, graph_is_current,
           statement_is_current, examples_are_there, causes_agree, edits_stand, samples_go_round, edits_of_each_run_are_there,
           versions_agree, named_files_are_there,
-          numbers_have_reasons, formatted]
+          formatted]
 
 
 def write():

@@ -7,7 +7,7 @@ The toolchain is tests/toolchain.py under the name `rt`, in a folder at the head
 scripts of this, four crates without a text, and scripts of tests/ that do nothing. Whatever fails, is killed or ends in
 half a line, the exit status is another than 0, the crate is named, there is no vipr.sha256, and nothing is checked with or
 installed from what isn't proved. tools/wrong.py counts an edit as refused only if a goal refused it. Each script of tests/
-is run by tests/all.py, or is named there as one that isn't. Each number in the code is found by tests/literals.py.
+is run by tests/all.py, or is named there as one that isn't.
 
 Prints each fault, and last `tools: N checks, F failed`; the exit status is 1 if one failed.
 """
@@ -22,10 +22,6 @@ from pathlib import Path
 
 from texts import TOP, Checks
 import all as gate
-import literals
-
-sys.path.insert(0, str(TOP / 'tools'))
-import shorten  # noqa: E402
 
 CHECKS = Checks('tools')
 check = CHECKS.check
@@ -171,28 +167,6 @@ def tests(place):
     check((status, last(out)) == (1, f'{6 + count} passed, 1 failed') and place.is_marked(), f'a script with {killed}: {last(out)}')
 
 
-def numbers(place):
-    """A number in the code that is in no table is a fault of tests/house.py, however it is spelled."""
-    path, clause = place.room / 'new', 'pub fn f(a: usize) -> bool\n    ensures it { result ≡ 70 }\n{\n    '
-    for read, front, forms in (
-            (literals.of_rattle, clause, {'a < 65': ('', 65), 'a < 1_000_000': ('', 10**6), 'a < 70u64': ('', 70), 'a < 0x41': ('', 65), 'a < 0o600': ('', 384),
-                                          'a < 0b1000001': ('', 65), '(0..700).contains(&a)': ('', 700), 'a < x.0 + 99': ('', 99), 'a < 1 << 20': ('<<', 20),
-                                          'a >>= 3': ('>>', 3), 'a < 10u64.pow(9)': ('**', 9), 'a < 60 * 60': ('', 3600), 'a < 64': None, 'a < x.99': None,
-                                          'a < "70".len() // 70': None, "a < b'\\x70'": None}),
-            (literals.of_python, 'def f(a):\n    "of 70"\n    ', {'return a < 65': ('', 65), 'return a < 1 << 20': ('<<', 20), 'a <<= 20': ('<<', 20), 'return a < 10**7': ('**', 7),
-                                                               'return a < 60 * 60': ('', 3600), 'return a < -70': ('', 70), 'return a < 1e9': ('', 1e9), 'return a[:64] + "70"': None})):
-        for form, wanted in forms.items():
-            path.write_text(front + form + '\n')
-            check(set(read(path)) == ({wanted} if wanted else set()), f'{form} has {set(read(path))}')
-    rows = literals.in_table()
-    check(rows == literals.in_code() and len(rows) > 30, 'the table of numbers is another one')
-    literals.in_code, code = (lambda: {**rows, 'vipr_c/src/new.rt': {('', 65)}}), literals.in_code
-    check(list(literals.faults()) == ['vipr_c/src/new.rt: the number  65 has no row in the table of docs/ARCHITECTURE.md'], f'a new number: {list(literals.faults())}')
-    literals.in_code = lambda: {file: found for file, found in rows.items() if file != 'vipr_command/src/line.rt'}
-    check(list(literals.faults()) == ['docs/ARCHITECTURE.md: vipr_command/src/line.rt has no number  128'], f'a number that is gone: {list(literals.faults())}')
-    literals.in_code = code
-
-
 def last(out):
     return out.rstrip('\n').rpartition('\n')[2]
 
@@ -299,82 +273,15 @@ def libraries(place):
         check(place.python('-c', question) == (0, said), f'a library {seconds} seconds after the sources: not {said}')
 
 
-def plants(place):
-    """tools/plant.py lists what no test refuses, and nothing else."""
-    shutil.copytree(TOP / 'tools', place.tree / 'tools', dirs_exist_ok=True)
-    folder, args = place.tree / 'python', place.tree / 'crates/vipr_command/src/args.rt'
-    shutil.rmtree(folder)
-    folder.mkdir()
-    (folder / 'stats.py').write_text('def is_less(one, other):\n    return one < other\n')
-    (place.tree / 'docs/PLANTS.md').write_text('\n'.join(('<!-- what survives: written by tools/plant.py -->', '<!-- end of what survives -->')))
-    wanted = {'return True': 'is_less(2, 1)', 'return False': 'not is_less(1, 2)', '<=': 'is_less(1, 1)'}
-    for known in ([], ['return True'], [*wanted]):
-        test = 'import sys\nsys.path.insert(0, "python")\nfrom stats import is_less\n'
-        (place.tree / 'tests/python.py').write_text(test + ''.join(f'if {wanted[it]}:\n    sys.exit(1)\n' for it in known))
-        shutil.rmtree(place.tree / 'out', ignore_errors=True)
-        status, out = place.python('tools/plant.py', '--write', 'python')
-        left = [it for it in wanted if it not in known]
-        check(status == (1 if left else 0) and last(out) == f'planted 3, refused {len(known)}, survive {len(left)}'
-              and all((it in out) == (it in left) for it in wanted), f'tests that refuse {known}: {status}, {out}')
-        page = (place.tree / 'docs/PLANTS.md').read_text()
-        check(all((it in page) == (it in left) for it in wanted), f'tests that refuse {known}: the page has {page}')
-    (place.tree / 'tests/python.py').write_text('')
-    shutil.rmtree(place.tree / 'out')
-    status, out = place.python('tools/plant.py', '--scripts', 'browser', 'python')
-    check((status, last(out)) == (0, 'planted 3, refused 0, survive 0, 3 not tried to the end'), f'no script of a change: {status}, {out}')
-    place.python('tools/plant.py', 'python')
-    (place.tree / 'tests/python.py').write_text('raise ValueError\n')
-    status, out = place.python('tools/plant.py', 'python')
-    check((status, last(out)) == (1, 'planted 3, refused 0, survive 3'), f'what survived is tried once more: {status}, {out}')
-    status, out = place.python('tools/plant.py', '--again', 'python')
-    check(status == 1 and 'no change planted' in out, f'a test that fails without a change: {status}, {out}')
-    args.write_text('fn first(all: &[u8], n: usize) -> bool {\n    if n < 2 {\n        note(n);\n    }\n    all[n] == b\'0\'\n}\n')
-    status, out = place.python('tools/plant.py', '--list', 'vipr_command')
-    said = re.findall(r'first: (.*)', out)
-    check(status == 0 and said == ['its answer is `true`', 'its answer is `false`', '`n < 2` is `false`', '`n < 2` is `true`', '`n < 2` is `n <= 2`',
-                                   '`n < 2` is `n < 3`', 'no `note(n);`', "`all[n] == b'0'` is `all[n] != b'0'`"], f'the changes of a function: {out}')
-
-
-def shorter(room):
-    """tools/shorten.py tries other proofs of the same statements, and keeps no attempt that a check refuses or can't read."""
-    stated = 'pub one : (b : Bool) → f b ≡ b'
-    path = room / 'Ones.antt'
-    path.write_text('\n'.join(('use Rattle.std.proofs.Common.{arith, rules}', '', stated, 'one true = refl', 'one false =',
-                               '    let e = known true in', '    e ∙ other false', '', 'two : Bool → ℕ', 'two true = 1', 'two false = 2', '')))
-    file = shorten.File(path, set())
-    check({it.lemma.name for it in file.left} == {'one'}, 'a value is left to a tactic, or no lemma is tried')
-    lemma = next(shorten.lemmas(path.read_text()))
-    made = shorten.attempts(lemma, {'known', 'other'})
-    bodies = [it.text.removeprefix(f'{stated}\n') for it in made]
-    wanted = 'one true = refl\none false = grind (arith, known true, other false)', 'one b = grind (arith, known, other)'
-    check(all(it in bodies for it in wanted) and all(it.text.startswith(f'{stated}\n') for it in made), f'attempts: {bodies}')
-    for error, left in (('`one__{}`: not proved', len(made) - 1), ('not in scope', len(made) - 1), ('', len(made))):
-        class Copy:
-            """Says of the first attempt what is wrong with it."""
-
-            @staticmethod
-            def check(modules):
-                rows = modules['Try_Ones'].split('\n')
-                at = next((n for n, it in enumerate(rows, 1) if bodies[0].split('=')[-1] in it), 0)
-                name = next((it[5:].split(' ')[0] for it in rows[at - 3::-1] if it.startswith('one__')), '')
-                line = f'./proofs/Try_Ones.antt:{at}:1: error: {error.format(name)}\n' if error and at else ''
-                return f'{line}crate x: modules loaded=0 checked=1\n'
-        good = shorten.proved(Copy, {file: made})
-        check(len(good) == left and (made[0] in good) == (not error), f'attempts with {error!r}: {len(good)} of {len(made)}')
-
-
 def main():
     with tempfile.TemporaryDirectory(prefix='vipr-tools-') as name:
         place = Place(Path(name))
         scripts()
-        shorter(place.room)
-        numbers(place)
         build(place)
         make(place)
         changes(place)
         wrong(place)
         libraries(place)
-        plants(place)
         tests(place)
     return CHECKS.end()
 

@@ -183,7 +183,7 @@ def main():
     start, build = time.monotonic(), Build()
     if not (TOP / 'crates' / PROGRAM / 'out' / PROGRAM).is_file():
         say(f'Every function of {len(build.below)} crates is proved before the program is built. That is done once, and takes\n'
-            '4 GB of memory or more; docs/GATE.md says how long it took.')
+            '4 GB of memory or more; docs/PROOF.md says how long it took.')
     try:
         well = build.all()
         if build.unusable:

@@ -30,7 +30,7 @@ def missing():
 
 
 def took(command, start):
-    """What a command took since `start` of the monotonic clock, in a line that tests/gate.py reads."""
+    """What a command took since `start` of the monotonic clock, as one line."""
     used = [resource.getrusage(it) for it in (resource.RUSAGE_SELF, resource.RUSAGE_CHILDREN)]
     spent = sum(it.ru_utime + it.ru_stime for it in used)
     return f'{command}: {(time.monotonic() - start) / 60:.1f} minutes, {spent / 60:.1f} of processor time'
