@@ -432,8 +432,8 @@ def what_is_asked_for():
         small, large = (''.join(f'{line}\n' for line in family(size)).encode() for size in (60_000, 240_000))
         before, after = (answer(['check'], text, {}).calls[5] for text in (small, large))
         if after > 5 * before * len(large) / len(small) / 4:
-            failures.append(family)
-            print(f'{family.__name__}: {before} bytes asked for a text of {len(small)}, {after} for one of {len(large)}')
+            CHECKS.fail(f'{family.__name__}: {before} bytes asked for a text of {len(small)}, '
+                        f'{after} for one of {len(large)}')
     each(one, [it for it in families.FAMILIES + families.HOSTILE if it.__name__ not in GROWS])
 
 

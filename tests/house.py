@@ -447,10 +447,18 @@ def formatted():
             yield line.removeprefix(ROOT + os.sep)
 
 
+def python_is_linted():
+    """pyflakes3, if it is installed, finds nothing in the Python files."""
+    if shutil.which('pyflakes3'):
+        folders = [name for name in os.listdir(ROOT) if os.path.isdir(os.path.join(ROOT, name)) and name not in ('.git', 'crates')]
+        said = subprocess.run(['pyflakes3', *sorted(folders)], cwd=ROOT, capture_output=True, text=True, check=False)
+        yield from (said.stdout + said.stderr).splitlines()
+
+
 CHECKS = [foreign_proofs, private_lemmas, names_twice, types_twice, growing_types, plain_words, comments_stand_alone, unused_imports, dead_lemmas, dead_calls, laws_are_named, proofs_in_specs, long_lines, long_files, crates_are_there, graph_is_current,
           statement_is_current, examples_are_there, causes_agree, edits_stand, samples_go_round, edits_of_each_run_are_there,
           versions_agree, named_files_are_there,
-          formatted]
+          formatted, python_is_linted]
 
 
 def write():

@@ -33,6 +33,8 @@ USE_MARKS = ('<!-- exit statuses: written by `tests/interface.py --write` from t
 INSTALLED = ['bin/vipr', 'share/bash-completion/completions/vipr', 'share/fish/vendor_completions.d/vipr.fish',
              'share/man/man1/vipr.1', 'share/zsh/site-functions/_vipr']
 DOC = 'share/doc/vipr'
+# pages that stay in the repository, though installed pages link to them
+FOR_DEVELOPERS = {'CONTRIBUTING.md', 'docs/ARCHITECTURE.md', 'docs/CONTRACTS.md', 'docs/DECISIONS.md'}
 CHECKS = Checks('interface')
 check = CHECKS.check
 
@@ -349,13 +351,16 @@ def installation():
 
 
 def links(folder):
-    """Each page that the man page names is installed, and so is what the links of installed pages name."""
+    """Each page that the man page names is installed, and so is what the links of installed pages name, but for what is
+    for developers."""
     for name in re.findall(r'[\w/]+\.md', MAN.read_text()):
         check((folder / name).is_file(), f'the man page names {name}, which is not installed')
     for page in sorted(folder.rglob('*.md')):
         for target in re.findall(r'\]\(([^)#\s]+)[^)]*\)', page.read_text()):
             if not re.match('[a-z]+:', target):
-                check((page.parent / target).exists(), f'{page.relative_to(folder)}: {target} is not installed')
+                path = (page.parent / target).resolve()
+                is_there = path.exists() or str(path.relative_to(folder.resolve())) in FOR_DEVELOPERS
+                check(is_there, f'{page.relative_to(folder)}: {target} is not installed')
 
 
 def make(*words):

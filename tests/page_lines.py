@@ -8,7 +8,6 @@ import os
 import re
 from collections import Counter
 from fractions import Fraction
-from math import ceil, floor
 
 from page_facts import (
     EMPTY, ITEMS, KEYWORDS, MOST_CARETS, MOST_ENTRIES, MOST_NEAR, MOST_OF_SET, MOST_SHOWN, MOST_VALUES,
@@ -274,7 +273,7 @@ def past_limit(page, index):
          (page.facts.refused, page.facts.details.get('constraint', '').split(' ')[0] or None))
 
 
-@form(rf'error: no listed solution attains the primal bound')
+@form(r'error: no listed solution attains the primal bound')
 def no_primal(page):
     same('the cause', page.facts.refused, 52)
 

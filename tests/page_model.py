@@ -8,7 +8,7 @@ from fractions import Fraction
 from itertools import zip_longest
 
 from page_facts import MOST_ENTRIES, MOST_SHOWN, MOST_SOURCES, MOST_TRIED, NUMBER, Facts, Wrong, rules
-from page_hints import HINTS, ends_text, is_near_miss, is_strong_near
+from page_hints import HINTS, ends_text, is_near_miss
 from page_lines import FORMS, OFFERS, Page, first_past, is_at_fault, is_second, proved
 
 
