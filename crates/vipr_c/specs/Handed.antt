@@ -9,7 +9,7 @@ use Rattle.vipr_rules.specs.{Profile.profile_of, declared.profile.Profile.Profil
 use Rattle.vipr_check.specs.{Checks.ChecksIn, Explanation.explained_text, Run.SaysInDetail}
 use Rattle.vipr_check.specs.{Run.verdict_in, Text.verdict_text, declared.detail.Detail.Detail}
 use Rattle.vipr_check.specs.{declared.verdict.Fault.Fault, declared.verdict.Verdict.Verdict}
-use Rattle.vipr_page.specs.Page.{IsPage}
+use Rattle.vipr_explain.specs.Page.{IsPage}
 use Rattle.vipr_c.specs.AnswerOf.{status_of, answer_of_verdict, no_answer}
 use Rattle.vipr_c.specs.declared.answer.Answer.{Answer}
 

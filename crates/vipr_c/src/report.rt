@@ -3,7 +3,7 @@
 ghost use Rattle.std.specs.Prelude.{◌≡◌, ◌++◌, ℕ, List, IfOk, Ok};
 ghost use Rattle.vipr_rules.specs.Profile.{profile_of};
 ghost use Rattle.vipr_check.specs.{Checks.ChecksIn, Explanation.explained_text};
-ghost use Rattle.vipr_page.specs.Page.{IsPage};
+ghost use Rattle.vipr_explain.specs.Page.{IsPage};
 ghost use Rattle.vipr_c.specs.AnswerOf.{status_of};
 ghost use Rattle.vipr_c.specs.Handed.{ExplainsAtLength, ExplainsBy, GivesDetail, IsExplanation};
 ghost use Rattle.vipr_c.specs.Handed.{IsLong, IsReport, ReportsBy};
@@ -14,8 +14,7 @@ use crate::status_and_text::{NO_MEMORY, NO_PROFILE, StatusAndText, profile_numbe
 use std::alloc::{AllocError, Global};
 use vipr_bytes::Bytes;
 use vipr_check::{Detail, Explanation, Fault, Table, Verdict, check_in, explain_in};
-use vipr_explain::page_for;
-use vipr_page::with_page;
+use vipr_explain::{page_for, with_page};
 use vipr_rules::Profile;
 
 /// What `vipr check` prints of a text by the rules of the profile with this number, and the numbers

@@ -9,7 +9,7 @@ use Rattle.vipr_check.specs.declared.verdict.Fault.{Fault as CheckFault}
 use Rattle.vipr_check.specs.declared.verdict.Verdict.{Verdict}
 use Rattle.vipr_check.specs.{Checks.ChecksIn, Explanation.explained_text, Shown.detail_of}
 use Rattle.vipr_check.specs.{Text.verdict_status, View.answer_of, declared.detail.Detail.Detail}
-use Rattle.vipr_page.specs.Page.{IsPage}
+use Rattle.vipr_explain.specs.Page.{IsPage}
 use Rattle.vipr_command.specs.declared.fault.CommandFault.TheVariants.{Memory, Read, Write}
 use Rattle.vipr_command.specs.{Known.KnownInput, Known.known_by, Output.IsEnding, Output.Stays}
 use Rattle.vipr_command.specs.{Output.Took, Text.answer_lines, Text.sum_asked, Text.verdict_lines}

@@ -14,8 +14,7 @@ use crate::request::{Job, Task};
 use std::alloc::{AllocError, Global};
 use vipr_bytes::{BUFFER_BYTES, Bytes, Failed, Source};
 use vipr_check::{Detail, Explanation, Table, Verdict, check_in, explain_in};
-use vipr_explain::page_for;
-use vipr_page::{Page, with_page};
+use vipr_explain::{Page, page_for, with_page};
 use vipr_text::hex_digest;
 
 // How many bytes are read before their first eighth is checked; then eight times as many.

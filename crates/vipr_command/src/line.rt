@@ -13,7 +13,7 @@ use std::fmt::{Display, Write as _};
 use std::{fmt, io};
 use vipr_bytes::{Sink, write_bytes};
 use vipr_check::{Place, Refusal};
-use vipr_page::StrangeBytes;
+use vipr_explain::StrangeBytes;
 use vipr_tighten::Outcome;
 
 /// A line, which is made in place.

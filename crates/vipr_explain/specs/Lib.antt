@@ -1,12 +1,2 @@
-pub mod Marked
-pub mod Excerpts
-pub mod Found
-pub mod Progress
-pub mod Syntax
-pub mod Words
-pub mod Refused
-pub mod Near
-pub mod Changes
-pub mod Values
-pub mod Claims
-pub mod Findings
+pub mod Page
+pub mod Replays

@@ -1,15 +1,11 @@
 //! Changes of one entry with which a refused sum follows, each tried by the rule.
-ghost use Rattle.std.specs.Prelude.{◌≡◌, List, [], IfOk, IfSome, IsTrue, length};
-ghost use Rattle.vipr_spec.specs.Certificate.{Certificate, Derivation as DerivationMeant};
+ghost use Rattle.std.specs.Prelude.{◌≡◌, IfOk, length};
 ghost use Rattle.vipr_spec.specs.Certificate.{variables};
-ghost use Rattle.vipr_spec.specs.{Constraint.Profile, Steps.RefersBack};
-ghost use Rattle.vipr_cert.specs.Items.{derivation_of, reason_of};
-ghost use Rattle.vipr_table.specs.{History.IsTableOf, Table.DerivedBelow};
-ghost use Rattle.vipr_rules.specs.Profile.{profile_of};
-ghost use Rattle.vipr_explain.specs.Changes.{FollowEach, FollowsWith, changed, changed_entries};
-ghost use Rattle.vipr_explain.specs.Near.{HasReplayed, without_solutions};
+ghost use Rattle.vipr_table.specs.Table.{DerivedBelow};
+ghost use Rattle.vipr_explain.specs.Replays.{IsReplayOf};
 
 use crate::near::Join;
+use crate::page::Page;
 use crate::shown::PlacedItems;
 use crate::sought::{Candidates, Ranking, Sum};
 use crate::text::Subject;
@@ -18,7 +14,6 @@ use vipr_cert::{Derivation, Problem, Reason, References};
 use vipr_check::Table;
 use vipr_frac::Frac;
 use vipr_linear::Combination;
-use vipr_page::Page;
 use vipr_rules::{Rows, RuleError, apply_in};
 
 /// A change of a reason.
@@ -80,9 +75,7 @@ impl Change {
 
 impl Changes {
     /// No change.
-    pub(crate) fn none() -> Changes
-        ensures { (P : Profile) (c : Certificate) (d : DerivationMeant) → FollowEach P c d result }
-    {
+    pub(crate) fn none() -> Changes {
         Changes {
             multiplier: None,
             exchange: None,
@@ -161,7 +154,7 @@ fn write_entry(
 impl Replay {
     /// No derivation was passed.
     pub(crate) fn new(alloc: Global, problem: &Problem) -> Result<Replay, AllocError>
-        ensures { IfOk result (HasReplayed problem.now []) }
+        ensures { IfOk result (IsReplayOf (variables problem.now)) }
     {
         match Combination::new(alloc, problem.names().len() as u32) {
             Ok(scratch) => Ok(Replay {
@@ -179,11 +172,7 @@ impl Replay {
         problem: &Problem,
         step: &Derivation,
     ) -> Result<Changes, AllocError>
-        requires { (ds : List DerivationMeant) × HasReplayed problem.now ds self.old }
-        ensures follow { (ds : List DerivationMeant) → HasReplayed problem.now ds self.old
-            → IfOk result (FollowEach (profile_of subject.entry.profile)
-            (without_solutions problem.now ds) (derivation_of step.now)) }
-        ensures rows { self.new.rows ≡ self.old.rows }
+        requires { IsReplayOf (variables problem.now) self.old }
     {
         let sum = Sum {
             subject,
@@ -199,9 +188,6 @@ impl Replay {
 fn try_all(sum: Sum<'_>, scratch: &mut Combination) -> Result<Changes, AllocError>
     requires below { DerivedBelow (variables sum.problem.now) sum.rows.now }
     requires scratch { length scratch.old.sums ≡ variables sum.problem.now }
-    ensures { (ds : List DerivationMeant) → let c = without_solutions sum.entry.problem.now ds in
-        IsTableOf c sum.entry.rows.now → RefersBack c → IfOk result (FollowEach
-        (profile_of sum.entry.subject.profile) c (derivation_of sum.entry.step.now)) }
 {
     let candidates = Candidates::find(sum, scratch)?;
     let multiplier = first_that_follows(sum, scratch, &candidates.multipliers)?;
@@ -222,11 +208,7 @@ fn first_that_follows(
 ) -> Result<Option<Change>, AllocError>
     requires below { DerivedBelow (variables sum.problem.now) sum.rows.now }
     requires scratch { length scratch.old.sums ≡ variables sum.problem.now }
-    ensures scratch { length scratch.new.sums ≡ length scratch.old.sums }
-    ensures follows { (ds : List DerivationMeant)
-        → let c = without_solutions sum.entry.problem.now ds in
-        IsTableOf c sum.entry.rows.now → RefersBack c → IfOk result (λ found. IfSome found
-        (FollowsWith (profile_of sum.entry.subject.profile) c (derivation_of sum.entry.step.now))) }
+    ensures { length scratch.new.sums ≡ length scratch.old.sums }
 {
     for known in &candidates.0 {
         if let Some(change) = known.1 {
@@ -242,12 +224,7 @@ fn first_that_follows(
 fn follows(sum: Sum<'_>, scratch: &mut Combination, change: &Change) -> Result<bool, AllocError>
     requires below { DerivedBelow (variables sum.problem.now) sum.rows.now }
     requires scratch { length scratch.old.sums ≡ variables sum.problem.now }
-    ensures scratch { length scratch.new.sums ≡ length scratch.old.sums }
-    ensures follows { (ds : List DerivationMeant)
-        → let c = without_solutions sum.entry.problem.now ds in
-        IsTableOf c sum.entry.rows.now → RefersBack c → IfOk result (λ is. IsTrue is
-        → FollowsWith (profile_of sum.entry.subject.profile) c (derivation_of sum.entry.step.now)
-        change.now) }
+    ensures { length scratch.new.sums ≡ length scratch.old.sums }
 {
     let alloc = sum.subject.alloc;
     let profile = sum.subject.profile;
@@ -268,11 +245,11 @@ fn follows(sum: Sum<'_>, scratch: &mut Combination, change: &Change) -> Result<b
 }
 
 // A derivation with its reason changed.
-fn changed_step(alloc: Global, step: &Derivation, change: &Change) -> Result<Derivation, AllocError>
-    ensures stated { IfOk result (λ d. d.constraint ≡ step.now.constraint) }
-    ensures reason { IfOk result
-        (λ d. reason_of d.reason ≡ changed change.now (reason_of step.now.reason)) }
-{
+fn changed_step(
+    alloc: Global,
+    step: &Derivation,
+    change: &Change,
+) -> Result<Derivation, AllocError> {
     let reason = changed_reason(alloc, &step.reason, change)?;
     let constraint = or_drop!(step.constraint.clone(), reason);
     let mut changed = Derivation::blank(alloc);
@@ -282,9 +259,7 @@ fn changed_step(alloc: Global, step: &Derivation, change: &Change) -> Result<Der
 }
 
 // A reason with a change.
-fn changed_reason(alloc: Global, reason: &Reason, change: &Change) -> Result<Reason, AllocError>
-    ensures { IfOk result (λ r. reason_of r ≡ changed change.now (reason_of reason.now)) }
-{
+fn changed_reason(alloc: Global, reason: &Reason, change: &Change) -> Result<Reason, AllocError> {
     match (reason, *change) {
         (Reason::Lin(entries), Change::Word) => {
             Ok(Reason::Rnd(changed_entries(alloc, entries, change)?))
@@ -305,9 +280,7 @@ fn changed_entries(
     alloc: Global,
     entries: &[(u32, Frac)],
     change: &Change,
-) -> Result<Vec<(u32, Frac)>, AllocError>
-    ensures { IfOk result (λ es. es.items ≡ changed_entries change.now entries.now) }
-{
+) -> Result<Vec<(u32, Frac)>, AllocError> {
     let mut changed = Vec::new(alloc);
     changed.extend_from_slice(entries)?;
     if let Change::Entry(position, index, multiplier) = *change {

@@ -1,13 +1,10 @@
 //! A part of a line with carets below a place in it.
-ghost use Rattle.std.specs.Prelude.{◌≡◌, ◌≤◌, length, decimal, take, drop};
-ghost use Rattle.vipr_explain.specs.Excerpts.{IsExcerptAt, column_behind, feeds_in, is_in_line};
-ghost use Rattle.vipr_explain.specs.Excerpts.{line_behind, line_of, part_of};
-ghost use Rattle.vipr_page.specs.Page.{line_byte};
 
+use crate::page::Page;
+use crate::stranger::StrangeBytes;
 use crate::text::Span;
 use itoa::Buffer;
 use std::fmt::Display;
-use vipr_page::{Page, StrangeBytes};
 
 /// How many bytes of a line are shown before a place, and from it on.
 const MOST_SHOWN: u64 = 60;
@@ -32,9 +29,7 @@ pub(crate) struct Excerpt<'a> {
 
 impl<'a> Excerpt<'a> {
     /// The part of the line round a place.
-    pub(crate) fn of(text: &'a [u8], span: Span) -> Excerpt<'a>
-        ensures { IsExcerptAt text.now span result }
-    {
+    pub(crate) fn of(text: &'a [u8], span: Span) -> Excerpt<'a> {
         let front = first(text, span.offset);
         let column = column_behind(front);
         let count = column.saturating_sub(1).min(MOST_SHOWN);
@@ -108,24 +103,18 @@ impl<'a> Excerpt<'a> {
 }
 
 /// The bytes of a text that a token has.
-pub(crate) fn part_of(text: &[u8], span: Span) -> &[u8]
-    ensures { result.now ≡ part_of text.now span }
-{
+pub(crate) fn part_of(text: &[u8], span: Span) -> &[u8] {
     first(from(text, span.offset), span.size as u64)
 }
 
 /// The line of a byte of a text, counted from 1.
-pub(crate) fn line_at(text: &[u8], offset: u64) -> u64
-    ensures { result ≡ line_behind (take offset text.now) }
-{
+pub(crate) fn line_at(text: &[u8], offset: u64) -> u64 {
     feeds_in(first(text, offset)).saturating_add(1)
 }
 
 // How many line feeds bytes have. They are counted in blocks, for which the compiler uses vector
 // instructions.
-fn feeds_in(bytes: &[u8]) -> u64
-    ensures { result ≡ feeds_in bytes.now }
-{
+fn feeds_in(bytes: &[u8]) -> u64 {
     let mut count: u64 = 0;
     let mut rest = bytes;
     while !rest.is_empty() {
@@ -137,10 +126,7 @@ fn feeds_in(bytes: &[u8]) -> u64
 }
 
 // How many line feeds a block has: at most 255, so that a `u8` can count them.
-fn few_feeds(block: &[u8]) -> u8
-    requires { length block.now ≤ 255 }
-    ensures { result ≡ feeds_in block.now }
-{
+fn few_feeds(block: &[u8]) -> u8 {
     let mut count: u8 = 0;
     for byte in block {
         if *byte == b'\n' {
@@ -151,9 +137,7 @@ fn few_feeds(block: &[u8]) -> u8
 }
 
 // The column of the byte behind these, counted from 1.
-fn column_behind(bytes: &[u8]) -> u64
-    ensures { result ≡ column_behind bytes.now }
-{
+fn column_behind(bytes: &[u8]) -> u64 {
     let before = bytes
         .iter()
         .rev()
@@ -163,23 +147,17 @@ fn column_behind(bytes: &[u8]) -> u64
 }
 
 // The bytes of a text from an offset on.
-fn from(text: &[u8], offset: u64) -> &[u8]
-    ensures { result.now ≡ drop offset text.now }
-{
+fn from(text: &[u8], offset: u64) -> &[u8] {
     &text[offset.min(text.len() as u64) as usize..]
 }
 
 // The first bytes: so many, if there are.
-fn first(bytes: &[u8], count: u64) -> &[u8]
-    ensures { result.now ≡ take count bytes.now }
-{
+fn first(bytes: &[u8], count: u64) -> &[u8] {
     &bytes[..count.min(bytes.len() as u64) as usize]
 }
 
 // What is before the end of the line.
-fn line_of(bytes: &[u8]) -> &[u8]
-    ensures { result.now ≡ line_of bytes.now }
-{
+fn line_of(bytes: &[u8]) -> &[u8] {
     for at in 0..bytes.len() {
         if !is_in_line(bytes[at]) {
             return &bytes[..at];
@@ -189,9 +167,7 @@ fn line_of(bytes: &[u8]) -> &[u8]
 }
 
 // Whether a byte doesn't end a line.
-fn is_in_line(byte: u8) -> bool
-    ensures { result ≡ is_in_line byte }
-{
+fn is_in_line(byte: u8) -> bool {
     byte != b'\n' && byte != b'\r'
 }
 
@@ -213,10 +189,7 @@ fn width_of_all(bytes: &[u8]) -> usize {
 }
 
 // How many columns a byte takes on a page.
-#[tactic(auto, unfolding(vipr_page::specs::Page::line_byte))]
-fn width_of(byte: u8) -> usize
-    ensures { result ≡ length (line_byte byte) }
-{
+fn width_of(byte: u8) -> usize {
     match byte {
         92 => 2,
         9 | 32..=126 => 1,
@@ -225,9 +198,7 @@ fn width_of(byte: u8) -> usize
 }
 
 // How many digits a number has.
-fn digits_of(number: u64) -> usize
-    ensures { result ≡ length (decimal number) }
-{
+fn digits_of(number: u64) -> usize {
     let mut buffer = Buffer::new();
     buffer.format(number).len()
 }

@@ -1,13 +1,12 @@
 //! What proves the claim, and which constraints come nearest to it if none does.
-ghost use Rattle.std.specs.Prelude.{IfErr, IfOk, None, Some, map};
-ghost use Rattle.vipr_explain.specs.Claims.{IsGoalFound, IsGoalRead, IsUnproved};
-ghost use Rattle.vipr_explain.specs.{Found.rest_in, Near.LacksBefore, Near.LacksGoal};
-ghost use Rattle.vipr_explain.specs.{Refused.AreNamesOf, Values.AreListedValues};
 
+use crate::algebra::{Algebra, sign_of, size_of};
+use crate::decimal::{About, Measured};
 use crate::excerpt::Excerpt;
 use crate::items::open_problem;
 use crate::marks::Marks;
 use crate::near::{Join, Near, NearSearch, is_turned, search_to};
+use crate::page::Page;
 use crate::shown::{PlacedItems, find_names, write_line};
 use crate::solution::{ListedValues, is_exchanged};
 use crate::text::{Reread, Subject};
@@ -16,7 +15,6 @@ use vipr_cert::{Claim, Derivation, Goal};
 use vipr_check::Report;
 use vipr_frac::Frac;
 use vipr_linear::{Constraint, compares};
-use vipr_page::{About, Algebra, Measured, Page, sign_of, size_of};
 use vipr_rules::Target;
 
 /// How many assumptions of a constraint are shown.
@@ -40,10 +38,7 @@ pub(crate) struct ProvedClaim<'a> {
 
 impl<'a> ProvedGoal<'a> {
     // Reads the constraint of this index.
-    fn find(subject: Subject<'a>, index: u32) -> Reread<ProvedGoal<'a>>
-        ensures found { IfOk result (IsGoalFound subject.entry index) }
-        ensures missing { IfErr result (LacksBefore subject.entry (Some index)) }
-    {
+    fn find(subject: Subject<'a>, index: u32) -> Reread<ProvedGoal<'a>> {
         let marks = find_names(subject, [index].as_slice())?;
         let (problem, search, step) = or_drop!(search_to(subject, Some(index)), marks);
         drop(search);
@@ -72,11 +67,7 @@ impl<'a> ProvedGoal<'a> {
 
 impl<'a> ProvedClaim<'a> {
     /// Reads what proves the claim of a report.
-    pub(crate) fn find(subject: Subject<'a>, report: &Report) -> Reread<ProvedClaim<'a>>
-        ensures goal { IfOk result (λ k. IsGoalRead subject.entry report.now.goal k.goal) }
-        ensures values { IfOk result (λ k. AreListedValues (rest_in subject.entry) k.values) }
-        ensures missing { IfErr result (LacksGoal subject.entry report.now.goal) }
-    {
+    pub(crate) fn find(subject: Subject<'a>, report: &Report) -> Reread<ProvedClaim<'a>> {
         let goal = match report.goal {
             Some(goal) => Some(ProvedGoal::find(subject, goal)?),
             None => None,
@@ -127,10 +118,7 @@ pub(crate) struct UnprovedClaim<'a> {
 
 impl<'a> UnprovedClaim<'a> {
     /// Reads the constraints that come nearest.
-    pub(crate) fn find(subject: Subject<'a>) -> Reread<UnprovedClaim<'a>>
-        ensures found { IfOk result (IsUnproved subject.entry) }
-        ensures missing { IfErr result (LacksBefore subject.entry None) }
-    {
+    pub(crate) fn find(subject: Subject<'a>) -> Reread<UnprovedClaim<'a>> {
         let (problem, solutions) = open_problem(subject.alloc, subject.text)?;
         let has_solution = solutions.left() > 0;
         drop(solutions);
@@ -205,10 +193,7 @@ impl<'a> UnprovedClaim<'a> {
 }
 
 // The places of constraints that come near.
-fn near_names(subject: Subject<'_>, near: &[Near]) -> Result<Marks, AllocError>
-    ensures { IfOk result
-        (AreNamesOf subject.entry.text.now (map (λ n. n.index) near.now)) }
-{
+fn near_names(subject: Subject<'_>, near: &[Near]) -> Result<Marks, AllocError> {
     let wanted: Vec<u32> = near.iter().map(|near| near.index).collect(subject.alloc)?;
     find_names(subject, wanted.as_slice())
 }

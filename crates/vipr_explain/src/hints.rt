@@ -1,6 +1,7 @@
 //! Likely mistakes behind a fault of a text, and what to write instead: by the cause, by what is
 //! wanted, what the token looks like, and its bytes. The first hint that fits is printed.
 
+use crate::page::Page;
 use crate::syntax::TextFault;
 use crate::token::Look::*;
 use crate::token::{DIGITS, Look, are_all, is_spelled, keyword_of, parted};
@@ -9,7 +10,6 @@ use crate::wanted::Wanted::*;
 use crate::wanted::{Section, TextProgress, is_word};
 use vipr_check::cause::*;
 use vipr_frac::Frac;
-use vipr_page::Page;
 
 /// Writes what is likely to be wrong, and what to write instead. What has a value comes first.
 pub(crate) fn write_hint(page: &mut Page, cause: u8, fault: &TextFault<'_>) {

@@ -14,18 +14,24 @@ macro_rules! or_drop {
     };
 }
 
+mod algebra;
 mod changes;
+mod decimal;
+mod differences;
 mod excerpt;
+mod faults;
 mod goal;
 mod hints;
 mod items;
 mod marks;
 mod near;
+mod page;
 mod reason;
 mod shown;
 mod solution;
 mod sought;
 mod step;
+mod stranger;
 mod syntax;
 mod text;
 mod token;
@@ -34,4 +40,6 @@ mod wanted_words;
 mod whole;
 mod words;
 
+pub use page::{Page, with_page};
+pub use stranger::StrangeBytes;
 pub use whole::page_for;

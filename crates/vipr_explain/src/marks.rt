@@ -1,8 +1,4 @@
 //! The places of items' names in a text, and of one more token of each.
-ghost use Rattle.std.specs.Prelude.{◌≡◌, fold, max, option_copied, IfOk, OnOk};
-ghost use Rattle.vipr_explain.specs.Marked.{AreMarksIn, IsItemPlace, is_behind, is_of, is_part};
-ghost use Rattle.vipr_explain.specs.Marked.{is_past, later_user, marked, part_of_item};
-ghost use Rattle.vipr_explain.specs.Marked.{place_found, with_part};
 
 use crate::excerpt::line_at;
 use crate::text::{Span, Subject};
@@ -21,9 +17,7 @@ pub(crate) enum ItemSort {
 
 impl ItemSort {
     // Whether the items of a section are of this kind.
-    fn is_of(self, section: Section) -> bool
-        ensures { result ≡ is_of self section }
-    {
+    fn is_of(self, section: Section) -> bool {
         match (self, section) {
             (ItemSort::Constraints, Section::Constraints | Section::Derivations) => true,
             (ItemSort::Claim, Section::Claim) => true,
@@ -33,9 +27,7 @@ impl ItemSort {
     }
 
     // Whether a section is behind all items of this kind.
-    fn is_behind(self, section: Section) -> bool
-        ensures { result ≡ is_behind self section }
-    {
+    fn is_behind(self, section: Section) -> bool {
         match (self, section) {
             (ItemSort::Claim, Section::Solutions | Section::Derivations) => true,
             (ItemSort::Solutions, Section::Derivations) => true,
@@ -64,9 +56,7 @@ pub(crate) enum ItemPart {
 
 impl ItemPart {
     // Whether the next token of an item is this.
-    fn is_at(self, progress: &TextProgress) -> bool
-        ensures { result ≡ is_part self progress.now }
-    {
+    fn is_at(self, progress: &TextProgress) -> bool {
         match (self, progress.wanted) {
             (ItemPart::Name, Wanted::Name | Wanted::Claim)
             | (ItemPart::LowerBound, Wanted::LowerBound)
@@ -98,9 +88,7 @@ pub(crate) struct Sought<'a> {
 
 impl Sought<'_> {
     // The part of an item that is looked for, if this is the last item.
-    fn part_of(self, end: u32, index: u32) -> ItemPart
-        ensures { result ≡ part_of_item self.entry end index }
-    {
+    fn part_of(self, end: u32, index: u32) -> ItemPart {
         match self.used {
             _ if index == end => self.part,
             Some(used) if used == index => ItemPart::LastReference,
@@ -109,9 +97,7 @@ impl Sought<'_> {
     }
 
     // Whether nothing is to come that is looked for, if this is the last item.
-    fn is_past(self, progress: &TextProgress, end: u32) -> bool
-        ensures { result ≡ is_past self.entry progress.now end }
-    {
+    fn is_past(self, progress: &TextProgress, end: u32) -> bool {
         self.used.is_none()
             && match progress.wanted {
                 Wanted::Name => self.kind.is_of(progress.section) && progress.index() > end,
@@ -147,9 +133,11 @@ pub(crate) struct Marks {
 
 impl Marks {
     /// Finds what is looked for in a text.
-    pub(crate) fn find(alloc: Global, text: &[u8], sought: Sought<'_>) -> Result<Marks, AllocError>
-        ensures { IfOk result (AreMarksIn text.now sought.entry) }
-    {
+    pub(crate) fn find(
+        alloc: Global,
+        text: &[u8],
+        sought: Sought<'_>,
+    ) -> Result<Marks, AllocError> {
         let mut words = Words::of(text);
         let mut progress = TextProgress::start();
         let mut places = Vec::new(alloc);
@@ -167,9 +155,7 @@ impl Marks {
     }
 
     /// The place of an item, if it was found.
-    pub(crate) fn place(&self, index: u32) -> Option<ItemPlace>
-        ensures { result ≡ place_found self.now.places.items index }
-    {
+    pub(crate) fn place(&self, index: u32) -> Option<ItemPlace> {
         find_place(self.places.as_slice(), index).copied()
     }
 }
@@ -180,9 +166,7 @@ pub(crate) fn find_item(
     kind: ItemSort,
     index: u32,
     part: ItemPart,
-) -> Result<Option<ItemPlace>, AllocError>
-    ensures { IfOk result (IsItemPlace subject.entry.text.now kind index part) }
-{
+) -> Result<Option<ItemPlace>, AllocError> {
     let items = [index];
     let sought = Sought {
         kind,
@@ -197,9 +181,7 @@ pub(crate) fn find_item(
 }
 
 // A reference to the place of an item.
-fn find_place(places: &[ItemPlace], index: u32) -> Option<&ItemPlace>
-    ensures { option_copied result ≡ place_found places.now index }
-{
+fn find_place(places: &[ItemPlace], index: u32) -> Option<&ItemPlace> {
     places.iter().find(|place| place.index == index)
 }
 
@@ -212,10 +194,7 @@ fn mark(
     progress: &TextProgress,
     end: u32,
     span: Span,
-) -> Result<(), AllocError>
-    ensures { OnOk result (places.new.items
-        ≡ marked text.now sought.entry end progress.now span places.old.items) }
-{
+) -> Result<(), AllocError> {
     let is_name = ItemPart::Name.is_at(progress);
     // (most tokens are in rows and sums, and not what is looked for)
     if !is_name
@@ -244,18 +223,14 @@ fn mark(
 }
 
 // Marks a part of the item that was marked last.
-fn mark_part(places: &mut Vec<ItemPlace>, span: Span)
-    ensures { places.new.items ≡ with_part span places.old.items }
-{
+fn mark_part(places: &mut Vec<ItemPlace>, span: Span) {
     if let Some(place) = places.last_mut() {
         place.part = span;
     }
 }
 
 // The last derivation that refers to a constraint, with the one at the next token.
-fn later_user(user: u32, used: Option<u32>, progress: &TextProgress, word: &[u8]) -> u32
-    ensures { result ≡ later_user used progress.now word.now user }
-{
+fn later_user(user: u32, used: Option<u32>, progress: &TextProgress, word: &[u8]) -> u32 {
     match (used, progress.wanted) {
         (Some(used), Wanted::EntryIndex | Wanted::Branch) if count_of(word) == used => {
             progress.index()
@@ -265,8 +240,6 @@ fn later_user(user: u32, used: Option<u32>, progress: &TextProgress, word: &[u8]
 }
 
 // The greatest of indices, 0 if there is none.
-fn greatest(indices: &[u32]) -> u32
-    ensures { result ≡ fold max 0 indices.now }
-{
+fn greatest(indices: &[u32]) -> u32 {
     indices.iter().copied().fold(0, u32::max)
 }

@@ -1,24 +1,11 @@
 //! Finds the constraints that come nearest to a claim, and the assumptions that they rest on.
-ghost use Rattle.std.specs.Prelude.{◌≡◌, ◌↔◌, ◌+◌, ◌<◌, ◌≤◌, ◌^◌, ◌∷◌, ◌++◌, ℕ, List, [], IsTrue};
-ghost use Rattle.std.specs.Prelude.{IfErr, IfOk, OnOk, length, take, unsigned_abs, All, None, Some};
-ghost use Rattle.std.specs.Prelude.{option_and_then, option_map};
-ghost use Rattle.std.specs.{FinSet.contains, List.position_or_len};
-ghost use Rattle.vipr_spec.specs.Constraint.{at, NamesBelow};
-ghost use Rattle.vipr_spec.specs.Certificate.{Certificate, Derivation as Meant, RestsOn};
-ghost use Rattle.vipr_spec.specs.Certificate.{constraint_at, reason_at, variables};
-ghost use Rattle.vipr_spec.specs.{Fraction.most, Fraction.whole};
-ghost use Rattle.vipr_linear.specs.Constraint.{condition_of, sense_of};
-ghost use Rattle.vipr_cert.specs.Items.{derivation_of, reason_of};
+ghost use Rattle.std.specs.Prelude.{◌≡◌, ◌≤◌, IfOk, OnOk, length, unsigned_abs};
+ghost use Rattle.vipr_spec.specs.Certificate.{variables};
+ghost use Rattle.vipr_spec.specs.Fraction.{most};
 ghost use Rattle.vipr_table.specs.Table.{step as table_step};
-ghost use Rattle.vipr_rules.specs.declared.error.RuleError.TheVariants.{Memory as NoMemory};
-ghost use Rattle.vipr_scan.specs.declared.error.TextError.TheVariants.{Memory};
-ghost use Rattle.vipr_explain.specs.Found.{AreDerivationsRead, rest_in};
-ghost use Rattle.vipr_explain.specs.Near.{HasPassedAll, HasReplayed, IsGapTo, IsLike, IsNextEntry};
-ghost use Rattle.vipr_explain.specs.Near.{IsOpenJoin, IsReadTo, IsRefusedNext, KeepsNearest};
-ghost use Rattle.vipr_explain.specs.Near.{LacksBefore, MissesBy, RoundsSide, SearchesTo};
-ghost use Rattle.vipr_explain.specs.Near.{comes_before, gap_left, is_turned, join_of, passed_to};
-ghost use Rattle.vipr_explain.specs.Near.{with_near, without_solutions};
+ghost use Rattle.vipr_explain.specs.Replays.{IsReplayOf};
 
+use crate::algebra::size_of;
 use crate::changes::Replay;
 use crate::items::open_derivations;
 use crate::text::{Reread, Subject};
@@ -30,7 +17,6 @@ use vipr_cert::{Derivation, Problem, Reason, References};
 use vipr_check::Table;
 use vipr_frac::Frac;
 use vipr_linear::{Constraint, Sense};
-use vipr_page::size_of;
 use vipr_read::Derivations;
 use vipr_rules::{
     Assumptions, Context, Entry, Rows, RuleError, Target, assumptions_by_reason, take_entry,
@@ -98,8 +84,7 @@ pub(crate) fn search_to(
     subject: Subject<'_>,
     end: Option<u32>,
 ) -> Reread<(Problem, NearSearch, Option<Derivation>)>
-    ensures read { IfOk result (λ x. IsReadTo subject.entry end x.0 x.1 x.2) }
-    ensures missing { IfErr result (LacksBefore subject.entry end) }
+    ensures { IfOk result (λ x. IsReplayOf (variables x.0) x.1.replay) }
 {
     let (problem, mut derivations) = open_derivations(subject.alloc, subject.text)?;
     let found = search_in(subject, &problem, &mut derivations, end);
@@ -115,10 +100,7 @@ fn search_in(
     derivations: &mut Derivations<Bytes<'_>>,
     end: Option<u32>,
 ) -> Reread<(NearSearch, Option<Derivation>)>
-    requires behind { AreDerivationsRead (rest_in subject) problem.now [] derivations.old }
-    requires room { derivations.old.constraints + derivations.old.left < 2 ^ 32 }
-    ensures read { IfOk result (λ x. IsReadTo subject.entry end problem.now x.0 x.1) }
-    ensures missing { IfErr result (LacksBefore subject.entry end) }
+    ensures { IfOk result (λ x. IsReplayOf (variables problem.now) x.0.replay) }
 {
     let search = NearSearch::up_to(subject, problem, derivations, end)?;
     match end {
@@ -132,10 +114,7 @@ fn search_in(
 
 /// How many derivations are before that of a constraint, or all of them, if a problem has so many
 /// constraints.
-pub(crate) fn passed_to(end: Option<u32>, given: u32, derivations: u32) -> u32
-    ensures count { result ≡ passed_to end given derivations }
-    ensures within { result ≤ derivations }
-{
+pub(crate) fn passed_to(end: Option<u32>, given: u32, derivations: u32) -> u32 {
     match end {
         Some(index) => index.saturating_sub(given).min(derivations),
         None => derivations,
@@ -145,7 +124,7 @@ pub(crate) fn passed_to(end: Option<u32>, given: u32, derivations: u32) -> u32
 impl NearSearch {
     // A search that passed the constraints of the problem, which rest on no assumption.
     fn new(subject: Subject<'_>, problem: &Problem) -> Result<NearSearch, AllocError>
-        ensures { IfOk result (HasPassedAll subject.entry problem.now []) }
+        ensures { IfOk result (λ s. IsReplayOf (variables problem.now) s.replay) }
     {
         let target = Target::of_claim_in(subject.profile, problem)?;
         let replay = or_drop!(Replay::new(subject.alloc, problem), target);
@@ -171,10 +150,7 @@ impl NearSearch {
         derivations: &mut Derivations<Bytes<'_>>,
         end: Option<u32>,
     ) -> Reread<NearSearch>
-        requires behind { AreDerivationsRead (rest_in subject) problem.now [] derivations.old }
-        requires room { derivations.old.constraints + derivations.old.left < 2 ^ 32 }
-        ensures near { IfOk result (SearchesTo subject.entry problem.now end derivations.new) }
-        ensures missing { IfErr result (LacksBefore subject.entry end) }
+        ensures { IfOk result (λ s. IsReplayOf (variables problem.now) s.replay) }
     {
         let mut found = NearSearch::new(subject, problem)?;
         let count = passed_to(end, problem.cons().len() as u32, derivations.left());
@@ -190,15 +166,16 @@ impl NearSearch {
 
     // Passes a derivation, whose constraint moves to the table.
     fn pass(&mut self, subject: Subject<'_>, problem: &Problem, step: &mut Derivation) -> Reread<()>
-        requires room { self.old.replay.rows.next + 1 < 2 ^ 32 }
-        requires names { NamesBelow (variables problem.now) (at step.old.constraint.row) }
-        ensures passed { (ds : List Meant) → HasPassedAll subject.entry problem.now ds self.old
-            → OnOk result
-            (HasPassedAll subject.entry problem.now (ds ++ derivation_of step.old ∷ []) self.new) }
-        ensures missing { (ds : List Meant) → HasPassedAll subject.entry problem.now ds self.old
-            → IfErr result (IsRefusedNext subject.entry (without_solutions problem.now ds)
-            (derivation_of step.old)) }
+        requires { IsReplayOf (variables problem.now) self.old.replay }
+        ensures { OnOk result (IsReplayOf (variables problem.now) self.new.replay) }
     {
+        if !step
+            .constraint
+            .row
+            .names_below(problem.names().len() as u32)
+        {
+            return Err(TextError::Read);
+        }
         let index = self.replay.rows.next();
         let join = join_of(&step.reason);
         let entry = self.replay.next_entry(subject, problem, step)?;
@@ -220,11 +197,7 @@ impl NearSearch {
         constraint: &Constraint,
         assumptions: &Assumptions,
     ) -> Result<(), AllocError>
-        ensures kept { (c : Certificate) → constraint_at c index ≡ condition_of constraint.now
-            → ((a : ℕ) → IsTrue (contains assumptions.now a) ↔ RestsOn c index a)
-            → option_and_then join_of (reason_at c index) ≡ join → KeepsNearest c index self.old
-            → OnOk result (KeepsNearest c (index + 1) self.new) }
-        ensures rest { (self.new.target ≡ self.old.target) × (self.new.replay ≡ self.old.replay) }
+        ensures { self.new.replay ≡ self.old.replay }
     {
         keep_join(&mut self.joins, index, join, assumptions)?;
         if !is_like(&self.target, constraint) {
@@ -253,11 +226,7 @@ impl Replay {
         problem: &'a Problem,
         step: &mut Derivation,
     ) -> Reread<Entry>
-        ensures next { (ds : List Meant) → HasReplayed problem.now ds self.now → IfOk result
-            (IsNextEntry (without_solutions problem.now ds) (derivation_of step.old)) }
-        ensures missing { (ds : List Meant) → HasReplayed problem.now ds self.now
-            → IfErr result (IsRefusedNext subject.entry (without_solutions problem.now ds)
-            (derivation_of step.old)) }
+        ensures { IfOk result (λ e. e.constraint ≡ step.old.constraint) }
     {
         let context = Context {
             profile: subject.profile,
@@ -273,9 +242,7 @@ impl Replay {
 }
 
 // Why a derivation isn't kept, which is refused so.
-fn missing_by(error: RuleError) -> TextError
-    ensures { (result ≡ Memory) ↔ (error ≡ NoMemory) }
-{
+fn missing_by(error: RuleError) -> TextError {
     match error {
         RuleError::Memory => TextError::Memory,
         error => {
@@ -287,10 +254,12 @@ fn missing_by(error: RuleError) -> TextError
 
 // Places what is kept of a derivation, until its last reference.
 fn place(rows: &mut Table, entry: Entry) -> Reread<()>
-    requires { rows.old.next + 1 < 2 ^ 32 }
-    ensures placed { OnOk result (rows.new ≡ table_step rows.old entry) }
-    ensures memory { IfErr result (λ m. m ≡ Memory) }
+    ensures { OnOk result (rows.new ≡ table_step rows.old entry) }
 {
+    if rows.next() == u32::MAX {
+        drop(entry);
+        return Err(TextError::Read);
+    }
     rows.advance();
     match rows.put(entry) {
         Ok(()) => Ok(()),
@@ -302,9 +271,7 @@ fn place(rows: &mut Table, entry: Entry) -> Reread<()>
 }
 
 // What a reason joins.
-fn join_of(reason: &Reason) -> Option<Join>
-    ensures { result ≡ join_of (reason_of reason.now) }
-{
+fn join_of(reason: &Reason) -> Option<Join> {
     match reason.references() {
         References::Branches { i1, l1, i2, l2 } => Some(Join { i1, l1, i2, l2 }),
         _ => None,
@@ -317,11 +284,7 @@ fn keep_join(
     index: u32,
     join: Option<Join>,
     assumptions: &Assumptions,
-) -> Result<(), AllocError>
-    ensures { (c : Certificate) → option_and_then join_of (reason_at c index) ≡ join
-        → ((a : ℕ) → IsTrue (contains assumptions.now a) ↔ RestsOn c index a)
-        → All (IsOpenJoin c) joins.old.items → OnOk result (All (IsOpenJoin c) joins.new.items) }
-{
+) -> Result<(), AllocError> {
     if let Some(join) = join {
         let first = assumptions.contains(join.l1);
         let second = assumptions.contains(join.l2);
@@ -338,9 +301,7 @@ fn keep_join(
 }
 
 // Keeps a constraint at its place among the nearest, behind those that are as near.
-fn insert(all: &mut Vec<Near>, near: Near) -> Result<(), AllocError>
-    ensures { OnOk result (all.new.items ≡ take 3 (with_near near all.old.items)) }
-{
+fn insert(all: &mut Vec<Near>, near: Near) -> Result<(), AllocError> {
     let place = place_of(&near, all.as_slice());
     all.insert(place, near)?;
     all.truncate(MOST_SHOWN);
@@ -349,8 +310,7 @@ fn insert(all: &mut Vec<Near>, near: Near) -> Result<(), AllocError>
 
 // How many constraints are in front of the first one that another one comes before.
 fn place_of(near: &Near, others: &[Near]) -> usize
-    ensures place { result ≡ position_or_len (comes_before near.now) others.now }
-    ensures within { result ≤ length others.now }
+    ensures { result ≤ length others.now }
 {
     others
         .iter()
@@ -359,9 +319,7 @@ fn place_of(near: &Near, others: &[Near]) -> usize
 }
 
 // Whether a constraint has the row of what is wanted, or is absurd, if that is wanted.
-fn is_like(target: &Target, constraint: &Constraint) -> bool
-    ensures { IsTrue result ↔ IsLike target.now (condition_of constraint.now) }
-{
+fn is_like(target: &Target, constraint: &Constraint) -> bool {
     match target {
         Target::Bound(bound) | Target::WholeBound(bound) => constraint.row.is_same(&bound.row),
         Target::Absurdity => constraint.is_absurd(),
@@ -370,9 +328,7 @@ fn is_like(target: &Target, constraint: &Constraint) -> bool
 }
 
 // How far a right-hand side is off, rounded if it may be; that of the other sense isn't.
-fn gap_of(target: &Target, constraint: &Constraint) -> Option<Frac>
-    ensures { MissesBy target.now (condition_of constraint.now) result }
-{
+fn gap_of(target: &Target, constraint: &Constraint) -> Option<Frac> {
     match target {
         Target::Bound(bound) => gap_to(bound, constraint.sense, constraint.rhs),
         Target::WholeBound(bound) => gap_to(bound, constraint.sense, rounded(constraint)),
@@ -381,9 +337,7 @@ fn gap_of(target: &Target, constraint: &Constraint) -> Option<Frac>
 }
 
 // What a constraint of this sense and side misses a bound by, if that fits.
-fn gap_to(bound: &Constraint, sense: Sense, side: Frac) -> Option<Frac>
-    ensures { IsGapTo (condition_of bound.now) (sense_of sense) side result }
-{
+fn gap_to(bound: &Constraint, sense: Sense, side: Frac) -> Option<Frac> {
     if is_turned(sense, bound.sense) {
         return None;
     }
@@ -391,16 +345,12 @@ fn gap_to(bound: &Constraint, sense: Sense, side: Frac) -> Option<Frac>
 }
 
 /// Whether one sense is `>=` and the other one `<=`.
-pub(crate) fn is_turned(sense: Sense, other: Sense) -> bool
-    ensures { result ≡ is_turned (sense_of sense) (sense_of other) }
-{
+pub(crate) fn is_turned(sense: Sense, other: Sense) -> bool {
     matches!((sense, other), (Sense::G, Sense::L) | (Sense::L, Sense::G))
 }
 
 // The right-hand side, rounded the way that its sense allows.
-fn rounded(constraint: &Constraint) -> Frac
-    ensures { RoundsSide (sense_of constraint.now.sense) constraint.now.rhs result }
-{
+fn rounded(constraint: &Constraint) -> Frac {
     match constraint.sense {
         Sense::G => whole(constraint.rhs.ceil()),
         Sense::L => whole(constraint.rhs.floor()),
@@ -411,15 +361,12 @@ fn rounded(constraint: &Constraint) -> Frac
 // A whole number.
 fn whole(k: i128) -> Frac
     requires { unsigned_abs k ≤ most }
-    ensures { result ≡ whole k }
 {
     Frac::new(k, 1).unwrap()
 }
 
 // Whether a constraint comes nearer than another.
-fn is_nearer(near: &Near, other: &Near) -> bool
-    ensures { result ≡ comes_before near.now other.now }
-{
+fn is_nearer(near: &Near, other: &Near) -> bool {
     near.key().cmp(&other.key()).is_gt()
 }
 
@@ -427,12 +374,7 @@ impl Near {
     // What constraints are compared by: whether it is strong enough; if it isn't, how far it misses
     // the goal; whether it rests on no assumption; and its index. The nearest one has the greatest
     // key: less to miss makes it greater, and no known gap makes it smallest.
-    fn key(&self) -> (bool, Option<Reverse<Frac>>, bool, u32)
-        ensures strong { result.0 ≡ self.now.is_strong }
-        ensures gap { option_map (λ gap. gap.0) result.1 ≡ gap_left self.now }
-        ensures free { result.2 ≡ self.now.is_free }
-        ensures index { result.3 ≡ self.now.index }
-    {
+    fn key(&self) -> (bool, Option<Reverse<Frac>>, bool, u32) {
         let gap = match self.gap {
             Some(gap) if !self.is_strong => Some(Reverse(size_of(gap))),
             _ => None,

@@ -1,16 +1,16 @@
 //! The reason of a derivation, with the constraints that it refers to.
-ghost use Rattle.std.specs.{List.All, Prelude.◌≤◌, Prelude.IfOk, Prelude.OnOk};
 
+use crate::algebra::{ShownName, VariableName};
 use crate::changes::{Change, Changes};
 use crate::excerpt::part_of;
 use crate::marks::ItemPart;
+use crate::page::Page;
 use crate::step::{RefusedStep, StepFault};
 use std::alloc::{AllocError, Global};
 use vipr_cert::{Reason, References};
 use vipr_check::{StepDetail, cause};
 use vipr_frac::Frac;
 use vipr_linear::Sense;
-use vipr_page::{Page, ShownName, VariableName};
 
 /// How many entries of a sum are shown.
 const MOST_ENTRIES: usize = 10;
@@ -24,9 +24,7 @@ pub(crate) fn step_indices(
     fault: StepFault<'_>,
     reason: &Reason,
     changes: &Changes,
-) -> Result<Vec<u32>, AllocError>
-    ensures { IfOk result (λ wanted. All (λ i. i ≤ fault.entry.index) wanted.items) }
-{
+) -> Result<Vec<u32>, AllocError> {
     let mut wanted = Vec::new(alloc);
     wanted.push(fault.index)?;
     match reason.references() {
@@ -57,10 +55,7 @@ pub(crate) fn step_indices(
 }
 
 // Adds a constraint that is before the derivation: of another one nothing is shown.
-fn add_earlier(wanted: &mut Vec<u32>, own: u32, index: u32) -> Result<(), AllocError>
-    ensures { All (λ i. i ≤ own) wanted.old.items
-        → OnOk result (All (λ i. i ≤ own) wanted.new.items) }
-{
+fn add_earlier(wanted: &mut Vec<u32>, own: u32, index: u32) -> Result<(), AllocError> {
     if index < own {
         wanted.push(index)?;
     }

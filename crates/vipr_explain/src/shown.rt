@@ -1,14 +1,13 @@
 //! The constraints that an explanation names, and how each is shown.
-ghost use Rattle.std.specs.Prelude.{◌≡◌, IfOk, option_map};
-ghost use Rattle.vipr_explain.specs.Refused.{AreNamesOf, IsPartPlace, known_name};
 
+use crate::algebra::{Algebra, ShownName};
 use crate::excerpt::{Excerpt, part_of};
 use crate::marks::{ItemPart, ItemPlace, ItemSort, Marks, Sought};
+use crate::page::Page;
 use crate::text::Subject;
 use std::alloc::AllocError;
 use vipr_cert::Problem;
 use vipr_linear::Constraint;
-use vipr_page::{Algebra, Page, ShownName};
 
 /// A text, its problem, and the places of some constraints.
 #[derive(Drop)]
@@ -20,9 +19,7 @@ pub(crate) struct PlacedItems<'a> {
 
 impl<'a> PlacedItems<'a> {
     /// The name of a constraint, if it is of the problem or its place is known.
-    pub(crate) fn name(&self, index: u32) -> Option<&[u8]>
-        ensures { option_map (λ name. name.now) result ≡ known_name self.now index }
-    {
+    pub(crate) fn name(&self, index: u32) -> Option<&[u8]> {
         match self.problem.cons().get(index as usize) {
             Some(named) => Some(named.name.as_bytes()),
             None => Some(part_of(self.text, self.marks.place(index)?.name)),
@@ -30,9 +27,7 @@ impl<'a> PlacedItems<'a> {
     }
 
     /// The place of the part of a constraint that was looked for.
-    pub(crate) fn part(&self, index: u32) -> Option<Excerpt<'a>>
-        ensures { IsPartPlace self.now.text.now self.now.marks index result }
-    {
+    pub(crate) fn part(&self, index: u32) -> Option<Excerpt<'a>> {
         Some(Excerpt::of(self.text, self.marks.place(index)?.part))
     }
 
@@ -61,9 +56,7 @@ impl<'a> PlacedItems<'a> {
 }
 
 /// The places of the constraints of these indices.
-pub(crate) fn find_names(subject: Subject<'_>, wanted: &[u32]) -> Result<Marks, AllocError>
-    ensures { IfOk result (AreNamesOf subject.entry.text.now wanted.now) }
-{
+pub(crate) fn find_names(subject: Subject<'_>, wanted: &[u32]) -> Result<Marks, AllocError> {
     let sought = Sought {
         kind: ItemSort::Constraints,
         items: wanted,

@@ -1,19 +1,11 @@
 //! A listed solution that is refused, and a primal bound that no listed one attains.
-ghost use Rattle.std.specs.Prelude.{◌≡◌, ◌↔◌, ◌++◌, ◌∷◌, [], List, length, IsTrue, IfErr, IfOk};
-ghost use Rattle.std.specs.Prelude.{IsSomeAnd, OnOk};
-ghost use Rattle.vipr_cert.specs.Items.{claim_of, direction_of, solution_of};
-ghost use Rattle.vipr_spec.specs.Constraint.{Row as RowMeant, at, NamesBelow};
-ghost use Rattle.vipr_spec.specs.Certificate.{IsAsGood, Named as NamedMeant, variables};
-ghost use Rattle.vipr_spec.specs.Reading.{problem_read};
-ghost use Rattle.vipr_explain.specs.Found.{AreSolutionsRead, Because, IsListedSolution};
-ghost use Rattle.vipr_explain.specs.Found.{LacksListed, Missed, head_read, text_rest};
-ghost use Rattle.vipr_explain.specs.Values.{AreListedValues, AreValues, IsExchanged};
-ghost use Rattle.vipr_explain.specs.{Marked.IsItemPlace, Refused.IsBroken, Refused.part_at_fault};
-ghost use Rattle.vipr_explain.specs.declared.marks.ItemSort.TheVariants as kind;
 
+use crate::algebra::{Algebra, ShownName, VariableName, sign_of, size_of};
+use crate::decimal::{Measured, write_if_past};
 use crate::excerpt::Excerpt;
 use crate::items::{open_problem, read_solution};
 use crate::marks::{ItemPart, ItemPlace, ItemSort, find_item};
+use crate::page::Page;
 use crate::shown::write_line;
 use crate::text::{Reread, Subject};
 use std::alloc::AllocError;
@@ -22,9 +14,6 @@ use vipr_cert::{Claim, Goal, Name, Named, Problem};
 use vipr_check::Detail;
 use vipr_frac::Frac;
 use vipr_linear::{Constraint, Row, Sense, Solution, compares, value_at};
-use vipr_page::{
-    Algebra, Measured, Page, ShownName, VariableName, sign_of, size_of, write_if_past,
-};
 use vipr_read::Solutions;
 
 /// How many values of a solution are shown.
@@ -48,17 +37,7 @@ impl<'a> RefusedSolution<'a> {
         subject: Subject<'a>,
         number: u32,
         detail: &Detail,
-    ) -> Reread<RefusedSolution<'a>>
-        ensures listed { IfOk result (λ s. IsListedSolution number
-            (text_rest subject.entry.text.now) s.problem (solution_of s.solution)) }
-        ensures missing { IfErr result (λ m. Because m
-            (LacksListed number (problem_read (text_rest subject.entry.text.now)))) }
-        ensures text { IfOk result (λ s. s.text.now ≡ subject.entry.text.now) }
-        ensures place { IfOk result (λ s. IsItemPlace subject.entry.text.now kind.Solutions number
-            (part_at_fault s.problem detail.now) s.place) }
-        ensures broken { IfOk result
-            (λ s. IsBroken subject.entry.text.now detail.now s.broken) }
-    {
+    ) -> Reread<RefusedSolution<'a>> {
         let broken = broken_place(subject, detail)?;
         let (problem, solution) = read_solution(subject.alloc, subject.text, number)?;
         let part = part_at_fault(&problem, detail);
@@ -126,9 +105,7 @@ impl<'a> RefusedSolution<'a> {
 }
 
 // The part of a solution that is at fault: its name, or a value, if that is at fault alone.
-fn part_at_fault(problem: &Problem, detail: &Detail) -> ItemPart
-    ensures { result ≡ part_at_fault problem.now detail.now }
-{
+fn part_at_fault(problem: &Problem, detail: &Detail) -> ItemPart {
     let index = match detail {
         Detail::NotWhole { variable, .. } => return ItemPart::Value(*variable),
         Detail::Breaks { constraint, .. } => *constraint as usize,
@@ -144,9 +121,7 @@ fn part_at_fault(problem: &Problem, detail: &Detail) -> ItemPart
 }
 
 // The place of the constraint that a solution breaks, if that is the fault.
-fn broken_place(subject: Subject<'_>, detail: &Detail) -> Result<Option<ItemPlace>, AllocError>
-    ensures { IfOk result (IsBroken subject.entry.text.now detail.now) }
-{
+fn broken_place(subject: Subject<'_>, detail: &Detail) -> Result<Option<ItemPlace>, AllocError> {
     match detail {
         Detail::Breaks { constraint, .. } => {
             find_item(subject, ItemSort::Constraints, *constraint, ItemPart::Name)
@@ -286,11 +261,7 @@ pub(crate) struct ListedValues {
 
 impl ListedValues {
     /// Reads the listed solutions.
-    pub(crate) fn find(subject: Subject<'_>) -> Reread<ListedValues>
-        ensures found { IfOk result (AreListedValues (text_rest subject.entry.text.now)) }
-        ensures missing { IfErr result
-            (λ m. Missed m (head_read (text_rest subject.entry.text.now))) }
-    {
+    pub(crate) fn find(subject: Subject<'_>) -> Reread<ListedValues> {
         let (problem, mut solutions) = open_problem(subject.alloc, subject.text)?;
         let mut known = ListedValues {
             best: None,
@@ -368,15 +339,7 @@ impl ListedValues {
         subject: Subject<'_>,
         problem: &Problem,
         solutions: &mut Solutions<Bytes<'_>>,
-    ) -> Reread<()>
-        requires behind { AreSolutionsRead (text_rest subject.text.now) problem.now []
-            solutions.old }
-        requires none { AreValues problem.now [] self.old }
-        ensures found { OnOk result
-            (AreListedValues (text_rest subject.entry.text.now) self.new) }
-        ensures missing { IfErr result
-            (λ m. Missed m (head_read (text_rest subject.entry.text.now))) }
-    {
+    ) -> Reread<()> {
         let objective = Solution(problem.objective().clone()?);
         for number in 0..solutions.left() {
             if let Some(solution) = solutions.next(subject.alloc)? {
@@ -394,13 +357,7 @@ impl ListedValues {
         objective: &Solution,
         number: u32,
         solution: Named<Solution>,
-    )
-        requires { objective.now.0 ≡ problem.now.objective }
-        ensures { (ss : List (NamedMeant RowMeant)) → length ss ≡ number
-            → NamesBelow (variables problem.now) (at solution.item.0)
-            → AreValues problem.now ss self.old
-            → AreValues problem.now (ss ++ solution_of solution ∷ []) self.new }
-    {
+    ) {
         let Named { name, item } = solution;
         let value = value_at(&item.0, objective);
         drop(item);
@@ -417,10 +374,7 @@ impl ListedValues {
 }
 
 // Whether the best solution so far is as good as a value of the objective.
-fn is_as_good(best: &Option<(u32, Name, Frac)>, value: Frac, sense: Goal) -> bool
-    ensures { IsTrue result
-        ↔ IsSomeAnd best.now (λ b. IsAsGood (direction_of sense) b.2 value) }
-{
+fn is_as_good(best: &Option<(u32, Name, Frac)>, value: Frac, sense: Goal) -> bool {
     match (best, sense) {
         (Some((.., best)), Goal::Min) => *best <= value,
         (Some((.., best)), Goal::Max) => *best >= value,
@@ -429,9 +383,7 @@ fn is_as_good(best: &Option<(u32, Name, Frac)>, value: Frac, sense: Goal) -> boo
 }
 
 /// Whether the lower bound of a claim is above the upper one.
-pub(crate) fn is_exchanged(claim: Claim) -> bool
-    ensures { IsTrue result ↔ IsExchanged (claim_of claim) }
-{
+pub(crate) fn is_exchanged(claim: Claim) -> bool {
     match claim {
         Claim::Range(Some(lower), Some(upper)) => !compares(Sense::L, lower, upper),
         _ => false,

@@ -1,17 +1,15 @@
 //! A derivation that is refused.
-ghost use Rattle.std.specs.Prelude.{◌≡◌, ◌↔◌, List, All, IfErr, IfOk, IsTrue, is_some, option_map};
-ghost use Rattle.vipr_spec.specs.{Certificate.Derivation as DerivationMeant, Fraction.neg_ℚ};
-ghost use Rattle.vipr_linear.specs.Constraint.{constraint_of};
-ghost use Rattle.vipr_cert.specs.Items.{derivation_of};
-ghost use Rattle.vipr_rules.specs.Profile.{profile_of};
-ghost use Rattle.vipr_explain.specs.Near.{HasReplayed, LacksStep, without_solutions};
-ghost use Rattle.vipr_explain.specs.Refused.{AreFacts, AreNamedBy, IsRefusedStep};
-ghost use Rattle.vipr_explain.specs.Refused.{known_constraint, used_by};
-ghost use Rattle.vipr_explain.specs.Changes.{FollowEach};
+ghost use Rattle.vipr_spec.specs.Certificate.{variables};
+ghost use Rattle.vipr_explain.specs.Replays.{IsReplayOf};
 
+use crate::algebra::{Algebra, ShownName, sign_of};
 use crate::changes::{Changes, Replay};
+use crate::decimal::write_if_past;
+use crate::differences::{Difference, row_differences, write_differences};
+use crate::faults::{RowFault, row_faults, write_faults};
 use crate::marks::{ItemSort, Marks, Sought};
 use crate::near::{NearSearch, is_turned, search_to};
+use crate::page::Page;
 use crate::reason::{label_of, part_at_fault, step_indices, write_reason, write_sources};
 use crate::shown::{PlacedItems, write_last_use};
 use crate::solution::PAST_LIMIT;
@@ -21,10 +19,6 @@ use vipr_cert::{Derivation, Problem, Reason, References};
 use vipr_check::{StepDetail, cause};
 use vipr_frac::Frac;
 use vipr_linear::{Constraint, Ints, Sense, covers};
-use vipr_page::{
-    Algebra, Difference, Page, RowFault, ShownName, row_differences, row_faults, sign_of,
-    write_differences, write_faults, write_if_past,
-};
 use vipr_rules::{Profile, Rows};
 use vipr_scan::TextError;
 
@@ -67,10 +61,7 @@ enum StepFacts {
 
 impl<'a> RefusedStep<'a> {
     /// Reads the derivation that is refused, and what it names.
-    pub(crate) fn find(subject: Subject<'a>, fault: StepFault<'_>) -> Reread<RefusedStep<'a>>
-        ensures found { IfOk result (IsRefusedStep subject.entry fault.entry) }
-        ensures missing { IfErr result (LacksStep subject.entry fault.entry.index) }
-    {
+    pub(crate) fn find(subject: Subject<'a>, fault: StepFault<'_>) -> Reread<RefusedStep<'a>> {
         let (problem, mut search, step) = search_to(subject, Some(fault.index))?;
         let Some(own) = step else {
             drop(search);
@@ -100,11 +91,7 @@ impl<'a> RefusedStep<'a> {
     }
 
     /// A constraint of the problem, or a derived one that is live.
-    pub(crate) fn constraint(&self, index: u32) -> Option<&Constraint>
-        ensures known { option_map (λ c. constraint_of c.now) result
-            ≡ known_constraint self.now index }
-        ensures variant { is_some result ≡ is_some (known_constraint self.now index) }
-    {
+    pub(crate) fn constraint(&self, index: u32) -> Option<&Constraint> {
         match self.known.problem.cons().get(index as usize) {
             Some(named) => Some(&named.item),
             None => Some(&self.search.replay.rows.get(index)?.constraint),
@@ -156,12 +143,7 @@ fn find_behind(
     replay: &mut Replay,
     step: &Derivation,
 ) -> Result<(Marks, StepFacts, Changes), AllocError>
-    requires { (ds : List DerivationMeant) × HasReplayed problem.now ds replay.old }
-    ensures named { IfOk result (λ x. AreNamedBy subject.entry problem.now fault.entry x.0 x.1) }
-    ensures changes { (ds : List DerivationMeant) → HasReplayed problem.now ds replay.old
-        → IfOk result (λ x. FollowEach (profile_of subject.entry.profile)
-        (without_solutions problem.now ds) (derivation_of step.now) x.2) }
-    ensures rows { replay.new.rows ≡ replay.old.rows }
+    requires { IsReplayOf (variables problem.now) replay.old }
 {
     let changes = match fault.cause {
         cause::NOT_EARLIER
@@ -189,9 +171,7 @@ fn find_behind(
 }
 
 // The constraint whose last use is looked for, if the cause is that it was dropped.
-fn used_by(fault: StepFault<'_>) -> Option<u32>
-    ensures { result ≡ used_by fault.entry.cause fault.entry.what.now }
-{
+fn used_by(fault: StepFault<'_>) -> Option<u32> {
     match fault.what {
         StepDetail::Index(index) if fault.cause == cause::DROPPED => Some(*index),
         _ => None,
@@ -200,9 +180,7 @@ fn used_by(fault: StepFault<'_>) -> Option<u32>
 
 impl StepFacts {
     // Finds what is behind the fault of a derivation.
-    fn find(alloc: Global, what: &StepDetail, ints: &Ints) -> Result<StepFacts, AllocError>
-        ensures { IfOk result (AreFacts ints.now what.now) }
-    {
+    fn find(alloc: Global, what: &StepDetail, ints: &Ints) -> Result<StepFacts, AllocError> {
         match what {
             StepDetail::Rows { computed, stated } => {
                 Ok(StepFacts::Rows(row_differences(alloc, &computed.row, &stated.row)?))
@@ -226,9 +204,7 @@ fn is_negated(computed: Sense, stated: &Constraint, differences: &[Difference]) 
 }
 
 // Whether each stated coefficient is the computed one with the other sign.
-fn are_opposite(differences: &[Difference]) -> bool
-    ensures { IsTrue result ↔ All (λ d. d.stated ≡ neg_ℚ d.computed) differences.now }
-{
+fn are_opposite(differences: &[Difference]) -> bool {
     differences.iter().all(|difference| difference.stated == difference.computed.neg())
 }
 

@@ -1,15 +1,14 @@
 //! A fault of a text: its place, and what is wanted there.
-ghost use Rattle.std.specs.Prelude.{◌≡◌, ◌+◌, ◌↔◌, IsTrue, length};
-ghost use Rattle.vipr_explain.specs.Syntax.{IsFoundAt, found_at_start, found_behind};
 
+use crate::algebra::ShownName;
 use crate::excerpt::{Excerpt, part_of};
 use crate::hints::write_hint;
+use crate::page::Page;
 use crate::text::Span;
 use crate::wanted::{Section, TextProgress, Wanted};
 use crate::wanted_words::write_wanted;
 use crate::words::{TextWord, Words};
 use vipr_check::cause;
-use vipr_page::{Page, ShownName};
 
 /// How far a text was read before the token at a fault, and that token.
 #[derive(Clone, Copy)]
@@ -24,9 +23,7 @@ pub(crate) struct FaultToken {
 
 impl FaultToken {
     // Nothing was read.
-    fn start() -> FaultToken
-        ensures { result ≡ found_at_start }
-    {
+    fn start() -> FaultToken {
         let nothing = Span { offset: 0, size: 0 };
         FaultToken {
             progress: TextProgress::start(),
@@ -37,10 +34,7 @@ impl FaultToken {
     }
 
     // Takes the next token, which is passed if it is before this byte.
-    fn take(&mut self, word: TextWord<'_>, offset: u64)
-        ensures { self.new ≡ found_behind offset self.old word.entry.bytes.now
-            word.entry.span }
-    {
+    fn take(&mut self, word: TextWord<'_>, offset: u64) {
         self.word = word.span;
         if word.span.offset >= offset {
             self.is_end = false;
@@ -66,9 +60,7 @@ pub(crate) struct TextFault<'a> {
 
 impl<'a> TextFault<'a> {
     /// The token at a byte of a text.
-    pub(crate) fn find(text: &'a [u8], offset: u64) -> TextFault<'a>
-        ensures { IsFoundAt text.now offset result }
-    {
+    pub(crate) fn find(text: &'a [u8], offset: u64) -> TextFault<'a> {
         let mut words = Words::of(text);
         let mut found = FaultToken::start();
         while found.is_end {
@@ -121,9 +113,7 @@ impl<'a> TextFault<'a> {
 }
 
 // Whether a text ends with the last byte of a token.
-fn ends_text(span: Span, text: &[u8]) -> bool
-    ensures { IsTrue result ↔ (span.offset + span.size ≡ length text.now) }
-{
+fn ends_text(span: Span, text: &[u8]) -> bool {
     span.offset.checked_add(span.size as u64) == Some(text.len() as u64)
 }
 

@@ -1,8 +1,8 @@
 //! What a token looks like, for those who have to guess what was meant by it.
 
+use crate::decimal::fraction_of;
 use crate::wanted::{KEYWORDS, is_word};
 use vipr_frac::Frac;
-use vipr_page::fraction_of;
 
 /// What a token looks like.
 #[derive(Clone, Copy)]

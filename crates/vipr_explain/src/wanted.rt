@@ -1,9 +1,4 @@
 //! How far a certificate's text was read: what it has to have at its next token.
-ghost use Rattle.std.specs.{Prelude.◌≡◌, Str.bytes_eq};
-ghost use Rattle.vipr_explain.specs.Progress.{at_start, count_passed, count_spelled};
-ghost use Rattle.vipr_explain.specs.Progress.{first_of_reason, index_of, item_begun, item_ended};
-ghost use Rattle.vipr_explain.specs.Progress.{next_section, part_begun, part_ended, passed};
-ghost use Rattle.vipr_explain.specs.Progress.{section_ended};
 
 /// The sections of a certificate, in their order.
 #[derive(Clone, Copy)]
@@ -99,9 +94,7 @@ impl Section {
     }
 
     // The section behind it; the last one has none.
-    fn next(self) -> Option<Section>
-        ensures { result ≡ next_section self }
-    {
+    fn next(self) -> Option<Section> {
         match self {
             Section::Version => Some(Section::Variables),
             Section::Variables => Some(Section::Integers),
@@ -117,9 +110,7 @@ impl Section {
 
 impl TextProgress {
     /// The start of a text.
-    pub(crate) fn start() -> TextProgress
-        ensures { result ≡ at_start }
-    {
+    pub(crate) fn start() -> TextProgress {
         TextProgress {
             section: Section::Version,
             wanted: Wanted::Keyword,
@@ -135,9 +126,7 @@ impl TextProgress {
 
     /// The index of the item among all constraints, if it is a derivation; 0 for the claim; else
     /// the item's position.
-    pub(crate) fn index(&self) -> u32
-        ensures { result ≡ index_of self.now }
-    {
+    pub(crate) fn index(&self) -> u32 {
         match self.section {
             Section::Derivations => self.constraints.saturating_add(self.item),
             Section::Claim => 0,
@@ -146,9 +135,7 @@ impl TextProgress {
     }
 
     /// Passes a token that is as it is wanted.
-    pub(crate) fn pass(&mut self, word: &[u8])
-        ensures { self.new ≡ passed self.old word.now }
-    {
+    pub(crate) fn pass(&mut self, word: &[u8]) {
         match self.wanted {
             Wanted::Keyword => match self.section {
                 Section::Version => self.wanted = Wanted::Version,
@@ -191,9 +178,7 @@ impl TextProgress {
     }
 
     // Ends the section.
-    fn end_section(&mut self)
-        ensures { self.new ≡ section_ended self.old }
-    {
+    fn end_section(&mut self) {
         match self.section.next() {
             Some(next) => {
                 self.section = next;
@@ -204,9 +189,7 @@ impl TextProgress {
     }
 
     // Passes the number of a section's items.
-    fn pass_count(&mut self, count: u32)
-        ensures { self.new ≡ count_passed self.old.section self.old count }
-    {
+    fn pass_count(&mut self, count: u32) {
         self.items = count;
         match self.section {
             Section::Variables => {
@@ -222,9 +205,7 @@ impl TextProgress {
     }
 
     // Begins the item of this position, if there is one; else the section ends.
-    fn begin_item(&mut self, item: u32)
-        ensures { self.new ≡ item_begun item self.old }
-    {
+    fn begin_item(&mut self, item: u32) {
         self.item = item;
         match self.section {
             _ if item >= self.items => self.end_section(),
@@ -234,17 +215,13 @@ impl TextProgress {
     }
 
     // Ends the item: behind the last one the section ends.
-    fn end_item(&mut self)
-        ensures { self.new ≡ item_ended self.old }
-    {
+    fn end_item(&mut self) {
         self.begin_item(self.item.saturating_add(1));
     }
 
     // Begins the part of this position, of so many, with this; behind the last one the row or the
     // reason ends.
-    fn begin_part(&mut self, first: Wanted, part: u32, parts: u32)
-        ensures { self.new ≡ part_begun first part parts self.old }
-    {
+    fn begin_part(&mut self, first: Wanted, part: u32, parts: u32) {
         self.part = part;
         self.parts = parts;
         match (first, self.section) {
@@ -257,24 +234,18 @@ impl TextProgress {
     }
 
     // Ends the part, of those that begin with this.
-    fn end_part(&mut self, first: Wanted)
-        ensures { self.new ≡ part_ended first self.old }
-    {
+    fn end_part(&mut self, first: Wanted) {
         self.begin_part(first, self.part.saturating_add(1), self.parts);
     }
 }
 
 /// Whether a token is this word.
-pub(crate) fn is_word(token: &[u8], word: &str) -> bool
-    ensures { result ≡ bytes_eq token.now word.now }
-{
+pub(crate) fn is_word(token: &[u8], word: &str) -> bool {
     token == word.as_bytes()
 }
 
 // What follows the word of a reason.
-fn first_of_reason(word: &[u8]) -> Wanted
-    ensures { result ≡ first_of_reason word.now }
-{
+fn first_of_reason(word: &[u8]) -> Wanted {
     if is_word(word, "uns") {
         Wanted::Branch
     } else if is_word(word, "lin") || is_word(word, "rnd") {
@@ -285,9 +256,7 @@ fn first_of_reason(word: &[u8]) -> Wanted
 }
 
 /// The number that digits spell; 0 for other bytes, as `OBJ`.
-pub(crate) fn count_of(word: &[u8]) -> u32
-    ensures { result ≡ count_spelled word.now }
-{
+pub(crate) fn count_of(word: &[u8]) -> u32 {
     let mut count: u32 = 0;
     for byte in word {
         if *byte < b'0' || b'9' < *byte {

@@ -1,7 +1,7 @@
 //! What a certificate's text has to have at a token, in words.
 
+use crate::page::Page;
 use crate::wanted::{Section, TextProgress, Wanted};
-use vipr_page::Page;
 
 // What is wanted, in the order of `Wanted`, in front of what else is said of it.
 const WORDS: [&str; 24] = [

@@ -1,11 +1,9 @@
 //! The whole explanation of a verdict: what is found for it, and how that is shown.
-ghost use Rattle.std.specs.Prelude.{IfErr, IfOk};
-ghost use Rattle.vipr_explain.specs.Findings.{ExplainsVerdict, IsClaimPlace};
-ghost use Rattle.vipr_explain.specs.Refused.{LacksItem};
 
 use crate::excerpt::Excerpt;
 use crate::goal::{ProvedClaim, UnprovedClaim};
 use crate::marks::{ItemPart, ItemSort, find_item};
+use crate::page::Page;
 use crate::solution::{ListedValues, RefusedSolution};
 use crate::step::{RefusedStep, StepFault};
 use crate::syntax::TextFault;
@@ -14,7 +12,6 @@ use std::alloc::{AllocError, Global};
 use vipr_check::{Detail, Place, Report, Verdict};
 use vipr_frac::Frac;
 use vipr_linear::{Constraint, Sense};
-use vipr_page::Page;
 use vipr_rules::Profile;
 use vipr_scan::TextError;
 
@@ -75,10 +72,11 @@ pub fn page_for(
 }
 
 // Finds what explains a verdict.
-fn find<'a>(subject: Subject<'a>, verdict: &'a Verdict, detail: &'a Detail) -> Reread<Findings<'a>>
-    ensures answers { IfOk result (ExplainsVerdict subject.entry verdict.now detail.now) }
-    ensures missing { IfErr result (LacksItem subject.entry verdict.now) }
-{
+fn find<'a>(
+    subject: Subject<'a>,
+    verdict: &'a Verdict,
+    detail: &'a Detail,
+) -> Reread<Findings<'a>> {
     let refusal = match verdict {
         Verdict::Verified(report) => {
             return Ok(Findings::Proved(ProvedClaim::find(subject, report)?, report));
@@ -127,9 +125,10 @@ fn dual_part(needed: &Option<Constraint>) -> ItemPart {
 }
 
 // The place of a part of the claim.
-fn claim_place<'a>(subject: Subject<'a>, part: ItemPart) -> Result<Option<Excerpt<'a>>, AllocError>
-    ensures { IfOk result (IsClaimPlace subject.entry.text.now part) }
-{
+fn claim_place<'a>(
+    subject: Subject<'a>,
+    part: ItemPart,
+) -> Result<Option<Excerpt<'a>>, AllocError> {
     match find_item(subject, ItemSort::Claim, 0, part)? {
         Some(place) => Ok(Some(Excerpt::of(subject.text, place.part))),
         None => Ok(None),

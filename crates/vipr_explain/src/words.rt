@@ -1,7 +1,5 @@
 //! The tokens of a text with their places.
-ghost use Rattle.std.specs.Prelude.{◌≡◌, ◌<◌, ◌≤◌, ◌+◌, List, length, drop, IfSome};
-ghost use Rattle.vipr_spec.specs.Tokens.{Token, text_tokens};
-ghost use Rattle.vipr_explain.specs.Words.{AreLeft, GivesWord, in_u64};
+ghost use Rattle.std.specs.Prelude.{◌≡◌, ◌<◌, ◌≤◌, ◌+◌, length, IfSome};
 
 use crate::text::Span;
 use vipr_scan::{Position, gap, run_end};
@@ -24,9 +22,7 @@ pub(crate) struct Words<'a> {
 
 impl<'a> Words<'a> {
     /// A reader at the start of a text.
-    pub(crate) fn of(text: &'a [u8]) -> Words<'a>
-        ensures { AreLeft (text_tokens text.now) result }
-    {
+    pub(crate) fn of(text: &'a [u8]) -> Words<'a> {
         Words {
             rest: text,
             offset: 0,
@@ -36,9 +32,8 @@ impl<'a> Words<'a> {
 
     /// The next token, `None` if there is none.
     pub(crate) fn next(&mut self) -> Option<TextWord<'a>>
-        ensures shorter { IfSome result
+        ensures { IfSome result
             (λ _. length self.new.rest.now < length self.old.rest.now) }
-        ensures given { (ts : List Token) → AreLeft ts self.old → GivesWord ts self.new result }
     {
         let (blanks, position) = gap(self.position, self.rest);
         self.position = position;
@@ -59,9 +54,7 @@ impl<'a> Words<'a> {
     // Passes so many bytes.
     fn pass(&mut self, count: usize)
         requires { count ≤ length self.old.rest.now }
-        ensures position { self.new.position ≡ self.old.position }
-        ensures offset { self.new.offset ≡ in_u64 (self.old.offset + count) }
-        ensures rest { self.new.rest.now ≡ drop count self.old.rest.now }
+        ensures { length self.new.rest.now + count ≡ length self.old.rest.now }
     {
         self.offset = self.offset.saturating_add(count as u64);
         self.rest = &self.rest[count..];

@@ -1,6 +1,6 @@
-use Rattle.std.proofs.Common.{[]}
-use Rattle.vipr_explain.specs.Near.{HasSearched}
+use Rattle.vipr_spec.specs.Certificate.{variables}
+use Rattle.vipr_explain.specs.Replays.{IsReplayOf}
 use Rattle.vipr_explain.proofs.near.NearSearch.new.Given as goal
 
 abbrev pub invariant-loop-index : goal.invariant-loop-index
-invariant-loop-index l = HasSearched l.subject l.problem [] l.index l.search
+invariant-loop-index l = IsReplayOf (variables l.problem) l.search.replay

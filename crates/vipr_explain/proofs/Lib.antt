@@ -1,5 +1,0 @@
-mod Again
-mod Lacks
-mod Walking
-mod Nearing
-mod Valuing

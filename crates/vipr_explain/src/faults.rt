@@ -1,0 +1,55 @@
+//! What keeps a row from being whole.
+
+use crate::algebra::VariableName;
+use crate::differences::MOST_SHOWN;
+use crate::page::Page;
+use std::alloc::{AllocError, Global};
+use vipr_cert::Problem;
+use vipr_frac::Frac;
+use vipr_linear::{Ints, Row};
+
+/// Why a row isn't whole.
+#[derive(Clone, Copy)]
+pub(crate) enum RowFault {
+    /// The coefficient of a variable isn't whole.
+    NotWhole(u32, Frac),
+    /// A variable isn't an integer one.
+    NotInteger(u32),
+}
+
+/// What keeps a row from being whole: coefficients that aren't, and variables that aren't integer
+/// ones.
+pub(crate) fn row_faults(
+    alloc: Global,
+    ints: &Ints,
+    row: &Row,
+) -> Result<Vec<RowFault>, AllocError> {
+    let mut faults = Vec::new(alloc);
+    for entry in row.entries() {
+        let (variable, coefficient) = *entry;
+        if !coefficient.is_whole() {
+            faults.push(RowFault::NotWhole(variable, coefficient))?;
+        }
+        if !ints.contains(variable) {
+            faults.push(RowFault::NotInteger(variable))?;
+        }
+    }
+    Ok(faults)
+}
+
+/// Writes the first faults of a row, a line each.
+pub(crate) fn write_faults(page: &mut Page, problem: &Problem, faults: &[RowFault]) {
+    for fault in &faults[..faults.len().min(MOST_SHOWN)] {
+        match *fault {
+            RowFault::NotWhole(index, value) => {
+                let name = VariableName(problem, index);
+                write!(page, "    the coefficient {value} of {name} is not whole\n");
+            }
+            RowFault::NotInteger(index) => {
+                let name = VariableName(problem, index);
+                write!(page, "    {name} is not an integer variable: ");
+                write!(page, "is its index {index} left out behind INT?\n");
+            }
+        }
+    }
+}

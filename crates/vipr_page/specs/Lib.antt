@@ -1,5 +1,0 @@
-pub mod Page
-pub mod Algebra
-pub mod Differences
-pub mod RowFaults
-pub mod Decimals
