@@ -149,6 +149,22 @@ def comments_stand_alone():
                 yield '%s:%d' % (shown(path), n)
 
 
+# a word of two parts or more, each with a capital letter
+JOINED_WORD = re.compile(r'\b[A-Z][a-z0-9]+(?:[A-Z][a-z0-9]*)+\b')
+
+
+def comments_name_no_definitions():
+    """No comment of src has the name of a definition of specs/ in place of a word, as a rename by a script leaves it."""
+    definitions = {head[3] for _, _, path in files(('specs',), ('.antt',)) for head in map(head_of, read(path).split('\n')) if head}
+    types = {name for _, _, path in files(('src',), ('.rt',))
+             for name in re.findall(r'\b(?:struct|enum|trait|type) (\w+)', read(path))}
+    for crate, part, path in files(('src',), ('.rt',)):
+        for n, line in enumerate(read(path).split('\n'), 1):
+            for word in JOINED_WORD.findall(line.partition('//')[2]):
+                if word in definitions - types:
+                    yield '%s:%d: %s' % (shown(path), n, word)
+
+
 WORD = re.compile(r"[^\s(){}\[\];,.]+")
 USE = re.compile(r'^[ \t]*(?:(pub|pub\(\w+\)|ghost|unfoldable) )*use ([^{;\n]*)(\{[^}]*\})?[^;\n]*;?$', re.M)
 # what a `use` brings without its name: calls of a trait, and notations
@@ -455,7 +471,7 @@ def python_is_linted():
         yield from (said.stdout + said.stderr).splitlines()
 
 
-CHECKS = [foreign_proofs, private_lemmas, names_twice, types_twice, growing_types, plain_words, comments_stand_alone, unused_imports, dead_lemmas, dead_calls, laws_are_named, proofs_in_specs, long_lines, long_files, crates_are_there, graph_is_current,
+CHECKS = [foreign_proofs, private_lemmas, names_twice, types_twice, growing_types, plain_words, comments_stand_alone, comments_name_no_definitions, unused_imports, dead_lemmas, dead_calls, laws_are_named, proofs_in_specs, long_lines, long_files, crates_are_there, graph_is_current,
           statement_is_current, examples_are_there, causes_agree, edits_stand, samples_go_round, edits_of_each_run_are_there,
           versions_agree, named_files_are_there,
           formatted, python_is_linted]

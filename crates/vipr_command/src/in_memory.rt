@@ -1,4 +1,4 @@
-//! AnswersTask for a text that is read into memory: with a page for people, or with its digest.
+//! Answers for a text that is read into memory: with a page for people, or with its digest.
 ghost use Rattle.std.specs.Prelude.{◌≡◌, ◌<◌, ◌^◌, Some, None, true, false};
 ghost use Rattle.std.specs.Prelude.{length, take, ◌/◌, IfOk, IfSome, string_bytes};
 ghost use Rattle.vipr_spec.specs.{Input.Input, Verdict.Answer, Verdict.IsAnswer};

@@ -183,7 +183,7 @@ impl<H: Host> OutFile<'_, H> {
         options.open(self.rt, self.name.as_str())
     }
 
-    /// EndsRun a text that was written whole: OUT has it then.
+    /// Ends a text that was written whole: OUT has it then.
     fn end(&self, path: &str) -> io::Result<()> {
         match &self.destination {
             None => Ok(()),

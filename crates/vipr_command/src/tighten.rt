@@ -12,7 +12,7 @@ use std::alloc::Global;
 use vipr_bytes::{Sink, Source};
 use vipr_tighten::{Outcome, TightenFault, tighten_as};
 
-/// Prints a certificate's text, tightened as a job says, or writes it to the job's OUT. AnswersTask
+/// Prints a certificate's text, tightened as a job says, or writes it to the job's OUT. Answers
 /// what was kept and removed, or why there is none.
 ///
 /// OUT is begun before the certificate is read, and may be the file that is read. It is kept once
