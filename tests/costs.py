@@ -54,7 +54,7 @@ STEPS_LENGTH, STEPS_MOST = 20_000, {'split_on_rows': 13_000_000, 'wide_divisors'
 # divisions, allocations and steps that move bytes: how many a text of this length may take, by family
 HIDDEN_LENGTH, HIDDEN_MOST = 100_000, {
     'chain': (50, 150, 130_000), 'tree': (50, 4_800, 300_000), 'cuts': (3_000, 1_350, 140_000),
-    'dense': (11_000, 350, 130_000), 'wide': (50, 2_900, 400_000), 'long': (50, 400, 130_000),
+    'dense': (27_000, 350, 130_000), 'wide': (50, 2_900, 400_000), 'long': (50, 400, 130_000),
     'held': (50, 2_300, 480_000), 'solutions': (50, 5_500, 220_000)}
 # when a run is stopped, in seconds of processor time: more than the longest one needs under valgrind on a slow machine
 SECONDS = 60

@@ -10,23 +10,6 @@ use crate::words::WHOLE;
 
 const MOST: u64 = i64::MAX as u64;
 
-// Below what number a denominator is small.
-const SMALL: u64 = 64;
-
-const SHORT: u64 = 1 << 32;
-
-// 2^32 divided by each small number from 2 on, rounded up. What is found by it is tested.
-const RECIPROCALS: [u32; SMALL as usize] = [
-    0, 0, 2147483648, 1431655766, 1073741824, 858993460, 715827883, 613566757, 536870912,
-    477218589, 429496730, 390451573, 357913942, 330382100, 306783379, 286331154, 268435456,
-    252645136, 238609295, 226050911, 214748365, 204522253, 195225787, 186737709, 178956971,
-    171798692, 165191050, 159072863, 153391690, 148102321, 143165577, 138547333, 134217728,
-    130150525, 126322568, 122713352, 119304648, 116080198, 113025456, 110127367, 107374183,
-    104755300, 102261127, 99882961, 97612894, 95443718, 93368855, 91382283, 89478486, 87652394,
-    85899346, 84215046, 82595525, 81037119, 79536432, 78090315, 76695845, 75350304, 74051161,
-    72796056, 71582789, 70409300, 69273667, 68174085,
-];
-
 /// Whether a number is a word of 64 bits with a sign.
 #[inline(always)]
 pub(crate) fn is_word(p: i128) -> bool
@@ -126,17 +109,6 @@ pub(crate) fn pair_product(p: i64, q: u64, r: i64, s: u64) -> Option<(i64, u64)>
     Some((p.checked_mul(r)?, denominator(q, s)?))
 }
 
-// How many times a small denominator goes into another one, if it leaves no rest. It may miss that.
-#[inline(always)]
-fn times(q: u64, s: u64) -> Option<u64>
-    requires small { q < 64 }
-    requires short { s < 2 ^ 32 }
-    ensures { IfSome result (λ n. (s ≡ n * q) × (n < 2 ^ 63)) }
-{
-    let times = s * u64::from(RECIPROCALS[q as usize]) / SHORT;
-    if times * q == s { Some(times) } else { None }
-}
-
 // The sum of two fractions, of whose denominators a common divisor is given.
 #[inline(always)]
 fn common_sum(p: i64, q: u64, r: i64, s: u64, g: u64) -> Option<(i64, u64)>
@@ -165,14 +137,6 @@ pub(crate) fn mixed_sum(p: i64, q: u64, r: i64, s: u64) -> Option<(i64, u64)>
     ensures some { IfSome result (λ t. 0 < t.1) }
     ensures below { IfSome result (λ t. t.1 < 2 ^ 63) }
 {
-    if q < SMALL && s < SHORT {
-        if let Some(times) = times(q, s) {
-            return raised_sum(p, times, r, s);
-        }
-        if q * s < SHORT {
-            return common_sum(p, q, r, s, 1);
-        }
-    }
     let rest = s % q;
     if rest == 0 {
         return raised_sum(p, s / q, r, s);
