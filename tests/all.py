@@ -30,7 +30,7 @@ RT = os.environ.get('RT', 'rt')
 SCRIPTS = [
     ['tests/house.py'],
     ['tests/tools.py'],
-    ['tools/wrong.py', '--sample', '10'],
+    ['tests/wrong_versions.py'],
     ['tests/answers.py'],
     ['tests/conformance.py'],
     ['tests/long.py'],

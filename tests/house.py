@@ -17,7 +17,6 @@ import sys
 ROOT = os.path.dirname(os.path.dirname(os.path.abspath(__file__)))
 CRATES = os.path.join(ROOT, 'crates')
 sys.path.insert(0, os.path.join(ROOT, 'tools'))
-import wrong  # noqa: E402
 import statement  # noqa: E402
 from sources import crates, head_of, levels, read, replaced  # noqa: E402
 
@@ -385,43 +384,6 @@ def causes_agree():
             yield 'Causes.antt: cause %d is called %s, in docs/FORMAT.md %s' % (n, spelled.get(n), page.get(n, ('', ''))[0])
 
 
-def edits_stand():
-    """The `old:` text of each edit of wrong/ stands once in its file."""
-    for crate, part, path in files(('wrong',), ('.edit',)):
-        state, file, old = {}, None, None
-        for n, line in enumerate(read(path).split('\n'), 1):
-            if line.startswith('file: '):
-                file = line[6:].strip()
-                full = os.path.join(CRATES, crate, file)
-                if file not in state and os.path.isfile(full):
-                    state[file] = read(full)
-                if file not in state:
-                    yield '%s:%d: no file %s' % (shown(path), n, file)
-            elif line.startswith('old: '):
-                old = line[5:]
-                count = state.get(file, '').count(old)
-                if count != 1:
-                    yield '%s:%d: stands %d times in %s' % (shown(path), n, count, file)
-            elif line.startswith('new:') and old is not None and file in state:
-                state[file] = state[file].replace(old, line[5:], 1)
-                old = None
-
-
-def samples_go_round():
-    """As many commits as there are wrong versions try each of them as often as the others: ten times, by ten at once."""
-    for count, size in ((10, 552), (10, 23), (10, 4), (3, 3)):
-        tried = collections.Counter(it for turn in range(size) for it in wrong.sample(list(range(size)), count, turn))
-        if tried != dict.fromkeys(range(size), min(count, size)):
-            yield 'tools/wrong.py: of %d, a sample of %d leaves some out' % (size, count)
-
-
-def edits_of_each_run_are_there():
-    """Each wrong version that tools/wrong.py tries in each run is one of wrong/."""
-    there = {wrong.name_of(path) for path in wrong.TOP.glob('crates/*/wrong/*.edit')}
-    for name in sorted(wrong.ALWAYS - there):
-        yield f'tools/wrong.py: {name} is no edit of wrong/'
-
-
 def versions_agree():
     """Each place that names the program's version names that of the command line."""
     number = re.search(r'\.version\("(.*)"\)', read(os.path.join(CRATES, 'vipr_command', 'src', 'args.rt')))[1]
@@ -436,9 +398,18 @@ def versions_agree():
         yield 'docs/LIBRARY.md: does not name %s' % soname
 
 
+def git(*words):
+    """What git says of this folder, if it is the top of a checkout."""
+    try:
+        said = subprocess.run(['git', *words], cwd=ROOT, capture_output=True, text=True, check=False)
+    except OSError:
+        return None
+    return said.stdout.strip() if os.path.exists(os.path.join(ROOT, '.git')) and said.returncode == 0 else None
+
+
 def named_files_are_there():
     """Each file of the repository that a page names in code quotes is there, in the folder or crate that it names."""
-    listed = (wrong.git('ls-files') or '').split('\n')
+    listed = (git('ls-files') or '').split('\n')
     if not any(listed):
         print('house: no git that knows this folder, so the files that pages name are not looked for')
     # as they are named: STATEMENT.md leaves out `crates` and `specs`
@@ -472,7 +443,7 @@ def python_is_linted():
 
 
 CHECKS = [foreign_proofs, private_lemmas, names_twice, types_twice, growing_types, plain_words, comments_stand_alone, comments_name_no_definitions, unused_imports, dead_lemmas, dead_calls, laws_are_named, proofs_in_specs, long_lines, long_files, crates_are_there, graph_is_current,
-          statement_is_current, examples_are_there, causes_agree, edits_stand, samples_go_round, edits_of_each_run_are_there,
+          statement_is_current, examples_are_there, causes_agree,
           versions_agree, named_files_are_there,
           formatted, python_is_linted]
 

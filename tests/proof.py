@@ -1,28 +1,27 @@
 #!/usr/bin/env python3
-"""Writes the tables of docs/CONTRACTS.md from the sources, and how many edits there are into docs/PROOF.md, and how many
-came since `make wrong` was last run whole, or says whether both are current.
+"""Writes the tables of docs/CONTRACTS.md from the sources, or says whether they are current.
 
 usage: tests/proof.py [--check]
 
 A row for each public call: the call, the names of its clauses (`-` for one without a name), the definitions that they
-cite, the laws that its proof cites, and the edits of its code: those that `make test` tries each time, and the others, which
-`make wrong` tries. Edits of what lies below the public calls, of definitions and of laws stand in the lines below a crate's table. Of docs/PROOF.md it says which crate has no heading there, and which clause in brackets is
-none of the calls before it, or of the record behind `of`. Without git and the commit of that run, what came since is left
-out, and a line says so.
+cite, the laws that its proof cites, and the edits of its code, first those of must-fail/. Edits of what lies below the public
+calls stand in the lines below a crate's table. Of docs/PROOF.md it says which crate has no heading there, which clause in
+brackets is none of the calls before it, or of the record behind `of`, and which edit that it names isn't there.
 """
 import os
 import re
 import sys
 
 from sources import TOP, blanked, braced, crates, edits, files_of, functions, owners, read, record_fields, replaced
-sys.path.insert(0, str(TOP / 'tools'))
-import wrong  # noqa: E402
 
 PROOF, CONTRACTS = TOP / 'docs/PROOF.md', TOP / 'docs/CONTRACTS.md'
-EDITS = '<!-- edits: written by `tests/proof.py` -->', '<!-- end of the edits -->'
 MARKS = '<!-- tables: written by `tests/proof.py` from the sources -->', '<!-- end of the tables -->'
 # crates that only have the public names of others
 WITHOUT_CALLS = ('vipr_lib',)
+# where a crate has edits: those that `rt ci` tries, and those that `make wrong` tries
+FOLDERS = 'must-fail', 'wrong'
+
+
 def imports(text):
     """The words that `ghost use` brings in from the definitions of our crates."""
     words = set()
@@ -33,14 +32,6 @@ def imports(text):
         if found[3]:
             words.add(found[3])
     return words
-
-
-def tried_by(crate):
-    """The edits of a crate by the command that tries all of them."""
-    out = {'make test': [], 'make wrong': []}
-    for edit in edits(crate):
-        out['make test' if f'{crate}/{edit[0]}' in wrong.ALWAYS else 'make wrong'].append(edit)
-    return out
 
 
 def laws(crate, name):
@@ -78,7 +69,7 @@ def traits(file, text, words):
 def table(crate):
     """The table of one crate, as lines."""
     rows, placed = [], set()
-    all_edits = tried_by(crate)
+    all_edits = {folder: list(edits(crate, folder)) for folder in FOLDERS}
     for path in files_of(crate, 'src', '.rt'):
         if 'tests' in str(path.relative_to(TOP)):
             continue
@@ -93,8 +84,8 @@ def table(crate):
             cited = []
             for _, _, clause in clauses:
                 cited += [word for word in re.findall(r"[A-Za-z_]\w*", clause) if word in words]
-            own = {command: [edit for edit, place, old in there if place == file and old in text[start:end]]
-                   for command, there in all_edits.items()}
+            own = {folder: [edit for edit, place, old in there if place == file and old in text[start:end]]
+                   for folder, there in all_edits.items()}
             placed |= {edit for there in own.values() for edit in there}
             kinds = [clause or '-' for kind, clause, _ in clauses if kind == 'ensures']
             needs = [clause or '-' for kind, clause, _ in clauses if kind == 'requires']
@@ -104,15 +95,15 @@ def table(crate):
                                       f'{" | ".join(", ".join(there) for there in own.values())} |'))
     lines = [f'### `{crate}`', '']
     if rows:
-        commands = ' | '.join(f'Edits of `{command}`' for command in all_edits)
-        lines += [f'| Call | Clauses | Definitions | Laws cited in its proof | {commands} |', '|---|---|---|---|---|---|']
+        folders = ' | '.join(f'Edits of `{folder}/`' for folder in all_edits)
+        lines += [f'| Call | Clauses | Definitions | Laws cited in its proof | {folders} |', '|---|---|---|---|---|---|']
         lines += [row for _, _, row in sorted(rows)]
     else:
         lines += ['No call of its own.']
-    for command, there in all_edits.items():
+    for folder, there in all_edits.items():
         rest = [edit for edit, _, _ in there if edit not in placed]
         if rest:
-            lines += ['', f'Edits below these calls, of `{command}`: {", ".join(rest)}.']
+            lines += ['', f'Edits of `{folder}/` below these calls: {", ".join(rest)}.']
     return lines + ['']
 
 
@@ -121,20 +112,6 @@ def tables():
     for crate in crates():
         lines += table(crate)
     return '\n'.join([MARKS[0], ''] + lines + [MARKS[1]])
-
-
-def how_many():
-    """The edits that there are today, as a sentence."""
-    count = sum(len(list(edits(crate))) for crate in crates())
-    return '\n'.join([EDITS[0], f'Today there are {count}. Each `make test` tries {len(wrong.ALWAYS)} of them, and ten others.', EDITS[1]])
-
-
-def came_since(text):
-    """The page with the edits counted that came since all were tried, if git knows the commit."""
-    made = wrong.counted_anew(text)
-    if made is None:
-        print('proof: no git that knows the commit of the last whole run of make wrong, so what came since is left out')
-    return made or text
 
 
 def clauses_of(crate):
@@ -159,7 +136,11 @@ def clauses_of(crate):
 
 
 def faults_of_page(text):
-    """docs/PROOF.md: each crate with calls has one heading, and a clause in brackets is one of the calls before it."""
+    """docs/PROOF.md: each crate with calls has one heading, a clause in brackets is one of the calls before it, and each edit
+    that it names is there."""
+    for crate, edit in re.findall(r'`(vipr_\w+)/(\w+)`', text):
+        if not any((TOP / 'crates' / crate / folder / f'{edit}.edit').is_file() for folder in FOLDERS):
+            yield f'there is no edit {crate}/{edit}'
     parts = re.findall(r'^### ((?:`vipr\w*`(?:, )?)+)\n(.*?)(?=^##|\Z)', text, re.M | re.S)
     headed = [crate for heads, _ in parts for crate in re.findall(r'`(\w+)`', heads)]
     for crate in crates():
@@ -181,17 +162,13 @@ def main():
     faults = list(faults_of_page(PROOF.read_text()))
     for fault in faults:
         print(f'{os.path.relpath(PROOF, TOP)}: {fault}')
-    current = True
-    for page, made in ((CONTRACTS, lambda text: replaced(text, MARKS, tables())),
-                       (PROOF, lambda text: came_since(replaced(text, EDITS, how_many())))):
-        text = page.read_text()
-        new = made(text)
-        if '--check' in sys.argv:
-            current = current and new == text
-            print(f'{os.path.relpath(page, TOP)} is {"current" if new == text else "not what tests/proof.py makes of the sources"}')
-        else:
-            page.write_text(new)
-    return int(not current or bool(faults))
+    text = CONTRACTS.read_text()
+    new = replaced(text, MARKS, tables())
+    if '--check' in sys.argv:
+        print(f'docs/CONTRACTS.md is {"current" if new == text else "not what tests/proof.py makes of the sources"}')
+        return int(new != text or bool(faults))
+    CONTRACTS.write_text(new)
+    return int(bool(faults))
 
 
 if __name__ == '__main__':

@@ -75,9 +75,9 @@ def changed(edit):
     return found[1].strip() if found else ''
 
 
-def edits(crate):
-    """Of each edit of a crate its name, file and text."""
-    for path in files_of(crate, 'wrong', '.edit'):
+def edits(crate, folder):
+    """Of each edit of a folder of a crate its name, file and text."""
+    for path in files_of(crate, folder, '.edit'):
         yield path.stem, changed(path), re.search(r'^old: (.*)$', read(path), re.M)[1]
 
 

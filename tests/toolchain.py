@@ -5,10 +5,11 @@ It does as the file PLAN says, a word and what to do a line:
   proves CRATE HOW    `rt lib` or `rt run` of a crate: well, refused, killed, half (a line that is cut off), or nothing (no
                       program is left)
   gate HOW            `rt ci`: well, failed, killed, half, mute (a failure that it doesn't count), or nothing
-  edit NAME HOW       a check with an edit: goal, name, field, limit, killed, proved, unread, elsewhere (beside others the place is in
-                      another function), or the name of an edit whose function the edited one calls
-What isn't named goes well, and an edit is refused at a goal. Each command is written into the file LOG, and each check which
-edits it has. As a module it has what tools/wrong.py asks the kit's own `rt` for.
+  edit NAME HOW       a check with an edit: goal (with values), search, open, type, name, field, limit, killed, proved, unread,
+                      elsewhere (beside others the place is in another function), or the name of an edit whose function the
+                      edited one calls
+What isn't named goes well, and an edit is refused at a goal with values. Each command is written into the file LOG, and each
+check which edits it has. As a module it has what tools/wrong.py asks the kit's own `rt` for.
 """
 import hashlib
 import os
@@ -105,13 +106,29 @@ def unread(line, texts):
     return 'cannot be read' in line
 
 
+# what a check says of an edit at a place, by the word of the plan
+SAYS = {
+    'goal': 'note: src/lib.rt:1:1: it is not proved that this returns (`returns`); '
+            'the facts known there allow values at which this goal is false',
+    'search': 'note: src/lib.rt:1:1: it is not proved that this returns (`returns`); '
+              '`search` gave up at one of its limits',
+    'open': 'note: src/lib.rt:1:1: it is not proved that this returns (`returns`)',
+    'type': './proofs/one/Answers.antt:2:1: error: `returns`: the two types differ only where one has `0`',
+    'name': 'proofs/one/Answers.antt:2:1: error: module `one.Goals` has no `gone`',
+    'field': 'proofs/one/Answers.antt:2:1: error: record `one.Lts.After` (nearest: .other)',
+    'unread': 'src/lib.rt:1:1: error: this cannot be read',
+}
+
+
 def said_of_several(hows, text):
     """What a check says of edits in the bodies of several functions of src/part.rt."""
     places = {name: text[:text.index(f'// {name}, changed')].count('\n') + 1 for name in hows}
     for name, how in hows.items():
-        place = f'note: src/part.rt:{places[name] if how != "elsewhere" else 1}:5: it is not proved that this returns'
+        place = (f'note: src/part.rt:{places[name] if how != "elsewhere" else 1}:5: it is not proved that this returns; '
+                 'the facts known there allow values at which this goal is false')
         calls = f'; it calls `low::part::{how}`, which is not proved' if how in hows else ''
         yield {'name': f'proofs/part/{name}/Answers.antt:2:1: error: module `part.{name}.Goals` has no `gone`', 'proved': '',
+               'type': f'./proofs/part/{name}/Answers.antt:2:1: error: `returns`: the two types differ',
                'unread': 'src/part.rt:1:1: error: this cannot be read'}.get(how, place)
         yield f'fn low::part::{name}: {"proved" if how == "proved" else "not proved"}{calls}'
     yield f'only={len(hows)} pro' + ('' if 'killed' in hows.values() else f'ved={list(hows.values()).count("proved")}')
@@ -120,24 +137,22 @@ def said_of_several(hows, text):
 def checked(crate, texts, flags, kept):
     """What the check of a crate with changed files answers: the plan knows an edit by what it changes."""
     names = re.findall(r'// (\w+), changed', ''.join(texts.values()))
-    log(f'check of {" ".join(names)}')
+    log(f'check of {" ".join(names)} in {crate.name}')
     hows = {name: plan().get(f'edit {name}', 'goal') for name in names}
     if len(hows) > 1:
         return subprocess.CompletedProcess([], 1, '\n'.join(said_of_several(hows, ''.join(texts.values()))))
-    how = ''.join(hows.values()) if texts else 'proved'
+    if not texts:
+        status = int(plan().get(f'proves {crate.name}') == 'refused')
+        return subprocess.CompletedProcess([], status, f'logic={"not-" * status}proved')
+    how = ''.join(hows.values())
     only = '--only' in flags
+    refused = SAYS.get(how, SAYS['goal']) + ('\nonly=1 proved=0' if only else '\nlogic=not-proved')
     said = {
-        'goal': (1, 'src/lib.rt:1:1: error: a goal stays open\n' + ('only=1 proved=0' if only else 'logic=not-proved')),
-        'name': (1, 'proofs/one/Answers.antt:2:1: error: module `one.Goals` has no `gone`\n'
-                    + ('only=1 proved=0' if only else 'logic=not-proved')),
-        'field': (1, 'proofs/one/Answers.antt:2:1: error: record `one.Lts.After` (nearest: .other)\n'
-                     + ('only=1 proved=0' if only else 'logic=not-proved')),
         'limit': (3, 'src/lib.rt:1:1: error: the search ends at its limit of steps\nlogic=unknown'),
         'killed': (-signal.SIGKILL, 'only=1 pro' if only else 'logic=not-pro'),
-        'unread': (1, 'src/lib.rt:1:1: error: this cannot be read\n' + ('only=1 proved=0' if only else 'logic=not-proved')),
         'proved': (0, 'only=1 proved=1' if only else 'logic=proved'),
     }
-    return subprocess.CompletedProcess([], *said.get(how, said['goal']))
+    return subprocess.CompletedProcess([], *said.get(how, (1, refused)))
 
 
 class Crate:
@@ -148,10 +163,15 @@ class Crate:
         self.rlib = str(folder / 'out/rlib')
 
     def below(self):
-        return []
+        rows = Path(self.folder, '../../crates.txt').read_text()
+        deps = re.search(rf'^{self.name}\b.*:(.*)$', rows, re.M)
+        return [Crate(Path(self.folder).parent / name) for name in (deps[1].split() if deps else [])]
 
     def is_built(self):
-        return True
+        return plan().get(f'proves {self.name}') != 'refused'
+
+    def build_rlib(self, flags, anew):
+        return int(not self.is_built())
 
     def stamp(self):
         return hashlib.sha256(b''.join(it.read_bytes() for it in sorted(Path(self.folder, 'src').iterdir()))).hexdigest()

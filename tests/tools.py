@@ -6,7 +6,7 @@ usage: tests/tools.py
 The toolchain is tests/toolchain.py under the name `rt`, in a folder at the head of PATH, and the repository a small one: the
 scripts of this, four crates without a text, and scripts of tests/ that do nothing. Whatever fails, is killed or ends in
 half a line, the exit status is another than 0, the crate is named, there is no vipr.sha256, and nothing is checked with or
-installed from what isn't proved. tools/wrong.py counts an edit as refused only if a goal refused it. Each script of tests/
+installed from what isn't proved. Each script of tests/
 is run by tests/all.py, or is named there as one that isn't.
 
 Prints each fault, and last `tools: N checks, F failed`; the exit status is 1 if one failed.
@@ -27,7 +27,6 @@ CHECKS = Checks('tools')
 check = CHECKS.check
 CRATES = {'low': '', 'vipr_c staticlib': 'low', 'vipr_command': 'low', 'vipr': 'vipr_command low'}
 LEFT_OUT = shutil.ignore_patterns('crates', '.git', 'dist', '__pycache__')
-EDITS = 100
 
 
 class Place:
@@ -181,86 +180,6 @@ def scripts():
     check(not missing, f'tests/all.py runs scripts that are not there: {missing}')
 
 
-def wrong(place):
-    """tools/wrong.py: only a goal refuses an edit."""
-    names = [f'edit{number:02}' for number in range(EDITS)]
-    low = place.tree / 'crates/low'
-    (low / 'src/lib.rt').write_text(''.join(f'// {name}\n' for name in names))
-    for name in names:
-        (low / 'wrong' / f'{name}.edit').write_text(f'what: a line\nfile: src/lib.rt\nold: // {name}\nnew: // {name}, changed\n')
-    shutil.copytree(TOP / 'tools', place.tree / 'tools', dirs_exist_ok=True)
-
-    def tried(*words, **hows):
-        (low / 'src/lib.rt').write_text(''.join(f'// {name}\n' for name in names))
-        place.plan(*(f'edit {name} {how}' for name, how in hows.items()))
-        return place.python('tools/wrong.py', *(words or ['low']))
-    status, out = tried()
-    check((status, last(out)) == (0, f'{EDITS} refused, 0 not, 0 not judged'), f'all are refused: {status}, {last(out)}')
-    for how, said in (('proved', '99 refused, 1 not, 0 not judged'), ('unread', '99 refused, 1 not, 0 not judged')):
-        status, out = tried(edit00=how)
-        check((status, last(out)) == (1, said) and 'not refused: low/edit00' in out, f'an edit is {how}: {status}, {last(out)}')
-    for how in ('name', 'field', 'limit', 'killed'):
-        status, out = tried(edit00=how, edit01=how)
-        check((status, last(out)) == (0, '98 refused, 0 not, 2 not judged') and 'not judged: low/edit00' in out,
-              f'two edits by {how}: {status}, {last(out)}')
-        status, out = tried(edit00=how, edit01=how, edit02=how)
-        check((status, last(out)) == (1, '97 refused, 0 not, 3 not judged'), f'three edits by {how}: {status}, {last(out)}')
-    status, out = tried('no_crate')
-    check(status != 0, f'no edit at all: {status}, {out}')
-    whole_runs(place, low)
-    together(place, low)
-
-
-def together(place, low):
-    """One check of several edits judges each by its own function. Those that it doesn't refuse are tried once more, together if
-    that can refuse one, and then alone. One that each sample tries has to be refused."""
-    names = ['four', 'one', 'three', 'two']
-    bodies = [f'fn {name}() {{\n    // {name}\n}}\n' for name in names]
-    (low / 'src/part.rt').write_text('\n'.join([*bodies, 'fn five()\n    ensures { unit } // five\n{\n}\n']))
-    for name in [*names, 'five']:
-        (low / 'wrong' / f'{name}.edit').write_text(f'file: src/part.rt\nold: // {name}\nnew: // {name}, changed\n')
-    everything = ' '.join(names)
-    for hows, said, checks in (
-            ({}, '4 refused, 0 not, 0 not judged', []),
-            ({'five': 'goal'}, '5 refused, 0 not, 0 not judged', ['five']),
-            ({'two': 'one'}, '4 refused, 0 not, 0 not judged', ['two']),
-            ({'two': 'one', 'three': 'two'}, '4 refused, 0 not, 0 not judged', ['three two', 'three']),
-            ({'two': 'elsewhere'}, '4 refused, 0 not, 0 not judged', ['two']),
-            ({'two': 'name'}, '3 refused, 0 not, 1 not judged', ['two'] * 4),
-            ({'two': 'proved'}, '3 refused, 1 not, 0 not judged', ['two'] * 4),
-            ({'two': 'killed'}, '3 refused, 0 not, 1 not judged', ['four', 'one', 'three'] + ['two'] * 4),
-            ({'two': 'unread'}, '3 refused, 1 not, 0 not judged', ['four', 'one', 'three'] + ['two'] * 4)):
-        place.plan(*(f'edit {name} {how}' for name, how in hows.items()))
-        status, out = place.python('tools/wrong.py', *(f'low/{name}' for name in {**dict.fromkeys(names), **hows}))
-        done = [row.removeprefix('check of ').split(' in ')[0] for row in place.log.read_text().split('\n') if row.startswith('check of')]
-        check((status, last(out), done) == (int(' 1 not,' in said), said, [everything, *checks]), f'together, {hows}: {status}, {last(out)}, {done}')
-    for always, wanted in ('one', 0), ('two', 1):
-        place.plan('edit two name')
-        status, out = place.python('-c', 'import sys; sys.path.insert(0, "tools"); import wrong; '
-                                   f'wrong.ALWAYS = {{"low/{always}"}}; sys.exit(wrong.main(["--sample", "1"]))')
-        check(status == wanted, f'{always} of each sample, and two is not judged: {status}, {last(out)}')
-
-
-def whole_runs(place, low):
-    """A run over all edits leaves out those that were refused over the same text, and writes what it came to into the page."""
-    def tried(change, *plan):
-        change.write_text(change.read_text() + '\n')
-        place.plan(*plan)
-        status, out = place.python('tools/wrong.py')
-        known = re.search(r'^low: (\d+) of \d+ were refused before$', out, re.M)
-        return status, known and int(known[1]), (place.tree / 'docs/PROOF.md').read_text()
-    source, edit, read_by_none = low / 'src/lib.rt', low / 'wrong/edit00.edit', place.room / 'none'
-    read_by_none.write_text('')
-    for change, plan, known, said in (
-            (source, ['edit edit00 name'], None, f'{EDITS - 1} of {EDITS} were refused, not judged: low/edit00'),
-            (read_by_none, ['edit edit00 proved', 'edit edit01 proved'], EDITS - 1, f'{EDITS - 1} of {EDITS} were refused, and not: low/edit00'),
-            (read_by_none, [], EDITS - 1, f'all {EDITS} were refused, {EDITS - 1} of them by earlier runs over the same sources'),
-            (read_by_none, [], EDITS, f'all {EDITS} were refused, {EDITS} of them by'), (edit, [], EDITS - 1, f'all {EDITS} were refused, {EDITS - 1} of them by'),
-            (source, [], None, f'all {EDITS} were refused.')):
-        status, before, page = tried(change, *plan)
-        check((status, before) == (int('and not' in said), known) and said in page, f'a whole run behind {change.name}, {plan}: {status}, {before} known, not {said}')
-
-
 def libraries(place):
     """tools/kit.py takes no library over that is older than a source."""
     made = place.tree / 'crates/low/out/rlib/low.rlib'
@@ -280,7 +199,6 @@ def main():
         build(place)
         make(place)
         changes(place)
-        wrong(place)
         libraries(place)
         tests(place)
     return CHECKS.end()
