@@ -37,8 +37,15 @@ pub more_handed : (before now after : Option Output) (text : List ℕ) (accepted
     → IfSome before (TookFirst (accepted + n) text after)
 more_handed None now after text accepted n known wrote = tt
 more_handed (Some o) now after text accepted n known wrote =
-    let w = subst (λ s. IfSome s (λ p. Writes p after (Ok n) (left_from accepted text))) known.1 wrote in
-    (both accepted n o.room known.0 w.0, w.1 ∙ output _ _ _ _ (ap (λ bytes. (o.accepted ++ take accepted text) ++ take n bytes) (left_is accepted text) ∙ append_assoc o.accepted (take accepted text) (take n (drop accepted text)) ∙ ap (λ bytes. o.accepted ++ bytes) (sym (take-add accepted n text))) (room_after accepted n o.room))
+    let w = subst (λ s. IfSome s (λ p. Writes p after (Ok n) (left_from accepted text))) known.1 wrote in (
+      both accepted n o.room known.0 w.0,
+      w.1
+          ∙ output _ _ _ _ (ap (λ bytes. (o.accepted ++ take accepted text) ++ take n bytes)
+          (left_is accepted text) ∙ append_assoc o.accepted (take accepted text)
+          (take n (drop accepted text))
+          ∙ ap (λ bytes. o.accepted ++ bytes) (sym (take-add accepted n text)))
+          (room_after accepted n o.room),
+    )
 
 -- ---- the writes that failed or took nothing
 pub none_failed : (before now after : Option ℕ) (k : ℕ) → 0 < k → IfSome before (λ n. now ≡ Some n)

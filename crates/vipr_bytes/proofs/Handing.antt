@@ -22,11 +22,15 @@ room_after a b c room e = grind arith
 
 all_behind : (front bytes : List ℕ) (o : Output)
     → with_all bytes (with_all front o) ≡ with_all (front ++ bytes) o
-all_behind front bytes o = output _ _ _ _ (append_assoc o.accepted front bytes) (room_after (length front) (length bytes) (length (front ++ bytes)) o.room (sym (length-append front bytes)))
+all_behind front bytes o = output _ _ _ _ (append_assoc o.accepted front bytes)
+    (room_after (length front) (length bytes) (length (front ++ bytes)) o.room
+    (sym (length-append front bytes)))
 
 first_behind : (front bytes : List ℕ) (k : ℕ) (o : Output)
     → with_first k bytes (with_all front o) ≡ with_first (length front + k) (front ++ bytes) o
-first_behind front bytes k o = output _ _ _ _ (append_assoc o.accepted front (take k bytes) ∙ ap (λ t. o.accepted ++ t) (sym (take-append-add front bytes k))) (room_after (length front) k (length front + k) o.room refl)
+first_behind front bytes k o = output _ _ _ _ (append_assoc o.accepted front (take k bytes)
+    ∙ ap (λ t. o.accepted ++ t) (sym (take-append-add front bytes k)))
+    (room_after (length front) k (length front + k) o.room refl)
 
 -- the answer with so many bytes before
 abbrev pub behind : ℕ → Result (Unit {0}) WriteFailed → Result (Unit {0}) WriteFailed
@@ -65,13 +69,21 @@ end_cut start now text more n w = grind (arith, length-append, take-append-le)
 
 pub stops_more : (start now : Start) (accepted : ℕ) (text more : List ℕ)
     → Stops start now accepted text → Stops start now accepted (text ++ more)
-stops_more start now accepted text more s = record { n = s.n; count = s.count; writes = end_cut start now text more s.n s.writes }
+stops_more start now accepted text more s =
+    record { n = s.n; count = s.count; writes = end_cut start now text more s.n s.writes }
 
 -- ---- what is pending
 pub carries_more : (failed : Bool) (start now : Start) (accepted : ℕ) (pending text more : List ℕ)
     → Carries_by failed start now accepted pending text
     → Carries_by failed start now accepted (pending ++ more) (text ++ more)
-carries_more false start now accepted pending text more c = record { front = c.front; parts = sym (append_assoc c.front pending more) ∙ ap (λ t. t ++ more) c.parts; count = c.count; writes = c.writes }
+carries_more false start now accepted pending text more c =
+    record {
+      front = c.front;
+      parts = sym (append_assoc c.front pending more)
+          ∙ ap (λ t. t ++ more) c.parts;
+      count = c.count;
+      writes = c.writes;
+    }
 carries_more true start now accepted pending text more c = stops_more start now accepted text more c
 
 counts : (a b c accepted : ℕ) → a + b ≡ c → accepted ≡ counted a
@@ -84,14 +96,16 @@ pub flows_on : (start now new : Start) (accepted : ℕ) (pending text : List ℕ
 flows_on start now new accepted pending text c w = record {
   front = c.front ++ pending;
   parts = ap (λ t. t ++ []) c.parts;
-  count = counts (length c.front) (length pending) (length (c.front ++ pending)) accepted (sym (length-append c.front pending)) c.count;
+  count = counts (length c.front) (length pending) (length (c.front ++ pending)) accepted
+      (sym (length-append c.front pending)) c.count;
   writes = end_more start now new c.front pending (Ok tt) c.writes w;
 }
 
 pub flow_stops : (start now new : Start) (accepted : ℕ) (pending text : List ℕ) (e : WriteFailed)
     → Flows start now accepted pending text → IsEnd now new pending (Err e)
     → Stops start new (counted (accepted + e.accepted)) (text ++ [])
-flow_stops start now new accepted pending text e c w = grind (arith, stops_more start new, end_more start now new c.front pending (Err e) c.writes w)
+flow_stops start now new accepted pending text e c w =
+    grind (arith, stops_more start new, end_more start now new c.front pending (Err e) c.writes w)
 
 pub hands_all : {S : Type 0} (f : S → Option Output) (g : S → Option ℕ) (s t : S) (before total : ℕ)
     (bytes : List ℕ) → total ≡ counted (before + length bytes)
@@ -107,7 +121,9 @@ pub hands_front : {S : Type 0} (f : S → Option Output) (g : S → Option ℕ) 
     (g s) (λ n. EndsAtFailure n (g t) (let r : Result (Unit {0}) WriteFailed = Err failed in r))
     → Hands f g s t before bytes (total, true)
 hands_front f g s t before total bytes failed e wrote part ended = record {
-  law = λ start text c. subst (λ n. Stops start (start_of f g t) n (text ++ [])) (sym e) (flow_stops start (start_of f g s) (start_of f g t) before bytes text failed c (record { output = wrote; part = part; failures = ended }));
+  law = λ start text c. subst (λ n. Stops start (start_of f g t) n (text ++ [])) (sym e)
+      (flow_stops start (start_of f g s) (start_of f g t) before bytes text failed c
+      (record { output = wrote; part = part; failures = ended }));
 }
 
 -- ---- what is pending is handed over, or is forgotten
@@ -129,15 +145,24 @@ pub sends_long : {S : Type 0} {f : S → Option Output} {g : S → Option ℕ} {
 sends_long {S} {f} {g} {s} {t} p q bytes flows none hands empty = record {
   law = λ start text c.
       let now = subst (λ b. Carries_by b start (start_of f g s) p.accepted p.bytes.items text) flows c in
-      let more = carries_more false start (start_of f g s) p.accepted [] text bytes (subst (λ b. Flows start (start_of f g s) p.accepted b text) none now) in
+      let more = carries_more false start (start_of f g s) p.accepted [] text bytes
+      (subst (λ b. Flows start (start_of f g s) p.accepted b text) none now) in
       let after = hands.law start (text ++ bytes) more in
-      subst (λ b. Carries_by q.failed start (start_of f g t) q.accepted b (text ++ bytes)) (sym empty) (subst (λ x. Carries_by q.failed start (start_of f g t) q.accepted [] x) (append-nil (text ++ bytes)) after);
+      subst (λ b. Carries_by q.failed start (start_of f g t) q.accepted b (text ++ bytes))
+      (sym empty) (subst (λ x. Carries_by q.failed start (start_of f g t) q.accepted [] x)
+      (append-nil (text ++ bytes)) after);
 }
 
 -- ---- a sink with the buffer before it
 module _ {S : Type 0} {f : S → Option Output} {g : S → Option ℕ} where
   nothing : (s : S) (b : SinkBuffer) → Sends f g s s b b []
-  nothing s b = record { law = λ start text c. subst (λ t. Carries_by b.failed start (start_of f g s) b.accepted b.bytes.items t) (sym (append-nil text)) c }
+  nothing s b =
+      record {
+        law =
+            λ start text c.
+            subst (λ t. Carries_by b.failed start (start_of f g s) b.accepted b.bytes.items t)
+            (sym (append-nil text)) c;
+      }
 
   -- what was put there
   put_to_sink : (o p : ToSink S) (bytes : List ℕ) → Puts (SendsTo f g) o p bytes

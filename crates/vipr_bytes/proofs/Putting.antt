@@ -11,7 +11,8 @@ module _ {S : Type 0} {carries : S → List ℕ → S → Type 0} where
   pub puts_then : {s t u : S} {a b : List ℕ} → Puts carries s t a → Puts carries t u b
       → Puts carries s u (a ++ b)
   puts_then {s} {t} {u} {a} {b} first second = record {
-    law = λ start text c. subst (λ x. carries start x u) (append_assoc text a b) (second.law start (text ++ a) (first.law start text c));
+    law = λ start text c. subst (λ x. carries start x u) (append_assoc text a b)
+        (second.law start (text ++ a) (first.law start text c));
   }
 
   -- the same bytes
@@ -23,7 +24,10 @@ module _ {S : Type 0} {carries : S → List ℕ → S → Type 0} where
       → i < length xs → Puts carries s t (flat_map part (take i xs))
       → Puts carries t u (part (get_or xs i d)) → Puts carries s u (flat_map part (take (i + 1) xs))
   puts_next_or part xs i d l first next =
-      puts_same (sym (ap (flat_map part) (take_more xs i d l) ∙ flat_map-append part (take i xs) (get_or xs i d ∷ []) ∙ ap (λ x. flat_map part (take i xs) ++ x) (append-nil (part (get_or xs i d))))) (puts_then first next)
+      puts_same (sym (ap (flat_map part) (take_more xs i d l)
+      ∙ flat_map-append part (take i xs) (get_or xs i d ∷ [])
+      ∙ ap (λ x. flat_map part (take i xs) ++ x) (append-nil (part (get_or xs i d)))))
+      (puts_then first next)
 
   pub puts_next : {X : Type 0} {s t u : S} (part : X → List ℕ) (xs : List X) (i : ℕ) (x : X)
       → i < length xs → x ≡ get_or xs i x → Puts carries s t (flat_map part (take i xs))

@@ -24,8 +24,14 @@ BeginsFrom low (k ∷ ks) = low ≤ k
 rises : (low high : ℕ) (ks : List ℕ) → BeginsFrom low ks → IsStrictlyIncreasing ks
     → All (λ j. j < high) ks → Rises low high ks
 rises low high [] first up below = tt
-rises low high (k ∷ ks) first up below =
-    (first, All-head (λ j. j < high) k ks below, rises (k + 1) high ks (second ks up) (IsStrictlyIncreasing-from_sorted ks (sorted_tail nat_cmp k ks (sorted_from_strictly_increasing (k ∷ ks) up))) (All-tail (λ j. j < high) k ks below))
+rises low high (k ∷ ks) first up below = (
+  first,
+  All-head (λ j. j < high) k ks below,
+  rises (k + 1) high ks (second ks up)
+      (IsStrictlyIncreasing-from_sorted ks
+      (sorted_tail nat_cmp k ks (sorted_from_strictly_increasing (k ∷ ks) up)))
+      (All-tail (λ j. j < high) k ks below),
+)
   where
     second : (ks : List ℕ) → IsStrictlyIncreasing (k ∷ ks) → BeginsFrom (k + 1) ks
     second [] up = tt
@@ -34,7 +40,9 @@ rises low high (k ∷ ks) first up below =
 apart : (low high j : ℕ) (ks : List ℕ) → j < low → Rises low high ks
     → list_any (nat_eq j) ks ≡ false
 apart low high j [] h r = refl
-apart low high j (k ∷ ks) h r = let first : nat_eq j k ≡ false = grind (arith, nat_tests) in rw first (apart (k + 1) high j ks (omega arith) r.2)
+apart low high j (k ∷ ks) h r =
+    let first : nat_eq j k ≡ false = grind (arith, nat_tests) in
+    rw first (apart (k + 1) high j ks (omega arith) r.2)
 
 -- tests that tell the same from low on keep the same
 kept_alike : (p q : ℕ → Bool) (low n : ℕ) → ((j : ℕ) → low ≤ j → p j ≡ q j)
@@ -58,7 +66,9 @@ rising_kept low (suc n) high (k ∷ ks) e r = elim (cases_lt low k) [
   | inr not_below ↦
       let same : low ≡ k = omega arith in
       let first : nat_eq low k ≡ true = grind (arith, nat_tests) in
-      let others : (j : ℕ) → low + 1 ≤ j → (nat_eq j k || list_any (nat_eq j) ks) ≡ list_any (nat_eq j) ks = λ j l. let other : nat_eq j k ≡ false = grind (arith, nat_tests) in rw other refl in
+      let others : (j : ℕ) → low + 1 ≤ j → (nat_eq j k || list_any (nat_eq j) ks) ≡ list_any
+      (nat_eq j) ks = λ j l. let other : nat_eq j k ≡ false = grind (arith, nat_tests) in
+      rw other refl in
       let after : Rises (low + 1) high ks = rw same r.2 in
       ap (λ b. cond (b || list_any (nat_eq low) ks) (low ∷ rest) rest) first
       ∙ ap (λ js. low ∷ js) (kept_alike _ _ (low + 1) n others ∙ rising_kept (low + 1) n high ks (omega arith) after)
@@ -77,4 +87,6 @@ pub members_are : (ks : List ℕ) (ints : Ints) (n : ℕ) → from_list ks ≡ i
 members_are ks ints n e up below =
     ap (λ (s : Ints). filter (contains s) (range_with_len 0 n)) (sym e)
     ∙ kept_alike (contains (from_list {R = nat_cmp} ks)) (λ j. list_any (nat_eq j) ks) 0 n (λ j l. member ks j)
-    ∙ rising_kept 0 n n ks (omega arith) (rises 0 n ks (begins ks) up ((members_below ks n).1 (λ j h. below j (ap (λ (s : Ints). contains s j) (sym e) ∙ h))))
+    ∙ rising_kept 0 n n ks (omega arith)
+    (rises 0 n ks (begins ks) up
+    ((members_below ks n).1 (λ j h. below j (ap (λ (s : Ints). contains s j) (sym e) ∙ h))))

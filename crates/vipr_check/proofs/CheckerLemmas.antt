@@ -29,7 +29,12 @@ runs_of halt x h = grind arith
 
 pub reached_still : (k : Progress) (b : Bool) (old new : Option Halt) → old ≡ None
     → CanShowHalt k.problem new → IsReached k b old → IsReached k b new
-reached_still k b old new e shows is = record { solutions = λ n p. is.solutions (λ m. absurd (cc (e, m))) p; steps = λ n p. is.steps (λ m. absurd (cc (e, m))) p; shows = shows }
+reached_still k b old new e shows is =
+    record {
+      solutions = λ n p. is.solutions (λ m. absurd (cc (e, m))) p;
+      steps = λ n p. is.steps (λ m. absurd (cc (e, m))) p;
+      shows = shows;
+    }
 
 pub proof_of : (c : Certificate) (k : Progress) → HasSteps c k → PassesTest k.profile c meets_dual
     → IsProof k.profile c
@@ -47,7 +52,8 @@ pub listed_frame : (v w : State) (k : Progress) (n : ℕ) (b : Option ℚ) → v
     → k ≡ record v.progress { solutions = n; best = b }
     → record v { progress = k }
     ≡ record w { progress = record w.progress { solutions = n; best = b } }
-listed_frame v w k n b e f = ap (λ x. record v { progress = x }) f ∙ ap (λ (u : State). record u { progress = record u.progress { solutions = n; best = b } }) e
+listed_frame v w k n b e f = ap (λ x. record v { progress = x }) f
+    ∙ ap (λ (u : State). record u { progress = record u.progress { solutions = n; best = b } }) e
 
 pub halts_same : (v w : State) (k : Progress) (o : Option Halt) (h : Halt) (a : Stop) → v ≡ w
     → k ≡ v.progress → o ≡ Some h → a ≡ halt_answer h
@@ -70,15 +76,18 @@ pub stops_step : (P : Profile) (c : Certificate) (d : Derivation) (k : ℕ) (e :
     → count c ≡ k → IsStepHalt k d.name e h
     → (e ≡ rule.Memory) ⊎ StopsIn P c d (step_tests d.reason) e → StopsStep P c d h
 stops_step P c d k e Memory same is w = tt
-stops_step P c d k e (Refused r f) same is (inl m) = absurd (let n : rule_shown e ≡ None = ap rule_shown m in cc (n, is.3))
+stops_step P c d k e (Refused r f) same is (inl m) =
+    absurd (let n : rule_shown e ≡ None = ap rule_shown m in cc (n, is.3))
 stops_step P c d k e (Refused r f) same is (inr x) = (
   is.0,
   is.1,
   e,
   is.3,
   x,
-  ap (λ p. refuses (record { cause = r.cause; place = place_of p })) is.2 ∙ ap (λ i. refuses (record { cause = r.cause; place = at_derivation i })) (sym same)
-      ∙ ap (λ n. refuses (record { cause = n; place = at_derivation (count c) })) (cause_is c d e x.0 r.cause (step_detail_of is.0) x.2 is.3),
+  ap (λ p. refuses (record { cause = r.cause; place = place_of p })) is.2
+      ∙ ap (λ i. refuses (record { cause = r.cause; place = at_derivation i })) (sym same)
+      ∙ ap (λ n. refuses (record { cause = n; place = at_derivation (count c) }))
+      (cause_is c d e x.0 r.cause (step_detail_of is.0) x.2 is.3),
 )
 
 -- what is to be shown is there
@@ -90,14 +99,18 @@ pub solution_can_show : (p : Problem) (s : Row) (n : ℕ) (name : List ℕ) (e :
     (h : Halt) → FailsBy p s (solution_tests p) e → IsSolutionHalt n name e h
     → CanShowHalt p (Some h)
 solution_can_show p s n name e Memory fails is = tt
-solution_can_show p s n name e (Refused r f) fails is = subst (CanShow p) (sym is.1) (failing_within p s (test_of e) fails.0)
+solution_can_show p s n name e (Refused r f) fails is =
+    subst (CanShow p) (sym is.1) (failing_within p s (test_of e) fails.0)
 
 -- after a derivation that failed a test all is as it was
 pub reached_after : (k new : Progress) (b : Bool) (old o : Option Halt) (h : Halt) (n : ℕ)
     (name : List ℕ) (e : RuleError) → old ≡ None → IsReached k b old → IsStepHalt n name e h
     → (new ≡ k) ⊎ ((e ≡ rule.Memory) × (new ≡ record k { rows = advance_table k.rows }))
     → o ≡ Some h → IsReached new b o
-reached_after k new b old o h n name e none is answers (inl f) g = subst (λ x. IsReached x b o) (sym f) (reached_still k b old o none (subst (CanShowHalt k.problem) (sym g) (step_can_show k.problem n name e h answers)) is)
+reached_after k new b old o h n name e none is answers (inl f) g =
+    subst (λ x. IsReached x b o) (sym f)
+    (reached_still k b old o none
+    (subst (CanShowHalt k.problem) (sym g) (step_can_show k.problem n name e h answers)) is)
 reached_after k new b old o h n name e none is answers (inr f) g = grind arith
 
 pub unstopped : (v w : State) (x : Unit {0}) → v ≡ w → MatchOption w.halt

@@ -15,8 +15,17 @@ pub derivation_explained : (v : Verdict) (x : Detail) (r : Refusal) (i : ℕ) (n
     ++ (decimal i ++ (codes " " ++ (name_text name ++ (codes "\n" ++ detail_text x)))))))
     ≡ explained_text v x
 derivation_explained v x r i name cause is place named called =
-    ap (λ w. verdict_text w ++ (codes "\ncause " ++ (cause ++ (codes "\n" ++ behind_item (Der i) (Some name) (detail_text x))))) is
-    ∙ ap (λ t. verdict_text (Refused r) ++ (codes "\ncause " ++ (t ++ (codes "\n" ++ behind_item (Der i) (Some name) (detail_text x))))) called
-    ∙ ap (λ p. verdict_text (Refused r) ++ (codes "\ncause " ++ (cause_name r.cause ++ (codes "\n" ++ behind_item p (Some name) (detail_text x))))) (sym place)
-    ∙ ap (λ n. verdict_text (Refused r) ++ (codes "\ncause " ++ (cause_name r.cause ++ (codes "\n" ++ behind_item r.place n (detail_text x))))) named
+    ap (λ w. verdict_text w
+    ++ (codes "\ncause "
+    ++ (cause ++ (codes "\n" ++ behind_item (Der i) (Some name) (detail_text x))))) is
+    ∙ ap (λ t. verdict_text (Refused r)
+    ++ (codes "\ncause "
+    ++ (t ++ (codes "\n" ++ behind_item (Der i) (Some name) (detail_text x))))) called
+    ∙ ap (λ p. verdict_text (Refused r)
+    ++ (codes "\ncause "
+    ++ (cause_name r.cause ++ (codes "\n" ++ behind_item p (Some name) (detail_text x)))))
+    (sym place)
+    ∙ ap (λ n. verdict_text (Refused r)
+    ++ (codes "\ncause "
+    ++ (cause_name r.cause ++ (codes "\n" ++ behind_item r.place n (detail_text x))))) named
     ∙ ap (λ w. explained_text w x) (sym is)

@@ -40,7 +40,11 @@ use Rattle.vipr_check.proofs.ShownLemmas.{missed_bound, stop_shown, halted_shown
 -- ---- the reader's memory
 
 pub knows_still : (p : Problem) (old new : Items) → Knows old p → Remembers old new → Knows new p
-knows_still p old new k r = record { variables = r.variables ∙ k.variables; constraints = r.constraints ∙ k.constraints; objective = r.objective ∙ k.objective }
+knows_still p old new k r = record {
+  variables = r.variables ∙ k.variables;
+  constraints = r.constraints ∙ k.constraints;
+  objective = r.objective ∙ k.objective;
+}
 
 -- ---- stops
 
@@ -48,7 +52,10 @@ knows_still p old new k r = record { variables = r.variables ∙ k.variables; co
 stopped_says : (P : Answer → Detail → Type 0) (k l : State) (h : Halt) (e : Stop) → HaltsBy k h l e
     → SaysWhy P (halt_shown k.progress.problem (Some h)) (stop_reason (halt_answer h))
     → SaysWhy P (state_shown l) (stop_reason e)
-stopped_says P k l h e halts s = subst (λ x. SaysWhy P x (stop_reason e)) (sym (halted_shown k l h e halts)) (subst (λ t. SaysWhy P (halt_shown k.progress.problem (Some h)) (stop_reason t)) (sym halts.answer) s)
+stopped_says P k l h e halts s = subst (λ x. SaysWhy P x (stop_reason e))
+    (sym (halted_shown k l h e halts))
+    (subst (λ t. SaysWhy P (halt_shown k.progress.problem (Some h)) (stop_reason t))
+    (sym halts.answer) s)
 
 -- ---- the derivations
 
@@ -63,7 +70,9 @@ pub reached_later : (P : Profile) (c : Certificate) (k l : State) (old mid new :
 reached_later P c k l old mid new h i = record {
   now = i.now;
   is_at = i.is_at;
-  leads = λ known. let a = h.leads known in let b = i.leads a.known in record { known = b.known; answers = λ x z y. a.answers x z (b.answers x z y) };
+  leads = λ known. let a = h.leads known in
+      let b = i.leads a.known in
+      record { known = b.known; answers = λ x z y. a.answers x z (b.answers x z y) };
 }
 
 -- what ends the steps says of what was left before what it says of what is left now
@@ -85,14 +94,17 @@ step_goes_on P c k l old mid new h (Ok None) is goes = reached_later P c k l old
 step_goes_on P c k l old mid new h (Ok (Some report)) is goes = absurd (cc is)
 step_goes_on P c k l old mid new h (Err e) is goes = absurd (cc is)
 
-module _ (P : Profile) (c : Certificate) (k l : State) (old new : Items) (d : Derivation) (is : IsAt P c k old) (fewer : old.left ≡ suc new.left) where
+module _ (P : Profile) (c : Certificate) (k l : State) (old new : Items) (d : Derivation)
+    (is : IsAt P c k old) (fewer : old.left ≡ suc new.left) where
   pub step_taken : Remembers old new → new.failed ≡ false → TakesStep c d k l (Ok tt) → IsAt P (with_next c d) l new
   step_taken memory unspent h = grind (arith, count_next)
 
   pub step_passes : TakesStep c d k l (Ok tt) → PassesTestsIn P c d (step_tests d.reason)
   step_passes h = subst (λ Q. PassesTestsIn Q c d (step_tests d.reason)) is.profile h.0
 
-  module _ (read : IsSome old.rest → (derivation_read c.problem (rest_of old.rest) ≡ Ok (d, (rest_of new.rest))) × (IsSome new.rest)) where
+  module _ (read : IsSome old.rest
+      → (derivation_read c.problem (rest_of old.rest) ≡ Ok (d, (rest_of new.rest)))
+      × (IsSome new.rest)) where
     abbrev Left : Answer → Detail → Type 0
     Left a x = Explained P (derivations_from c old.left (rest_of old.rest)) a x
 
@@ -102,29 +114,43 @@ module _ (P : Profile) (c : Certificate) (k l : State) (old new : Items) (d : De
       is_at = step_taken memory unspent h;
       leads = λ known. record {
         known = (read known).1;
-        answers = λ a x y. subst (λ n. Explained P (derivations_from c n (rest_of old.rest)) a x) (sym fewer) ((derivation_passes P a x c new.left (rest_of old.rest) d (rest_of new.rest) (read known).0 (step_passes h)).1 y);
+        answers = λ a x y. subst (λ n. Explained P (derivations_from c n (rest_of old.rest)) a x)
+            (sym fewer) ((derivation_passes P a x c new.left (rest_of old.rest) d (rest_of new.rest)
+            (read known).0 (step_passes h)).1 y);
       };
     }
 
-    step_stopped : ReasonShape d.reason → (p : Problem) (h : Halt) → StopsStep P c d h → IsSome old.rest → SaysWhy Left (halt_shown p (Some h)) (stop_reason (halt_answer h))
+    step_stopped : ReasonShape d.reason → (p : Problem) (h : Halt) → StopsStep P c d h
+        → IsSome old.rest → SaysWhy Left (halt_shown p (Some h)) (stop_reason (halt_answer h))
     step_stopped few p Memory w known = tt
     step_stopped few p (Refused r f) (what, named, e, says, fails, refusal) known =
         let a = refuses (refusal_of r) in
         let x = finding_shown p f in
-        let shown : x ≡ step d.name fails.2.0 = ap (finding_shown p) named ∙ ap (step d.name) (stop_shown P c d e r.cause (step_detail_of what) few fails says) in
+        let shown : x ≡ step d.name fails.2.0 = ap (finding_shown p) named
+        ∙ ap (step d.name) (stop_shown P c d e r.cause (step_detail_of what) few fails says) in
         subst (λ n. Explained P (derivations_from c n (rest_of old.rest)) a x) (sym fewer)
-        ((derivation_fails P a x c new.left (rest_of old.rest) d (rest_of new.rest) fails.0 (read known).0 fails.1).1 (refusal, (fails.2.0, fails.2.2, shown)))
+        ((derivation_fails P a x c new.left (rest_of old.rest) d (rest_of new.rest) fails.0
+        (read known).0 fails.1).1 (refusal, (fails.2.0, fails.2.2, shown)))
 
-    pub step_stops : ReasonShape d.reason → (e : Stop) → TakesStep c d k l (Err e) → IsSome old.rest → SaysWhy Left (state_shown l) (stop_reason e)
-    step_stops few e (h, halts, why) known = stopped_says Left k l h e halts (step_stopped few k.progress.problem h (subst (λ Q. StopsStep Q c d h) is.profile why) known)
+    pub step_stops : ReasonShape d.reason → (e : Stop) → TakesStep c d k l (Err e) → IsSome old.rest
+        → SaysWhy Left (state_shown l) (stop_reason e)
+    step_stops few e (h, halts, why) known =
+        stopped_says Left k l h e halts
+        (step_stopped few k.progress.problem h (subst (λ Q. StopsStep Q c d h) is.profile why)
+        known)
 
 pub derivation_missing : (P : Profile) (c : Certificate) (n : ℕ) (r : Rest) (x : Detail)
     (e : TextError) → x ≡ none
     → ((n ≡ 0) × Fails e (end_read r)) ⊎ ((0 < n) × Fails e (derivation_read c.problem r))
     → SaysWhy (Explained P (derivations_from c n r)) x (text_reason e)
-derivation_missing P c n r x e shown (inl h) = subst (λ n. SaysWhy (Explained P (derivations_from c n r)) x (text_reason e)) (sym h.0) (text_says (Explained P (derivations_from c 0 r)) x e (end_read r) shown h.1 (λ f is. (end_fault P (answer_of_test (spelled f)) none c r f is).1 (refl, refl)))
+derivation_missing P c n r x e shown (inl h) =
+    subst (λ n. SaysWhy (Explained P (derivations_from c n r)) x (text_reason e)) (sym h.0)
+    (text_says (Explained P (derivations_from c 0 r)) x e (end_read r) shown h.1
+    (λ f is. (end_fault P (answer_of_test (spelled f)) none c r f is).1 (refl, refl)))
 derivation_missing P c zero r x e shown (inr h) = absurd (let z = h.0 in omega arith)
-derivation_missing P c (suc n) r x e shown (inr h) = text_says (Explained P (derivations_from c (suc n) r)) x e (derivation_read c.problem r) shown h.1 (λ f is. (derivation_fault P (answer_of_test (spelled f)) none c n r f is).1 (refl, refl))
+derivation_missing P c (suc n) r x e shown (inr h) =
+    text_says (Explained P (derivations_from c (suc n) r)) x e (derivation_read c.problem r) shown
+    h.1 (λ f is. (derivation_fault P (answer_of_test (spelled f)) none c n r f is).1 (refl, refl))
 
 -- ---- the end
 
@@ -133,17 +159,25 @@ finish_stopped : (P : Profile) (c : Certificate) (r : Rest) (p : Problem) (h : H
     (halt_shown p (Some h)) (stop_reason (halt_answer h))
 finish_stopped P c r p Memory same end w = absurd w
 finish_stopped P c r p (Refused x f) same end (named, fails, refusal) =
-    let shown : finding_shown p f ≡ no_proof (goal_needed_by c.problem c.problem.claim) = ap (finding_shown p) named ∙ ap (λ q. no_proof (goal_needed_by q q.claim)) (sym same) in
+    let shown : finding_shown p f ≡ no_proof (goal_needed_by c.problem c.problem.claim) =
+    ap (finding_shown p) named ∙ ap (λ q. no_proof (goal_needed_by q q.claim)) (sym same) in
     (end_unproved P (refuses (refusal_of x)) (finding_shown p f) c r end fails).1 (refusal, shown)
 
-module _ (P : Profile) (c : Certificate) (k l : State) (r : Rest) (under : k.progress.profile ≡ P) (end : end_read r ≡ Ok tt) where
-  pub finish_stops : (e : Stop) → c.problem ≡ k.progress.problem → Finishes c k l (Err e) → SaysWhy (Explained P (derivations_from c 0 r)) (state_shown l) (stop_reason e)
-  finish_stops e same (h, halts, why) = stopped_says (Explained P (derivations_from c 0 r)) k l h e halts (finish_stopped P c r k.progress.problem h same end (subst (λ Q. StopsFinish Q c h) under why))
+module _ (P : Profile) (c : Certificate) (k l : State) (r : Rest) (under : k.progress.profile ≡ P)
+    (end : end_read r ≡ Ok tt) where
+  pub finish_stops : (e : Stop) → c.problem ≡ k.progress.problem → Finishes c k l (Err e)
+      → SaysWhy (Explained P (derivations_from c 0 r)) (state_shown l) (stop_reason e)
+  finish_stops e same (h, halts, why) = stopped_says (Explained P (derivations_from c 0 r)) k l h e
+      halts (finish_stopped P c r k.progress.problem h same end
+      (subst (λ Q. StopsFinish Q c h) under why))
 
-  pub finish_verifies : (report : Report) → k.halt ≡ None → Finishes c k l (Ok report) → Explained P (derivations_from c 0 r) (verified (report_of report)) (state_shown l)
+  pub finish_verifies : (report : Report) → k.halt ≡ None → Finishes c k l (Ok report)
+      → Explained P (derivations_from c 0 r) (verified (report_of report)) (state_shown l)
   finish_verifies report runs h =
       let shown : state_shown l ≡ none = ap state_shown h.3 ∙ unshown k runs in
-      (end_verified P (verified (report_of report)) (state_shown l) c r end (subst (λ Q. IsProof Q c) under h.0).dual).1 ((report_of report, subst (λ Q. Reports Q c (report_of report)) under h.1, refl), shown)
+      (end_verified P (verified (report_of report)) (state_shown l) c r end
+      (subst (λ Q. IsProof Q c) under h.0).dual).1
+      ((report_of report, subst (λ Q. Reports Q c (report_of report)) under h.1, refl), shown)
 
 -- ---- the solutions
 
@@ -158,51 +192,66 @@ pub listed_says : (P : Profile) (p : Problem) (ss : List (Named Row)) (k : State
     → (IsSome mid.rest
     → SaysWith (Explained P (solutions_from p h.now mid.left (rest_of mid.rest))) x y)
     → SaysWith (Explained P (solutions_from p ss old.left (rest_of old.rest))) x y
-listed_says P p ss k old mid h known x y s = SaysWith-by (Explained P (solutions_from p h.now mid.left (rest_of mid.rest))) (Explained P (solutions_from p ss old.left (rest_of old.rest))) x y (h.answers known) (s (h.known known))
+listed_says P p ss k old mid h known x y s =
+    SaysWith-by (Explained P (solutions_from p h.now mid.left (rest_of mid.rest)))
+    (Explained P (solutions_from p ss old.left (rest_of old.rest))) x y (h.answers known)
+    (s (h.known known))
 
-module _ (P : Profile) (p : Problem) (ss : List (Named Row)) (k l : State) (old new : Items) (s : Named Row) (is : IsAmong P p ss k old) (fewer : old.left ≡ suc new.left) where
-  pub solution_taken : Remembers old new → new.failed ≡ false → TakesSolution ss s k l (Ok tt) → IsAmong P p (ss ++ s ∷ []) l new
+module _ (P : Profile) (p : Problem) (ss : List (Named Row)) (k l : State) (old new : Items)
+    (s : Named Row) (is : IsAmong P p ss k old) (fewer : old.left ≡ suc new.left) where
+  pub solution_taken : Remembers old new → new.failed ≡ false → TakesSolution ss s k l (Ok tt)
+      → IsAmong P p (ss ++ s ∷ []) l new
   solution_taken memory unspent h = grind (arith, length-append)
 
-  pub solution_passes_all : TakesSolution ss s k l (Ok tt) → FirstFailing (PassesSolution p s.item) (solution_tests p) None
+  pub solution_passes_all : TakesSolution ss s k l (Ok tt)
+      → FirstFailing (PassesSolution p s.item) (solution_tests p) None
   solution_passes_all h = subst (λ q. FirstFailing (PassesSolution q s.item) (solution_tests q) None) is.problem h.0
 
-  module _ (read : IsSome old.rest → (solution_read p (rest_of old.rest) ≡ Ok (s, (rest_of new.rest))) × (IsSome new.rest)) where
+  module _ (read : IsSome old.rest
+      → (solution_read p (rest_of old.rest) ≡ Ok (s, (rest_of new.rest))) × (IsSome new.rest)) where
     abbrev Remaining : Answer → Detail → Type 0
     Remaining a x = Explained P (solutions_from p ss old.left (rest_of old.rest)) a x
 
-    pub solution_listed : Remembers old new → new.failed ≡ false → TakesSolution ss s k l (Ok tt) → HasListed P p ss old l new
+    pub solution_listed : Remembers old new → new.failed ≡ false → TakesSolution ss s k l (Ok tt)
+        → HasListed P p ss old l new
     solution_listed memory unspent h = record {
       now = ss ++ s ∷ [];
       is_among = solution_taken memory unspent h;
       known = λ known. (read known).1;
       answers = λ known a x y. subst (λ n. Explained P (solutions_from p ss n (rest_of old.rest)) a x) (sym fewer)
-          ((solution_passes P a x p ss new.left (rest_of old.rest) s (rest_of new.rest) (read known).0 (solution_passes_all h)).1 y);
+          ((solution_passes P a x p ss new.left (rest_of old.rest) s (rest_of new.rest)
+          (read known).0 (solution_passes_all h)).1 y);
     }
 
-    solution_stopped : (h : Halt) → StopsSolution p ss s h → IsSome old.rest → SaysWhy Remaining (halt_shown p (Some h)) (stop_reason (halt_answer h))
+    solution_stopped : (h : Halt) → StopsSolution p ss s h → IsSome old.rest
+        → SaysWhy Remaining (halt_shown p (Some h)) (stop_reason (halt_answer h))
     solution_stopped Memory w known = tt
     solution_stopped (Refused r f) (e, named, fails, refusal) known =
         let a = refuses (refusal_of r) in
         let x = finding_shown p f in
         let shown : x ≡ solution_detail p s.name s.item (test_of e) = ap (finding_shown p) named ∙ fails.1 s.name in
         subst (λ n. Explained P (solutions_from p ss n (rest_of old.rest)) a x) (sym fewer)
-        ((solution_fails P a x p ss new.left (rest_of old.rest) s (rest_of new.rest) (test_of e) (read known).0 fails.0).1 (refusal, shown))
+        ((solution_fails P a x p ss new.left (rest_of old.rest) s (rest_of new.rest) (test_of e)
+        (read known).0 fails.0).1 (refusal, shown))
 
-    pub solution_stops : (e : Stop) → TakesSolution ss s k l (Err e) → IsSome old.rest → SaysWhy Remaining (state_shown l) (stop_reason e)
+    pub solution_stops : (e : Stop) → TakesSolution ss s k l (Err e) → IsSome old.rest
+        → SaysWhy Remaining (state_shown l) (stop_reason e)
     solution_stops e (h, halts, why) known = grind (arith, solution_stopped)
 
 solution_fault_at : (P : Profile) (p : Problem) (ss : List (Named Row)) (n : ℕ) (r : Rest)
     (x : Detail) (e : TextError) → x ≡ none → 0 < n → Fails e (solution_read p r)
     → SaysWhy (Explained P (solutions_from p ss n r)) x (text_reason e)
 solution_fault_at P p ss zero r x e shown lt h = absurd (omega arith)
-solution_fault_at P p ss (suc n) r x e shown lt h = text_says (Explained P (solutions_from p ss (suc n) r)) x e (solution_read p r) shown h (λ f is. (solution_fault P (answer_of_test (spelled f)) none p ss n r f is).1 (refl, refl))
+solution_fault_at P p ss (suc n) r x e shown lt h =
+    text_says (Explained P (solutions_from p ss (suc n) r)) x e (solution_read p r) shown h
+    (λ f is. (solution_fault P (answer_of_test (spelled f)) none p ss n r f is).1 (refl, refl))
 
 pub solution_missing : (P : Profile) (p : Problem) (ss : List (Named Row)) (n : ℕ) (r : Rest)
     (x : Detail) (e : TextError) → x ≡ none
     → ((n ≡ 0) × Fails {Y = Unit {0}} e (Ok tt)) ⊎ ((0 < n) × Fails e (solution_read p r))
     → SaysWhy (Explained P (solutions_from p ss n r)) x (text_reason e)
-solution_missing P p ss n r x e shown (inl h) = text_says (Explained P (solutions_from p ss n r)) x e (Ok tt) shown h.1 (λ f is. absurd (cc is))
+solution_missing P p ss n r x e shown (inl h) =
+    text_says (Explained P (solutions_from p ss n r)) x e (Ok tt) shown h.1 (λ f is. absurd (cc is))
 solution_missing P p ss n r x e shown (inr h) = solution_fault_at P p ss n r x e shown h.0 h.1
 
 -- ---- their end
@@ -220,7 +269,9 @@ pub ending_unmet : (P : Profile) (p : Problem) (ss : List (Named Row)) (k l : St
     (e : Stop) → k.progress.problem ≡ p → EndsSolutions ss k l (Err e)
     → SaysWhy (Explained P (solutions_from p ss 0 r)) (state_shown l) (stop_reason e)
 ending_unmet P p ss k l r e same (h, halts, why) = stopped_says (Explained P (solutions_from p ss 0 r)) k l h e halts
-    (subst (λ q. SaysWhy (Explained P (solutions_from p ss 0 r)) (halt_shown q (Some h)) (stop_reason (halt_answer h))) (sym same) (ending_stopped P p ss r h (subst (λ q. StopsEnd q ss h) same why)))
+    (subst (λ q. SaysWhy (Explained P (solutions_from p ss 0 r)) (halt_shown q (Some h))
+    (stop_reason (halt_answer h))) (sym same)
+    (ending_stopped P p ss r h (subst (λ q. StopsEnd q ss h) same why)))
 
 pub ending_met : (p : Problem) (ss : List (Named Row)) (k l : State) → k.progress.problem ≡ p
     → EndsSolutions ss k l (Ok tt) → MeetsPrimal p ss p.claim
@@ -229,14 +280,19 @@ ending_met p ss k l same h = subst (λ q. MeetsPrimal q ss q.claim) same h.0
 pub ending_failed : (P : Profile) (p : Problem) (ss : List (Named Row)) (r : Rest) (x : Detail)
     (e : TextError) → x ≡ none → MeetsPrimal p ss p.claim → Fails e (derivations_read p r)
     → SaysWhy (Explained P (solutions_from p ss 0 r)) x (text_reason e)
-ending_failed P p ss r x e shown met h = text_says (Explained P (solutions_from p ss 0 r)) x e (derivations_read p r) shown h (λ f is. (derivations_fault P (answer_of_test (spelled f)) none p ss r f met is).1 (refl, refl))
+ending_failed P p ss r x e shown met h = text_says (Explained P (solutions_from p ss 0 r)) x e
+    (derivations_read p r) shown h
+    (λ f is. (derivations_fault P (answer_of_test (spelled f)) none p ss r f met is).1 (refl, refl))
 
 pub ending_read : (P : Profile) (p : Problem) (ss : List (Named Row)) (m : ℕ) (r s : Rest)
     (y : Detail) (x : Result Report NoProof) → MeetsPrimal p ss p.claim
     → derivations_read p r ≡ Ok (m, s)
     → SaysWith (Explained P (derivations_from (start p ss) m s)) y x
     → SaysWith (Explained P (solutions_from p ss 0 r)) y x
-ending_read P p ss m r s y x met is h = SaysWith-by (Explained P (derivations_from (start p ss) m s)) (Explained P (solutions_from p ss 0 r)) y x (λ a z. (derivations_begin P a z p ss r m s met is).1) h
+ending_read P p ss m r s y x met is h =
+    SaysWith-by (Explained P (derivations_from (start p ss) m s))
+    (Explained P (solutions_from p ss 0 r)) y x
+    (λ a z. (derivations_begin P a z p ss r m s met is).1) h
 
 -- the checker stays as it is, but for the phase
 pub ending_shown : (P : Profile) (p : Problem) (ss : List (Named Row)) (k l : State) (r : Items)
@@ -248,13 +304,25 @@ ending_shown P p ss k l r is h = ap state_shown h.2 ∙ unshown k is.runs
 pub among_start : (P : Profile) (p : Problem) (k : State) (r : Items) → k.progress.profile ≡ P
     → k.progress.problem ≡ p → HasSolutions [] k.progress → k.in_solutions ≡ true → k.halt ≡ None
     → Knows r p → r.failed ≡ false → r.left < 2 ^ 32 → IsAmong P p [] k r
-among_start P p k r runs_by same has phase runs knows unspent room = record { profile = runs_by; problem = same; has = has; phase = phase; runs = runs; knows = knows; unspent = unspent; room = omega arith }
+among_start P p k r runs_by same has phase runs knows unspent room =
+    record {
+      profile = runs_by;
+      problem = same;
+      has = has;
+      phase = phase;
+      runs = runs;
+      knows = knows;
+      unspent = unspent;
+      room = omega arith;
+    }
 
 pub problem_failed : (P : Profile) (r : Rest) (e : TextError) → Fails e (problem_read r)
     → SaysWhy (IsExplained P r) none (text_reason e)
-problem_failed P r e h = text_says (IsExplained P r) none e (problem_read r) refl h (λ f is. (problem_fault P (answer_of_test (spelled f)) none r f is).1 (refl, refl))
+problem_failed P r e h = text_says (IsExplained P r) none e (problem_read r) refl h
+    (λ f is. (problem_fault P (answer_of_test (spelled f)) none r f is).1 (refl, refl))
 
 pub problem_read_on : (P : Profile) (r : Rest) (p : Problem) (n : ℕ) (s : Rest) (y : Detail)
     (x : Result Report NoProof) → problem_read r ≡ Ok ((p, n), s)
     → SaysWith (Explained P (solutions_from p [] n s)) y x → SaysWith (IsExplained P r) y x
-problem_read_on P r p n s y x is h = SaysWith-by (Explained P (solutions_from p [] n s)) (IsExplained P r) y x (λ a z. (problem_ok P a z r p n s is).1) h
+problem_read_on P r p n s y x is h = SaysWith-by (Explained P (solutions_from p [] n s))
+    (IsExplained P r) y x (λ a z. (problem_ok P a z r p n s is).1) h

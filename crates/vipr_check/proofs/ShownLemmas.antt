@@ -32,7 +32,10 @@ use Rattle.vipr_check.proofs.Failures.{failing_has}
 -- ---- the variable or the constraint is one of the problem
 
 all_below : (n : ℕ) → All (λ j. j < n) (range_with_len 0 n)
-all_below n i d within = let e = length-range_with_len 0 n in let g = get_or-range_with_len 0 n i d (omega arith) in omega arith
+all_below n i d within =
+    let e = length-range_with_len 0 n in
+    let g = get_or-range_with_len 0 n i d (omega arith) in
+    omega arith
 
 module _ (p : Problem) where
   abbrev at_each : ℕ → List SolutionTest
@@ -43,18 +46,25 @@ module _ (p : Problem) where
   each_within (i ∷ is) a =
       let here : i < length p.constraints = a 0 i (omega arith) in
       All-append (IsTestOf p) (at_each i) (flat_map at_each is)
-      (All-cons (IsTestOf p) (value_fits i) (holds i ∷ []) here (All-cons (IsTestOf p) (holds i) [] here (All-nil (IsTestOf p))))
+      (All-cons (IsTestOf p) (value_fits i) (holds i ∷ []) here
+      (All-cons (IsTestOf p) (holds i) [] here (All-nil (IsTestOf p))))
       (each_within is (All-tail (λ i. i < length p.constraints) i is a))
 
   all_within : All (IsTestOf p) (solution_tests p)
   all_within =
-      All-append (IsTestOf p) (map whole_at (integer_variables p) ++ flat_map at_each (range_with_len 0 (length p.constraints))) (objective_fits ∷ [])
-      (All-append (IsTestOf p) (map whole_at (integer_variables p)) (flat_map at_each (range_with_len 0 (length p.constraints)))
-      (All-map (IsTestOf p) whole_at (integer_variables p) (All-filter (contains p.integers) (λ j. j < variables p) (range_with_len 0 (variables p)) (all_below (variables p))))
+      All-append (IsTestOf p)
+      (map whole_at (integer_variables p)
+      ++ flat_map at_each (range_with_len 0 (length p.constraints))) (objective_fits ∷ [])
+      (All-append (IsTestOf p) (map whole_at (integer_variables p))
+      (flat_map at_each (range_with_len 0 (length p.constraints)))
+      (All-map (IsTestOf p) whole_at (integer_variables p)
+      (All-filter (contains p.integers) (λ j. j < variables p) (range_with_len 0 (variables p))
+      (all_below (variables p))))
       (each_within (range_with_len 0 (length p.constraints)) (all_below (length p.constraints))))
       (All-cons (IsTestOf p) objective_fits [] tt (All-nil (IsTestOf p)))
 
-  pub failing_within : (s : Row) (t : SolutionTest) → FirstFailing (PassesSolution p s) (solution_tests p) (Some t) → IsTestOf p t
+  pub failing_within : (s : Row) (t : SolutionTest)
+      → FirstFailing (PassesSolution p s) (solution_tests p) (Some t) → IsTestOf p t
   failing_within s t h = failing_has (PassesSolution p s) (IsTestOf p) (solution_tests p) t all_within h
 
 -- ---- names
@@ -64,9 +74,13 @@ pub name_of_given : (p : Problem) (cons : List (NamedItem Constraint)) (i : ℕ)
     → i < length p.constraints
     → (get_or cons i n).name ≡ name_at (names_of p.constraints) i
 name_of_given p cons i n same within =
-    let as_many : length cons ≡ length p.constraints = sym (length-map cons (named_of constraint_of)) ∙ ap length same in
-    let named : get_or p.constraints i (named_of constraint_of n) ≡ named_of constraint_of (get_or cons i n) = ap (λ cs. get_or cs i (named_of constraint_of n)) (sym same) ∙ get_or-map (named_of constraint_of) cons i n _ (omega arith) in
-    sym (get_or-map (λ (m : Named _). m.name) p.constraints i (named_of constraint_of n) _ within ∙ ap (λ (m : Named _). m.name) named)
+    let as_many : length cons ≡ length p.constraints =
+    sym (length-map cons (named_of constraint_of)) ∙ ap length same in
+    let named : get_or p.constraints i (named_of constraint_of n) ≡ named_of constraint_of
+    (get_or cons i n) = ap (λ cs. get_or cs i (named_of constraint_of n)) (sym same)
+    ∙ get_or-map (named_of constraint_of) cons i n _ (omega arith) in
+    sym (get_or-map (λ (m : Named _). m.name) p.constraints i (named_of constraint_of n) _ within
+    ∙ ap (λ (m : Named _). m.name) named)
 
 -- a copy of one of two same names is the other
 pub copy_is : {E : Type 0} (r : Result (List ℕ) E) (x y : List ℕ) (Q : E → Type 0) → x ≡ y
@@ -105,24 +119,31 @@ entries_few front (e ∷ es) h =
     let more = front ++ e ∷ [] in
     let n : length more ≡ length front + 1 = length-append front (e ∷ []) in
     let few : Few more = omega arith in
-    All-cons FewIn (suitable more) (fitting more ∷ entry_tests more es) few (All-cons FewIn (fitting more) (entry_tests more es) few (entries_few more es (omega arith)))
+    All-cons FewIn (suitable more) (fitting more ∷ entry_tests more es) few
+    (All-cons FewIn (fitting more) (entry_tests more es) few
+    (entries_few more es (omega arith)))
 
 references_few : (es : List (ℕ × ℚ)) → All FewIn (flat_map reference_tests es)
 references_few [] = All-nil FewIn
-references_few (e ∷ es) = All-append FewIn (reference_tests e) (flat_map reference_tests es) (one (is_nonzero e)) (references_few es)
+references_few (e ∷ es) = All-append FewIn (reference_tests e) (flat_map reference_tests es)
+    (one (is_nonzero e)) (references_few es)
   where
     one : (b : Bool) → All FewIn (if b then earlier e.0 ∷ live e.0 ∷ [] else earlier e.0 ∷ [])
     one true = All-cons FewIn (earlier e.0) (live e.0 ∷ []) tt (All-cons FewIn (live e.0) [] tt (All-nil FewIn))
     one false = All-cons FewIn (earlier e.0) [] tt (All-nil FewIn)
 
 sums_few : (es : List (ℕ × ℚ)) → Few es → All FewIn (sum_tests es)
-sums_few es h = All-append FewIn (flat_map reference_tests es) (entry_tests [] es) (references_few es) (entries_few [] es (omega arith))
+sums_few es h = All-append FewIn (flat_map reference_tests es) (entry_tests [] es)
+    (references_few es) (entries_few [] es (omega arith))
 
 step_few : (r : Reason) → ReasonShape r → All FewIn (step_tests r)
 step_few asm h = All-nil FewIn
-step_few (lin es) h = All-append FewIn (sum_tests es) (by_sum es ∷ []) (sums_few es h) (All-from_recursion FewIn (by_sum es ∷ []) (tt, tt))
-step_few (rnd es) h = All-append FewIn (sum_tests es) (roundable es ∷ by_rounding es ∷ []) (sums_few es h) (All-from_recursion FewIn (roundable es ∷ by_rounding es ∷ []) (tt, (tt, tt)))
-step_few (uns i1 l1 i2 l2) h = All-from_recursion FewIn (step_tests (uns i1 l1 i2 l2)) (tt, (tt, (tt, (tt, (tt, (tt, (tt, (tt, (tt, (tt, (tt, (tt, (tt, tt)))))))))))))
+step_few (lin es) h = All-append FewIn (sum_tests es) (by_sum es ∷ []) (sums_few es h)
+    (All-from_recursion FewIn (by_sum es ∷ []) (tt, tt))
+step_few (rnd es) h = All-append FewIn (sum_tests es) (roundable es ∷ by_rounding es ∷ [])
+    (sums_few es h) (All-from_recursion FewIn (roundable es ∷ by_rounding es ∷ []) (tt, (tt, tt)))
+step_few (uns i1 l1 i2 l2) h = All-from_recursion FewIn (step_tests (uns i1 l1 i2 l2))
+    (tt, (tt, (tt, (tt, (tt, (tt, (tt, (tt, (tt, (tt, (tt, (tt, (tt, tt)))))))))))))
 step_few sol h = All-from_recursion FewIn (step_tests sol) (tt, (tt, tt))
 
 -- ---- derivations
@@ -130,7 +151,12 @@ step_few sol h = All-from_recursion FewIn (step_tests sol) (tt, (tt, tt))
 pub stop_shown : (P : Profile) (c : Certificate) (d : Derivation) (e : RuleError)
     (n : ℕ) (y : StepDetail) → ReasonShape d.reason
     → (s : StopsIn P c d (step_tests d.reason) e) → rule_shown e ≡ Some (n, y) → y ≡ s.2.0
-stop_shown P c d e n y few (t, first, (x, says, shows)) = grind (arith, failing_has (PassesStep P c (condition d.stated)) FewIn (step_tests d.reason) t (step_few d.reason few) first)
+stop_shown P c d e n y few (t, first, (x, says, shows)) =
+    grind (
+      arith,
+      failing_has (PassesStep P c (condition d.stated)) FewIn (step_tests d.reason) t
+          (step_few d.reason few) first,
+    )
 
 -- ---- checkers
 
@@ -138,7 +164,13 @@ pub halted_shown : (k l : State) (h : Halt) (e : Stop) → HaltsBy k h l e
     → state_shown l ≡ halt_shown k.progress.problem (Some h)
 halted_shown k l h e halts = by halts.kept
   where
-    by : (l ≡ record k { halt = Some h }) ⊎ ((h ≡ Memory) × (l ≡ record k { halt = Some h; progress = record k.progress { rows = advance_table k.progress.rows } })) → state_shown l ≡ halt_shown k.progress.problem (Some h)
+    by : (l ≡ record k { halt = Some h })
+        ⊎ ((h ≡ Memory)
+        × (l ≡ record k {
+          halt = Some h;
+          progress = record k.progress { rows = advance_table k.progress.rows };
+        }))
+        → state_shown l ≡ halt_shown k.progress.problem (Some h)
     by (inl is) = ap state_shown is
     by (inr is) = ap state_shown is.1
 

@@ -58,7 +58,8 @@ enabled = refl
 -- nor does a line with no fault ask for help
 never_help : (words : List Text) → fault_of line words ≡ [] → NotHelp
     (stop_after (built line).top.rules (names_of (built line)) (argument_words line words))
-never_help words h = never_met (built line).top (names_of (built line)) enabled nothing_held idle 1 false None (argument_words line words) tt (first_none _ _ h)
+never_help words h = never_met (built line).top (names_of (built line)) enabled nothing_held idle 1
+    false None (argument_words line words) tt (first_none _ _ h)
 
 is_some-map : {X Y : Type 0} (f : X → Y) (o : Option X) → is_some (option_map f o) ≡ is_some o
 is_some-map f o = grind arith
@@ -93,8 +94,12 @@ named_in (s ∷ ss) p q h = go (answers_to p.0 (label_of s)) refl (named_in ss p
     first : Some (rows_at s p.1) ≡ Some q → s.name ≡ q.0
     first e = let k : rows_at s p.1 ≡ q = cc in ap (λ (x : Text × List Row). x.0) k
 
-    go : (b : Bool) → b ≡ answers_to p.0 (label_of s) → (option_map (λ s. rows_at s p.1) (find (λ s. answers_to p.0 (label_of s)) ss) ≡ Some q → IsNamed ss p.0 q.0)
-        → option_map (λ s. rows_at s p.1) (if b then Some s else find (λ s. answers_to p.0 (label_of s)) ss) ≡ Some q → IsNamed (s ∷ ss) p.0 q.0
+    go : (b : Bool) → b ≡ answers_to p.0 (label_of s)
+        → (option_map (λ s. rows_at s p.1) (find (λ s. answers_to p.0 (label_of s)) ss) ≡ Some q
+        → IsNamed ss p.0 q.0)
+        → option_map (λ s. rows_at s p.1)
+        (if b then Some s else find (λ s. answers_to p.0 (label_of s)) ss) ≡ Some q
+        → IsNamed (s ∷ ss) p.0 q.0
     go b b' rest e = grind arith
 
 -- of the subcommands, `help` is the one that is no task
@@ -105,7 +110,9 @@ one_of word name (inl (h, met)) other none = none Check h
 one_of word name (inr (inl (h, met))) other none = none Explain h
 one_of word name (inr (inr (inl (h, met)))) other none = none Show h
 one_of word name (inr (inr (inr (inl (h, met))))) other none = none Tighten h
-one_of word name (inr (inr (inr (inr (inl (h, met)))))) other none = let bad = sym (met_help word met) ∙ other in true≢false bad
+one_of word name (inr (inr (inr (inr (inl (h, met)))))) other none =
+    let bad = sym (met_help word met) ∙ other in
+    true≢false bad
 one_of word name (inr (inr (inr (inr (inr h))))) other none = h
 
 stop_named : (stop : Option (Text × List Text)) (q : Text × List Row)
@@ -162,17 +169,25 @@ later_fault : (a : Kinds) (b : Bool) → a ≡ []
 later_fault a b h = ap (λ x. or_else x (if b then [] else InvalidValue ∷ [])) h
 
 module _ (words : List Text) (name : Text) (rows : List Row) (e : subcommand_of line words ≡ Some (name, rows)) where
-  names_by : (o : Option Profile) → o ≡ profile_named (first_of (codes "profile") rows) → names_profile words ≡ is_some o
+  names_by : (o : Option Profile) → o ≡ profile_named (first_of (codes "profile") rows)
+      → names_profile words ≡ is_some o
   names_by o h = rw (e, h) refl
 
-  pub profile_fine : (p : Profile) → Some p ≡ profile_named (first_of (codes "profile") rows) → fault_of line words ≡ [] → words_fault words ≡ []
-  profile_fine p h f = later_fault (fault_of line words) (names_profile words) f ∙ ap (λ b. if b then [] else InvalidValue ∷ []) (names_by (Some p) h)
+  pub profile_fine : (p : Profile) → Some p ≡ profile_named (first_of (codes "profile") rows)
+      → fault_of line words ≡ [] → words_fault words ≡ []
+  profile_fine p h f = later_fault (fault_of line words) (names_profile words) f
+      ∙ ap (λ b. if b then [] else InvalidValue ∷ []) (names_by (Some p) h)
 
   module _ (h : None ≡ profile_named (first_of (codes "profile") rows)) where
     pub never_accepted : are_accepted words ≡ true → ⊥
-    never_accepted t = let a = profile_accepted words t in let b = names_by None h in let bad : true ≡ false = sym a ∙ b in cc
+    never_accepted t =
+        let a = profile_accepted words t in
+        let b = names_by None h in
+        let bad : true ≡ false = sym a ∙ b in
+        cc
 
-    pub profile_wrong : fault_of line words ≡ [] → (x : Error) → kind_of x ≡ InvalidValue → HasKind (words_fault words) x
+    pub profile_wrong : fault_of line words ≡ [] → (x : Error) → kind_of x ≡ InvalidValue
+        → HasKind (words_fault words) x
     profile_wrong f x k = grind arith
 
 -- ---- `help --help`
@@ -213,4 +228,6 @@ asked_ok r short P b h = grind (arith, asked_fault)
 pub asked_err : {T : Type 0} (r : Result T Error) (words : List Text) (P : Error → Type 0)
     → AsksHelp words → IfErr r (λ e. are_accepted words ≡ true → P e)
 asked_err (Ok x) words P a = tt
-asked_err (Err x) words P (name, rest, e) = λ t. absurd (help_refused name rest (subst (λ ws. takes line ws ≡ true) e (accepted_by_clap words t)))
+asked_err (Err x) words P (name, rest, e) =
+    λ t. absurd (help_refused name rest
+    (subst (λ ws. takes line ws ≡ true) e (accepted_by_clap words t)))

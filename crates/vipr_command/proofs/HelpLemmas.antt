@@ -27,36 +27,55 @@ NoHelp (subcommand name) = bytes_eq name (codes "help") ≡ false
 NoHelp _ = ⊤
 
 module _ (s : Shape) (names : Names) (enabled : s.disable_help_subcommand ≡ false) where
-  asks : (b : Bool) → (if b && not s.disable_help_subcommand then DisplayHelp ∷ InvalidSubcommand ∷ [] else []) ≡ [] → b ≡ false
+  asks : (b : Bool)
+      → (if b && not s.disable_help_subcommand then DisplayHelp ∷ InvalidSubcommand ∷ [] else []) ≡
+      [] → b ≡ false
   asks b e = grind arith
 
-  word_fine : (is_trailing : Bool) (waiting : Waiting) (position : ℕ) (word : Text) (h : Held) → word_fault s names is_trailing waiting word h ≡ [] → NoHelp (word_met s.rules names is_trailing waiting position word h).1
+  word_fine : (is_trailing : Bool) (waiting : Waiting) (position : ℕ) (word : Text) (h : Held)
+      → word_fault s names is_trailing waiting word h ≡ []
+      → NoHelp (word_met s.rules names is_trailing waiting position word h).1
   word_fine is_trailing waiting position word h e = grind arith
 
   abbrev at : Held → Waiting → ℕ → Bool → Option (Text × List Text) → Walk
-  at h waiting position is_trailing stopped = record { held = h; waiting = waiting; position = position; is_trailing = is_trailing; stopped = stopped }
+  at h waiting position is_trailing stopped =
+      record {
+        held = h;
+        waiting = waiting;
+        position = position;
+        is_trailing = is_trailing;
+        stopped = stopped;
+      }
 
-  step_fine : (word : Text) (w : Walk) (h : Held) (x : Step) → NotHelp w.stopped → NoHelp x → NotHelp (after_step s.rules word w h x).stopped
+  step_fine : (word : Text) (w : Walk) (h : Held) (x : Step) → NotHelp w.stopped → NoHelp x
+      → NotHelp (after_step s.rules word w h x).stopped
   step_fine word w h x fine quiet = grind arith
 
-  pub never_met : (h : Held) (waiting : Waiting) (position : ℕ) (is_trailing : Bool) (stopped : Option (Text × List Text)) (words : List Text) → NotHelp stopped
-      → walk_fault s names (at h waiting position is_trailing stopped) words ≡ [] → NotHelp (fold (walked s.rules names) (at h waiting position is_trailing stopped) words).stopped
+  pub never_met : (h : Held) (waiting : Waiting) (position : ℕ) (is_trailing : Bool)
+      (stopped : Option (Text × List Text)) (words : List Text) → NotHelp stopped
+      → walk_fault s names (at h waiting position is_trailing stopped) words ≡ []
+      → NotHelp (fold (walked s.rules names) (at h waiting position is_trailing stopped)
+      words).stopped
   unfolding walk_fault walked
   never_met h waiting position is_trailing stopped [] fine e = fine
-  never_met h waiting position is_trailing (Some p) (word ∷ rest) fine e = never_met h waiting position is_trailing (Some (p.0, p.1 ++ word ∷ [])) rest fine e
+  never_met h waiting position is_trailing (Some p) (word ∷ rest) fine e =
+      never_met h waiting position is_trailing (Some (p.0, p.1 ++ word ∷ [])) rest fine e
   never_met h waiting position is_trailing None (word ∷ rest) fine e =
       let before : Walk = at h waiting position is_trailing None in
       let met = word_met s.rules names is_trailing waiting position word h in
       let after = after_step s.rules word before met.0 met.1 in
       let turn : turn_fault s names before word ≡ [] = first_none (turn_fault s names before word) _ e in
-      let none : word_fault s names is_trailing waiting word h ≡ [] = first_none (word_fault s names is_trailing waiting word h) _ turn in
+      let none : word_fault s names is_trailing waiting word h ≡ [] =
+      first_none (word_fault s names is_trailing waiting word h) _ turn in
       never_met after.held after.waiting after.position after.is_trailing after.stopped rest
-      (step_fine word before met.0 met.1 tt (word_fine is_trailing waiting position word h none)) (later_none (turn_fault s names before word) _ e)
+      (step_fine word before met.0 met.1 tt (word_fine is_trailing waiting position word h none))
+      (later_none (turn_fault s names before word) _ e)
 
 -- what `help` answers to is `help`
 pub met_help : (word : Text) → answers_to word (codes "help", []) ≡ true
     → bytes_eq word (codes "help") ≡ true
-met_help word met = (bytes_eq-Decides word (codes "help")).1 (sym ((bytes_eq-Decides (codes "help") word).0 (either _ met)))
+met_help word met = (bytes_eq-Decides word (codes "help")).1
+    (sym ((bytes_eq-Decides (codes "help") word).0 (either _ met)))
   where
     either : (b : Bool) → (b || false) ≡ true → b ≡ true
     either true e = refl

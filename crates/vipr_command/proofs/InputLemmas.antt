@@ -7,7 +7,11 @@ use Rattle.vipr_command.specs.Known.{KnownInput, OfInput, known_by, unknown_inpu
 -- what follows whatever is known of the input
 pub of_input : (source : Option Input) (P Q : KnownInput → Type 0) → ((k : KnownInput) → P k → Q k)
     → OfInput source P → OfInput source Q
-of_input source P Q given h = (given unknown_input h.0, if_known source (λ i. P (known_by i)) (λ i. Q (known_by i)) (λ i. given (known_by i)) h.1)
+of_input source P Q given h = (
+  given unknown_input h.0,
+  if_known source (λ i. P (known_by i)) (λ i. Q (known_by i))
+      (λ i. given (known_by i)) h.1,
+)
 
 -- what is so whatever is known of the input
 pub of_any : (source : Option Input) (Q : KnownInput → Type 0) → ((k : KnownInput) → Q k)

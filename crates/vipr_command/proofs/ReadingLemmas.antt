@@ -20,7 +20,8 @@ pub went_on : (known left new : Option Input) (old bytes : List ℕ) (failed mor
     → IfSome known (λ i. HasRead i left old)
     → ((i : Input) → HasRead i left old → ReadsOn i new bytes failed more) → more ≡ true
     → IfSome known (λ i. HasRead i new bytes)
-went_on known left new old bytes failed more h on e = of_known known (λ i. HasRead i left old) _ (λ i k. subst (ReadsOn i new bytes failed) e (on i k)) h
+went_on known left new old bytes failed more h on e = of_known known (λ i. HasRead i left old) _
+    (λ i k. subst (ReadsOn i new bytes failed) e (on i k)) h
 
 -- what is known isn't left
 pub not_known : (known new : Option Input) (bytes : List ℕ) (P : Input → Type 0)

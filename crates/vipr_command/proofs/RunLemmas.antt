@@ -41,8 +41,11 @@ pub wrong_words : (words : List Text) (k : ErrorKind) (old new before after : Op
     → AnswersError k old new before after r
     → IfOk r (λ e. e.status ≡ 2 → are_accepted words ≡ false)
 wrong_words words k old new before after (Err f) h a = tt
-wrong_words words k old new before after (Ok e) h (inl (other, d)) = λ two. not_true (are_accepted words) (λ t. other (h t))
-wrong_words words k old new before after (Ok e) h (inr (memory, (is, nothing, quiet))) = λ two. let bad : Ok e ≡ Err Memory = is in cc
+wrong_words words k old new before after (Ok e) h (inl (other, d)) =
+    λ two. not_true (are_accepted words) (λ t. other (h t))
+wrong_words words k old new before after (Ok e) h (inr (memory, (is, nothing, quiet))) =
+    λ two. let bad : Ok e ≡ Err Memory = is in
+    cc
 
 abbrev pub named : Option (Bor (List ℕ)) → Option Text
 named o = option_map (λ s. s.now) o
@@ -55,7 +58,10 @@ unread Check P F l s out old files = ((Err Read, tt, (refl, stays old)), same_fi
 unread Explain P F l s out old files = ((Err Read, tt, (refl, stays old)), same_files files)
 unread Show P F l s out old files = ((tt, stays old), same_files files)
 unread Tighten P F l s None old files = ((Err tighten.Read, refl, (tt, stays old)), same_files files)
-unread Tighten P F l s (Some out) old files = (unwritten P F (unknown_input.proof P) files out tighten.Read (tt, stays (begun_for files out)), stays old)
+unread Tighten P F l s (Some out) old files = (
+  unwritten P F (unknown_input.proof P) files out tighten.Read (tt, stays (begun_for files out)),
+  stays old,
+)
 
 pub unread_job : (j : Job) (old : Option Output) (files : Files)
     → DoesJob j unknown_input (outside_of old files) (outside_of old files) (Err Read)
@@ -66,10 +72,12 @@ module _ {S : Type 0} (E : Type 0) (input : S → Option Input) (held : Option (
   abbrev Opened : Result S E → Type 0
   Opened r = IfSome held (λ h. IsFileOf input h r)
 
-  pub done_with_opened : (s : S) (P : KnownInput → Type 0) → Opened (Ok s) → OfInput (input s) P → OfInput (text_held held) P
+  pub done_with_opened : (s : S) (P : KnownInput → Type 0) → Opened (Ok s) → OfInput (input s) P
+      → OfInput (text_held held) P
   done_with_opened s P opened done = go held opened
     where
-      go : (h : Option (Option Input)) → IfSome h (λ h. IsFileOf {S = S} {E = E} input h (Ok s)) → OfInput (text_held h) P
+      go : (h : Option (Option Input)) → IfSome h (λ h. IsFileOf {S = S} {E = E} input h (Ok s))
+          → OfInput (text_held h) P
       go None o = (done.0, tt)
       go (Some None) o = absurd o
       go (Some (Some i)) o = subst (λ x. OfInput x P) o done
@@ -77,15 +85,22 @@ module _ {S : Type 0} (E : Type 0) (input : S → Option Input) (held : Option (
   pub unopened : (e : E) (P : KnownInput → Type 0) → Opened (Err e) → P unknown_input → OfInput (text_held held) P
   unopened e P opened done = go held opened
     where
-      go : (h : Option (Option Input)) → IfSome h (λ h. IsFileOf {S = S} {E = E} input h (Err e)) → OfInput (text_held h) P
+      go : (h : Option (Option Input)) → IfSome h (λ h. IsFileOf {S = S} {E = E} input h (Err e))
+          → OfInput (text_held h) P
       go None o = (done, tt)
       go (Some None) o = (done, tt)
       go (Some (Some i)) o = absurd o
 
 module _ (j : Job) (source : Option Input) (old new : Outside) (r : Result Ending CommandFault) where
   -- what is done is this task
-  pub done_as : (t : Task) → j.command ≡ t → OfInput source (λ k. Does t (profile_of j.profile) j.form j.is_long j.has_sum (named j.out) k old new r) → OfInput source (λ k. DoesJob j k old new r)
-  done_as t is done = subst (λ (t : Task). OfInput source (λ k. Does t (profile_of j.profile) j.form j.is_long j.has_sum (named j.out) k old new r)) (sym is) done
+  pub done_as : (t : Task) → j.command ≡ t
+      → OfInput source
+      (λ k. Does t (profile_of j.profile) j.form j.is_long j.has_sum (named j.out) k old new r)
+      → OfInput source (λ k. DoesJob j k old new r)
+  done_as t is done =
+      subst (λ (t : Task). OfInput source
+      (λ k. Does t (profile_of j.profile) j.form j.is_long j.has_sum (named j.out) k old new r))
+      (sym is) done
 
 -- no file is changed
 pub beside : (source : Option Input) (P : KnownInput → Type 0) (files : Files) → OfInput source P
@@ -105,8 +120,13 @@ done_answer j source old new files a r is answers prints = go is
     Given t k = PrintsAnswer t (profile_of j.profile) j.is_long j.has_sum k old new r
 
     given : OfInput source (Given j.command)
-    given = of_input source (λ k. AnswersTask j.command (profile_of j.profile) j.is_long j.has_sum k a) (Given j.command) (λ k h. (a, h, prints)) answers
+    given = of_input source
+        (λ k. AnswersTask j.command (profile_of j.profile) j.is_long j.has_sum k a)
+        (Given j.command) (λ k h. (a, h, prints)) answers
 
-    go : (j.command ≡ Check) ⊎ (j.command ≡ Explain) → OfInput source (λ k. DoesJob j k (outside_of old files) (outside_of new files) r)
-    go (inl is) = done_as j source (outside_of old files) (outside_of new files) r Check is (beside source (Given Check) files (subst (λ t. OfInput source (Given t)) is given))
-    go (inr is) = done_as j source (outside_of old files) (outside_of new files) r Explain is (beside source (Given Explain) files (subst (λ t. OfInput source (Given t)) is given))
+    go : (j.command ≡ Check) ⊎ (j.command ≡ Explain)
+        → OfInput source (λ k. DoesJob j k (outside_of old files) (outside_of new files) r)
+    go (inl is) = done_as j source (outside_of old files) (outside_of new files) r Check is
+        (beside source (Given Check) files (subst (λ t. OfInput source (Given t)) is given))
+    go (inr is) = done_as j source (outside_of old files) (outside_of new files) r Explain is
+        (beside source (Given Explain) files (subst (λ t. OfInput source (Given t)) is given))

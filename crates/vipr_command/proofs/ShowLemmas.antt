@@ -36,7 +36,9 @@ pub spelled_by : (F : Form) (old new : Option Output) (source : Option Input) (c
     → IfKnown source (λ i. certificate_read (text_of i) ≡ Ok c)
     → IfWhole source (λ bytes. ShowsText F (text_spelling bytes) old new r)
 spelled_by F old new None c r given h = tt
-spelled_by F old new (Some i) c r given h = λ short whole. given (text_spelling i.bytes) ((reads_texts i.bytes c).0 (subst (λ r. certificate_read r ≡ Ok c) (whole_is i whole) (h short)))
+spelled_by F old new (Some i) c r given h = λ short whole. given (text_spelling i.bytes)
+    ((reads_texts i.bytes c).0
+    (subst (λ r. certificate_read r ≡ Ok c) (whole_is i whole) (h short)))
 
 -- nothing was written
 pub stays : (old : Option Output) → Stays old old
@@ -50,8 +52,13 @@ pub none_spelled : (F : Form) (old : Option Output) (source : Option Input) (cau
 none_spelled F old None cause offset h = tt
 none_spelled F old (Some i) cause offset h = λ short whole. ((λ c s. never c whole (h short) s), stays old)
   where
-    never : (c : Certificate) → i.fails ≡ false → certificate_read (text_of i) ≡ Err (refused cause offset) → Spells i.bytes c → ⊥
-    never c whole failed s = let read : certificate_read (text_of i) ≡ Ok c = ap certificate_read (whole_is i whole) ∙ (reads_texts i.bytes c).1 s in let both = sym failed ∙ read in absurd (cc)
+    never : (c : Certificate) → i.fails ≡ false
+        → certificate_read (text_of i) ≡ Err (refused cause offset) → Spells i.bytes c → ⊥
+    never c whole failed s =
+        let read : certificate_read (text_of i) ≡ Ok c = ap certificate_read (whole_is i whole)
+        ∙ (reads_texts i.bytes c).1 s in
+        let both = sym failed ∙ read in
+        absurd (cc)
 
 -- where no read fails, the text is read to its end
 pub never_unread : (F : Form) (old : Option Output) (source : Option Input) (e : TextError)

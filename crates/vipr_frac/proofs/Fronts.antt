@@ -23,8 +23,13 @@ unfolding natural_after
 shifted n k m v [] ys e = let same : m ≡ v = (cc) in let none : k + 0 ≡ k = omega arith in rw (same, none) refl
 shifted n k m v (b ∷ bs) ys e = by (is_digit b) (λ h. shifted n (k + 1) (m * 10 + (b - 48)) v bs ys h) e
   where
-    by : (t : Bool) → (natural_after (m * 10 + (b - 48)) bs ≡ Some v → natural_after (n * 10 ^ (k + 1) + (m * 10 + (b - 48))) (bs ++ ys) ≡ natural_after (n * 10 ^ (k + 1 + length bs) + v) ys) → (if t then natural_after (m * 10 + (b - 48)) bs else None) ≡ Some v
-        → (if t then natural_after ((n * 10 ^ k + m) * 10 + (b - 48)) (bs ++ ys) else None) ≡ natural_after (n * 10 ^ (k + length (b ∷ bs)) + v) ys
+    by : (t : Bool)
+        → (natural_after (m * 10 + (b - 48)) bs ≡ Some v
+        → natural_after (n * 10 ^ (k + 1) + (m * 10 + (b - 48))) (bs ++ ys) ≡ natural_after
+        (n * 10 ^ (k + 1 + length bs) + v) ys)
+        → (if t then natural_after (m * 10 + (b - 48)) bs else None) ≡ Some v
+        → (if t then natural_after ((n * 10 ^ k + m) * 10 + (b - 48)) (bs ++ ys) else None) ≡
+        natural_after (n * 10 ^ (k + length (b ∷ bs)) + v) ys
     by false next e = absurd (cc)
     by true next e =
         let p : 10 ^ (k + 1) ≡ 10 ^ k * 10 = rw add-one (pow-suc 10 k) in
@@ -95,9 +100,11 @@ fraction_solid bs len more digits slash below k h = elim (cases_lt k len) [
   | inr m ↦ elim (cases_eq k len) [
     | inl e ↦ rw (e, slash) refl
     | inr e ↦
-        let at : get_or (drop (len + 1) bs) (k - (len + 1)) 0 ≡ get_or bs (len + 1 + (k - (len + 1))) 0 = get_or-drop (len + 1) bs (k - (len + 1)) 0 in
+        let at : get_or (drop (len + 1) bs) (k - (len + 1)) 0 ≡ get_or bs
+        (len + 1 + (k - (len + 1))) 0 = get_or-drop (len + 1) bs (k - (len + 1)) 0 in
         let same : len + 1 + (k - (len + 1)) ≡ k = omega arith in
-        solid (get_or bs k 0) (subst (λ b. is_digit b ≡ true) (at ∙ ap (λ j. get_or bs j 0) same) (below (k - (len + 1)) (omega arith)))
+        solid (get_or bs k 0) (subst (λ b. is_digit b ≡ true) (at ∙ ap (λ j. get_or bs j 0) same)
+        (below (k - (len + 1)) (omega arith)))
   ]
 ]
 
@@ -108,7 +115,8 @@ pub fraction_value : (bs : List ℕ) (is_negative : Bool) (len more top : ℕ)
     of_parts is_negative (Some top) (natural_of (take more (drop (len + 1) bs)))
     ≡ of_parts is_negative (natural_of (top_of (take (len + 1 + more) bs)))
     (natural_of (bottom_of (take (len + 1 + more) bs)))
-fraction_value bs is_negative len more top digits slash within e = search (rules, length-take, prefix_len_is, get_or-take, no_slash, take-take, drop-take)
+fraction_value bs is_negative len more top digits slash within e =
+    search (rules, length-take, prefix_len_is, get_or-take, no_slash, take-take, drop-take)
 
 chosen : (b : Bool) (x y : List ℕ) → true ≡ b → x ≡ cond b x y
 chosen b x y e = grind arith

@@ -26,7 +26,11 @@ half_dvd x y d odd h k =
 odd_half : (x y : ℕ) → x % 2 ≡ 1 → gcd x (y * 2) ≡ gcd x y
 odd_half x y odd =
     let is = gcd_is x y in
-    gcd-same x (y * 2) (gcd x y) (is.0, dvd_trans (gcd x y) is.1 (dvd-mul_right y 2), λ d h k. is.2 d h (half_dvd x y d odd h k))
+    gcd-same x (y * 2) (gcd x y) (
+      is.0,
+      dvd_trans (gcd x y) is.1 (dvd-mul_right y 2),
+      λ d h k. is.2 d h (half_dvd x y d odd h k),
+    )
 
 twice : (y k : ℕ) → y * 2 ^ suc k ≡ y * 2 ^ k * 2
 twice y k = ap (λ n. y * n) (pow-suc 2 k) ∙ sym (mul_assoc y (2 ^ k) 2)
@@ -43,11 +47,13 @@ pub both_odd : (i j x y : ℕ) → x % 2 ≡ 1 → y % 2 ≡ 1
     → gcd (x * 2 ^ i) (y * 2 ^ j) ≡ gcd x y * 2 ^ min i j
 both_odd zero j x y odd other =
     let least : min 0 j ≡ 0 = omega arith in
-    ap (λ n. gcd n (y * 2 ^ j)) (once x) ∙ odd_shift j x y odd ∙ sym (once (gcd x y)) ∙ ap (λ n. gcd x y * 2 ^ n) (sym least)
+    ap (λ n. gcd n (y * 2 ^ j)) (once x) ∙ odd_shift j x y odd ∙ sym (once (gcd x y))
+    ∙ ap (λ n. gcd x y * 2 ^ n) (sym least)
 both_odd (suc i) zero x y odd other = grind (arith, gcd-swap, odd_shift)
 both_odd (suc i) (suc j) x y odd other =
     let least : min (suc i) (suc j) ≡ suc (min i j) = omega arith in
-    ap₂ gcd (twice x i) (twice y j) ∙ gcd-scaled (x * 2 ^ i) (y * 2 ^ j) 1 ∙ ap (λ n. n * 2) (both_odd i j x y odd other)
+    ap₂ gcd (twice x i) (twice y j) ∙ gcd-scaled (x * 2 ^ i) (y * 2 ^ j) 1
+    ∙ ap (λ n. n * 2) (both_odd i j x y odd other)
     ∙ sym (twice (gcd x y) (min i j)) ∙ ap (λ n. gcd x y * 2 ^ n) (sym least)
 
 -- ---- a number is its part above its lowest zeros
@@ -57,7 +63,8 @@ above_zeros (suc k) n h =
     let even : n % 2 ≡ 0 = sym (bit_at_lowest n) ∙ h 0 (omega arith) in
     let halves : n ≡ n / 2 * 2 = omega (arith, even) in
     let rest = above_zeros k (n / 2) (λ i l. sym (bit_at-suc n i) ∙ h (suc i) (omega arith)) in
-    let further : n / 2 / 2 ^ k ≡ n / 2 ^ suc k = let e : 1 + k ≡ suc k = omega arith in shr-shr n 1 k ∙ ap (λ m. n / 2 ^ m) e in
+    let further : n / 2 / 2 ^ k ≡ n / 2 ^ suc k = let e : 1 + k ≡ suc k = omega arith in
+    shr-shr n 1 k ∙ ap (λ m. n / 2 ^ m) e in
     halves ∙ ap (λ m. m * 2) (rest ∙ ap (λ m. m * 2 ^ k) further) ∙ sym (twice (n / 2 ^ suc k) k)
 
 -- ---- a difference in place of the greater
@@ -94,5 +101,6 @@ module _ (w : Width) where
   twos_back a b some small other below =
       let least : ℕ = min (trailing_zeros w b) (trailing_zeros w a) in
       ap (λ g. g * 2 ^ least) (odd_alone (odd_part b) a some small (odd_is b other below))
-      ∙ sym (both_odd (trailing_zeros w b) (trailing_zeros w a) (odd_part b) (odd_part a) (odd_is b other below) (odd_is a some small))
+      ∙ sym (both_odd (trailing_zeros w b) (trailing_zeros w a) (odd_part b) (odd_part a)
+      (odd_is b other below) (odd_is a some small))
       ∙ ap₂ gcd (sym (twos_out b other below)) (sym (twos_out a some small)) ∙ gcd-swap b a

@@ -51,10 +51,13 @@ cross x p n h = sym (unsigned_abs-mul x.numer (pos n)) ∙ ap unsigned_abs h.cro
 
 module _ (x y : ℚ) (p t : ℤ) (n : ℕ) (some : 0 < n) (x_is : over p n ≡ x) (y_is : over t n ≡ y) where
   first : x.denom * (y.denom / gcd x.denom y.denom) ≤ n
-  first = least x.denom y.denom n x.lowest.positive y.lowest.positive some (denom_divides x p n some x_is) (denom_divides y t n some y_is)
+  first = least x.denom y.denom n x.lowest.positive y.lowest.positive some
+      (denom_divides x p n some x_is) (denom_divides y t n some y_is)
 
   second : y.denom * (x.denom / gcd x.denom y.denom) ≤ n
-  second = rw (gcd-swap x.denom y.denom) (least y.denom x.denom n y.lowest.positive x.lowest.positive some (denom_divides y t n some y_is) (denom_divides x p n some x_is))
+  second = rw (gcd-swap x.denom y.denom)
+      (least y.denom x.denom n y.lowest.positive x.lowest.positive some
+      (denom_divides y t n some y_is) (denom_divides x p n some x_is))
 
   left_small : unsigned_abs (left_part x y) ≤ unsigned_abs p
   left_small = rw (unsigned_abs-mul x.numer (pos (y.denom / gcd x.denom y.denom)))
@@ -62,31 +65,43 @@ module _ (x y : ℚ) (p t : ℤ) (n : ℕ) (some : 0 < n) (x_is : over p n ≡ x
 
   right_small : unsigned_abs (right_part x y) ≤ unsigned_abs t
   right_small = rw (unsigned_abs-mul y.numer (pos (x.denom / gcd x.denom y.denom)))
-      (part_small _ _ y.denom n _ y.lowest.positive second (cross y t n (subst (λ z. Is z t n) y_is (is_over t n some))))
+      (part_small _ _ y.denom n _ y.lowest.positive second
+      (cross y t n (subst (λ z. Is z t n) y_is (is_over t n some))))
 
   pub sum_over : over (p +ℤ t) n ≡ x +ℚ y
   sum_over = sym (over_equal p t n some) ∙ ap₂ (λ u v. u +ℚ v) x_is y_is
 
   taken_out : y.denom / sum_gcd x y * sum_gcd x y ≡ y.denom
-  taken_out = div-mul_cancel (sum_gcd x y) (dvd_trans (sum_gcd x y) (gcd_is _ (gcd x.denom y.denom)).1 (gcd_is x.denom y.denom).1)
+  taken_out = div-mul_cancel (sum_gcd x y)
+      (dvd_trans (sum_gcd x y) (gcd_is _ (gcd x.denom y.denom)).1 (gcd_is x.denom y.denom).1)
 
   sum_whole : sum_denom x y * sum_gcd x y ≡ y.denom * (x.denom / gcd x.denom y.denom)
-  sum_whole = mul_assoc (x.denom / gcd x.denom y.denom) (y.denom / sum_gcd x y) (sum_gcd x y) ∙ ap (λ k. x.denom / gcd x.denom y.denom * k) taken_out ∙ mul_comm _ y.denom
+  sum_whole = mul_assoc (x.denom / gcd x.denom y.denom) (y.denom / sum_gcd x y) (sum_gcd x y)
+      ∙ ap (λ k. x.denom / gcd x.denom y.denom * k) taken_out ∙ mul_comm _ y.denom
 
   both_small : unsigned_abs (both_parts x y) ≤ unsigned_abs (p +ℤ t)
   both_small =
       let z = x +ℚ y in
       let h = sum_gcd x y in
       let size : unsigned_abs z.numer * h ≡ unsigned_abs (both_parts x y) =
-      ap (λ k. unsigned_abs k * h) (sum-numer x y) ∙ ap (λ k. k * h) (abs_div (both_parts x y) h) ∙ div-mul_cancel h (gcd_is (unsigned_abs (both_parts x y)) (gcd x.denom y.denom)).0 in
+      ap (λ k. unsigned_abs k * h) (sum-numer x y) ∙ ap (λ k. k * h) (abs_div (both_parts x y) h)
+      ∙ div-mul_cancel h (gcd_is (unsigned_abs (both_parts x y)) (gcd x.denom y.denom)).0 in
       let below : z.denom * h ≤ n = rw (sum-denom x y, sum_whole) second in
-      rw (← size) (part_small _ h z.denom n _ z.lowest.positive below (cross z (p +ℤ t) n (subst (λ w. Is w (p +ℤ t) n) sum_over (is_over (p +ℤ t) n some))))
+      rw (← size) (part_small _ h z.denom n _ z.lowest.positive below
+      (cross z (p +ℤ t) n (subst (λ w. Is w (p +ℤ t) n) sum_over (is_over (p +ℤ t) n some))))
 
   denom_small : sum_denom x y ≤ n
   denom_small = grind (arith, second)
 
   pub fits_over : unsigned_abs p ≤ most → unsigned_abs t ≤ most → unsigned_abs (p +ℤ t) ≤ most → n ≤ most → FitsSum x y
-  fits_over a b c d = grind (arith, le_trans left_small a, le_trans right_small b, le_trans both_small c, le_trans denom_small d)
+  fits_over a b c d =
+      grind (
+        arith,
+        le_trans left_small a,
+        le_trans right_small b,
+        le_trans both_small c,
+        le_trans denom_small d,
+      )
 
 -- ---- a sum that was wrapped on the way, and is a word
 pub wrapped_sum : (p t s : ℤ) → unsigned_abs p ≤ most → unsigned_abs t ≤ 2 ^ 126
@@ -98,7 +113,8 @@ equal_fits : (x : ℚ) (p t : ℤ) (q : ℕ) → 0 < q → q < 2 ^ 63 → unsign
     → unsigned_abs t ≤ 2 ^ 126 → FitsSigned w64 (p +ℤ t) → over p q ≡ x → SumFits x (over t q)
 equal_fits x p t q some below a b word e =
     let size : unsigned_abs (p +ℤ t) ≤ 2 ^ 63 = word_abs (p +ℤ t) word in
-    SumFits-parts x (over t q) (fits_over x (over t q) p t q some e refl a (le_trans b (lit≤ tt)) (le_trans size (lit≤ tt)) (omega arith))
+    SumFits-parts x (over t q) (fits_over x (over t q) p t q some e refl a (le_trans b (lit≤ tt))
+    (le_trans size (lit≤ tt)) (omega arith))
 
 pub sum_by_equal : (x : ℚ) (p t s : ℤ) (n q : ℕ) → over p n ≡ x → n ≡ q → 0 < q → q < 2 ^ 63
     → unsigned_abs p ≤ most → unsigned_abs t ≤ 2 ^ 126 → s ≡ int_wrapping_add w128 p t
@@ -138,12 +154,20 @@ pub short_product : (x y : ℚ) (p r n : ℤ) (q s d : ℕ) → p ≡ x.numer �
     → FitsSigned w64 p → FitsSigned w64 r → q < 2 ^ 31 → s < 2 ^ 31 → n ≡ p *ℤ r → d ≡ q * s
     → IsShortProduct x y n d
 short_product x y p r n q s d p_is q_is r_is s_is p_word r_word q_short s_short n_is d_is =
-    let product : over n d ≡ x *ℚ y = is_product x y n d (n_is ∙ ap₂ (λ a b. a *ℤ b) p_is r_is) (d_is ∙ ap₂ (λ a b. a * b) q_is s_is) in
-    let numer : unsigned_abs n ≤ 2 ^ 126 = rw (n_is, unsigned_abs-mul p r) (numer_bound _ _ (word_abs p p_word) (word_abs r r_word)) in
+    let product : over n d ≡ x *ℚ y = is_product x y n d (n_is ∙ ap₂ (λ a b. a *ℤ b) p_is r_is)
+    (d_is ∙ ap₂ (λ a b. a * b) q_is s_is) in
+    let numer : unsigned_abs n ≤ 2 ^ 126 =
+    rw (n_is, unsigned_abs-mul p r) (numer_bound _ _ (word_abs p p_word) (word_abs r r_word)) in
     let q_most : q ≤ 2 ^ 31 = omega arith in
     let s_most : s ≤ 2 ^ 31 = omega arith in
     let bound : d ≤ 2 ^ 31 * 2 ^ 31 = rw d_is (mul-le-mul q_most s_most) in
     let denom : d < 2 ^ 63 = omega arith in
     let some : 0 < d = rw (d_is, q_is, s_is) (mul-pos x.lowest.positive y.lowest.positive) in
     let h = IsReduced-over n d some (le_trans numer (lit≤ tt)) (omega arith) in
-    record { product = product; fits = subst IsBounded product (h.numer_bounded, h.denom_bounded); numer = numer; some = some; denom = denom }
+    record {
+      product = product;
+      fits = subst IsBounded product (h.numer_bounded, h.denom_bounded);
+      numer = numer;
+      some = some;
+      denom = denom;
+    }

@@ -48,25 +48,36 @@ at_most n h = omega arith
 
 module _ (x y : ℚ) (a : IsSmall x) (b : IsSmall y) where
   left_small : unsigned_abs (left_part x y) ≤ edge
-  left_small = rw (unsigned_abs-mul x.numer (pos (y.denom / gcd x.denom y.denom))) (product_bound _ _ a.numer (quotient_below y.denom _ b.denom))
+  left_small = rw (unsigned_abs-mul x.numer (pos (y.denom / gcd x.denom y.denom)))
+      (product_bound _ _ a.numer (quotient_below y.denom _ b.denom))
 
   right_small : unsigned_abs (right_part x y) ≤ edge
-  right_small = rw (unsigned_abs-mul y.numer (pos (x.denom / gcd x.denom y.denom))) (product_bound _ _ b.numer (quotient_below x.denom _ a.denom))
+  right_small = rw (unsigned_abs-mul y.numer (pos (x.denom / gcd x.denom y.denom)))
+      (product_bound _ _ b.numer (quotient_below x.denom _ a.denom))
 
   pub both_small : unsigned_abs (both_parts x y) ≤ most
   both_small = both_bound _ (abs_sum (left_part x y) (right_part x y) edge left_small right_small)
 
   pub sum_denom_small : sum_denom x y ≤ most
-  sum_denom_small = in_bound _ (product_bound _ _ (quotient_bound x.denom _ (at_most _ a.denom)) (quotient_below y.denom _ b.denom))
+  sum_denom_small =
+      in_bound _ (product_bound _ _ (quotient_bound x.denom _ (at_most _ a.denom))
+      (quotient_below y.denom _ b.denom))
 
   pub small_sum_fits : FitsSum x y
-  small_sum_fits = record { left = in_bound _ left_small; right = in_bound _ right_small; both = both_small; below = sum_denom_small }
+  small_sum_fits = record {
+    left = in_bound _ left_small;
+    right = in_bound _ right_small;
+    both = both_small;
+    below = sum_denom_small;
+  }
 
   pub product_numer_small : unsigned_abs (product_numer x y) ≤ most
   product_numer_small = grind (arith, numer_bound)
 
   pub product_denom_small : product_denom x y ≤ most
-  product_denom_small = in_bound _ (product_bound _ _ (quotient_bound x.denom _ (at_most _ a.denom)) (quotient_below y.denom _ b.denom))
+  product_denom_small =
+      in_bound _ (product_bound _ _ (quotient_bound x.denom _ (at_most _ a.denom))
+      (quotient_below y.denom _ b.denom))
 
   pub small_product_fits : FitsProduct x y
   small_product_fits = record { numer = product_numer_small; below = product_denom_small }
@@ -76,7 +87,8 @@ word_fits z h = fits_signed_from_abs w128 z (omega arith)
 
 -- ---- a numerator times what is left of a denominator, as words
 
-module _ (p z : ℤ) (t n : ℕ) (p_is : to_z w128 (of_z w128 p) ≡ z) (t_is : t ≡ n) (low : n < 2 ^ 63) (small : unsigned_abs (z *ℤ pos n) ≤ edge) where
+module _ (p z : ℤ) (t n : ℕ) (p_is : to_z w128 (of_z w128 p) ≡ z) (t_is : t ≡ n) (low : n < 2 ^ 63)
+    (small : unsigned_abs (z *ℤ pos n) ≤ edge) where
   term_now : to_z w128 (of_z w128 p) *ℤ to_z w128 t ≡ z *ℤ pos n
   term_now = rw (p_is, as-is (pos t) (in_bound t (let h : t < 2 ^ 63 = rw t_is low in omega arith)), t_is)
 
@@ -87,7 +99,9 @@ module _ (p z : ℤ) (t n : ℕ) (p_is : to_z w128 (of_z w128 p) ≡ z) (t_is : 
   term_back = ap (λ w. to_z w128 (of_z w128 w)) term_now ∙ as-is _ (in_bound _ small)
 
 -- ---- the steps of a sum
-module _ (x y : ℚ) (a : IsSmall x) (b : IsSmall y) (p r : ℤ) (q s g : ℕ) (p_is : to_z w128 (of_z w128 p) ≡ x.numer) (r_is : to_z w128 (of_z w128 r) ≡ y.numer) (q_is : q ≡ x.denom) (s_is : s ≡ y.denom) (g_value : g ≡ gcd q s) where
+module _ (x y : ℚ) (a : IsSmall x) (b : IsSmall y) (p r : ℤ) (q s g : ℕ)
+    (p_is : to_z w128 (of_z w128 p) ≡ x.numer) (r_is : to_z w128 (of_z w128 r) ≡ y.numer)
+    (q_is : q ≡ x.denom) (s_is : s ≡ y.denom) (g_value : g ≡ gcd q s) where
   pub g_is : g ≡ gcd x.denom y.denom
   g_is = g_value ∙ rw (q_is, s_is)
 
@@ -105,11 +119,16 @@ module _ (x y : ℚ) (a : IsSmall x) (b : IsSmall y) (p r : ℤ) (q s g : ℕ) (
       pub right_fits : FitsSigned w128 (to_z w128 (of_z w128 r) *ℤ to_z w128 u)
       right_fits = term_fits r y.numer u _ r_is u_is (quotient_below x.denom _ a.denom) (right_small x y a b)
 
-      both_now : to_z w128 (of_z w128 (to_z w128 (of_z w128 p) *ℤ to_z w128 t)) +ℤ to_z w128 (of_z w128 (to_z w128 (of_z w128 r) *ℤ to_z w128 u)) ≡ both_parts x y
+      both_now : to_z w128 (of_z w128 (to_z w128 (of_z w128 p) *ℤ to_z w128 t)) +ℤ to_z w128
+          (of_z w128 (to_z w128 (of_z w128 r) *ℤ to_z w128 u)) ≡ both_parts x y
       both_now = grind (arith, term_back, left_small, right_small)
 
-      pub both_fits : FitsSigned w128 (to_z w128 (of_z w128 (to_z w128 (of_z w128 p) *ℤ to_z w128 t)) +ℤ to_z w128 (of_z w128 (to_z w128 (of_z w128 r) *ℤ to_z w128 u)))
+      pub both_fits : FitsSigned w128
+          (to_z w128 (of_z w128 (to_z w128 (of_z w128 p) *ℤ to_z w128 t)) +ℤ to_z w128
+          (of_z w128 (to_z w128 (of_z w128 r) *ℤ to_z w128 u)))
       both_fits = rw both_now (word_fits _ (both_small x y a b))
 
-      pub both_back : to_z w128 (of_z w128 (to_z w128 (of_z w128 (to_z w128 (of_z w128 p) *ℤ to_z w128 t)) +ℤ to_z w128 (of_z w128 (to_z w128 (of_z w128 r) *ℤ to_z w128 u)))) ≡ both_parts x y
+      pub both_back : to_z w128
+          (of_z w128 (to_z w128 (of_z w128 (to_z w128 (of_z w128 p) *ℤ to_z w128 t)) +ℤ to_z w128
+          (of_z w128 (to_z w128 (of_z w128 r) *ℤ to_z w128 u)))) ≡ both_parts x y
       both_back = ap (λ z. to_z w128 (of_z w128 z)) both_now ∙ as-is _ (both_small x y a b)

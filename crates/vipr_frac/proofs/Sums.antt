@@ -51,7 +51,9 @@ pub ProductFits-parts : (x y : ℚ) → FitsProduct x y → ProductFits x y
 ProductFits-parts x y f = let parts = product-parts x y in (rw parts.0 f.numer, rw parts.1 f.below)
 
 pub FitsProduct-from : (x y : ℚ) → ProductFits x y → FitsProduct x y
-FitsProduct-from x y f = let parts = product-parts x y in record { numer = rw parts.0 at f.0; below = rw parts.1 at f.1 }
+FitsProduct-from x y f =
+    let parts = product-parts x y in
+    record { numer = rw parts.0 at f.0; below = rw parts.1 at f.1 }
 
 -- ---- whole numbers
 pub is-whole : (x : ℚ) → x.denom ≡ 1 → x ≡ whole x.numer

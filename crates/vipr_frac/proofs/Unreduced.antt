@@ -23,7 +23,8 @@ some_words x p q o e f h = grind arith
 
 -- ---- a sum over a common denominator
 some_factor : (n u g : ℕ) → 0 < n → n ≡ u * g → 0 < u
-some_factor n u g some e = pos_of_ne-zero (λ z. let none : n ≡ 0 * g = e ∙ ap (λ k. k * g) z in absurd (omega (arith, zero-mul g)))
+some_factor n u g some e = pos_of_ne-zero (λ z. let none : n ≡ 0 * g = e ∙ ap (λ k. k * g) z in
+    absurd (omega (arith, zero-mul g)))
 
 module _ (q s g u v : ℕ) (q_some : 0 < q) (s_some : 0 < s) (g_some : 0 < g) (q_is : q ≡ v * g) (s_is : s ≡ u * g) where
   pub factor_some : 0 < u

@@ -38,7 +38,8 @@ over-parts p q h = grind arith
 
 -- a fraction is made of its parts
 pub over-self : (x : ℚ) → over x.numer x.denom ≡ x
-over-self x = is_one _ _ _ _ (is_over x.numer x.denom x.lowest.positive) (record { some = x.lowest.positive; cross = refl })
+over-self x = is_one _ _ _ _ (is_over x.numer x.denom x.lowest.positive)
+    (record { some = x.lowest.positive; cross = refl })
 
 -- the same of the parts that a call gives
 pub facts_of : (x : ℚ) (p : ℤ) (q : ℕ) → p ≡ x.numer → q ≡ x.denom → IsReduced p q → Facts x p q

@@ -28,7 +28,8 @@ touching_sorted marks xs ys p t = record {
 
 pub rising_of_touched : (marks : List Bool) (xs : List ℕ) → IsSorted nat_cmp xs → Touching marks xs
     → IsStrictlyIncreasing xs
-rising_of_touched marks xs s t = IsStrictlyIncreasing-from_distinct xs (IsNonDecreasingBy-from_sort (λ x. x) xs s) t.distinct
+rising_of_touched marks xs s t = IsStrictlyIncreasing-from_distinct xs
+    (IsNonDecreasingBy-from_sort (λ x. x) xs s) t.distinct
 
 variables_picked : (sums : List ℚ) (xs : List ℕ) → variables_of (map (pick sums) xs) ≡ xs
 variables_picked sums [] = refl
@@ -36,11 +37,13 @@ variables_picked sums (x ∷ xs) = ap (λ ys. x ∷ ys) (variables_picked sums x
 
 pub collected_rises : (sums : List ℚ) (xs : List ℕ) → IsStrictlyIncreasing xs
     → RisesFrom 0 (filter is_nonzero (map (pick sums) xs))
-collected_rises sums xs s = row_kept (map (pick sums) xs) (subst IsStrictlyIncreasing (sym (variables_picked sums xs)) s)
+collected_rises sums xs s =
+    row_kept (map (pick sums) xs) (subst IsStrictlyIncreasing (sym (variables_picked sums xs)) s)
 
 pub picked_distinct : (sums : List ℚ) (xs : List ℕ) → IsDistinct nat_eq xs
     → IsDistinct nat_eq (variables_of (filter is_nonzero (map (pick sums) xs)))
-picked_distinct sums xs d = IsDistinct-keys_filter nat_eq is_nonzero _ (subst (IsDistinct nat_eq) (sym (variables_picked sums xs)) d)
+picked_distinct sums xs d = IsDistinct-keys_filter nat_eq is_nonzero _
+    (subst (IsDistinct nat_eq) (sym (variables_picked sums xs)) d)
 
 -- what a look-up among the kept sums finds
 module _ (sums : List ℚ) (marks : List Bool) (xs : List ℕ) (t : Touching marks xs) (c : Covers sums marks) (j : ℕ) where
@@ -60,28 +63,46 @@ module _ (sums : List ℚ) (marks : List Bool) (xs : List ℕ) (t : Touching mar
   distinct = subst (IsDistinct nat_eq) (sym (variables_picked sums xs)) t.distinct
 
   pub found : unwrap_or (find nat_cmp j (filter is_nonzero (map (pick sums) xs))) zero_ℚ ≡ get_or sums j zero_ℚ
-  found = ap (λ o. unwrap_or o zero_ℚ) (find_lookup j _) ∙ by (zero_or_not (get_or sums j zero_ℚ)) (lookup (nat_eq j) (filter is_nonzero (map (pick sums) xs))) refl
+  found = ap (λ o. unwrap_or o zero_ℚ) (find_lookup j _)
+      ∙ by (zero_or_not (get_or sums j zero_ℚ))
+      (lookup (nat_eq j) (filter is_nonzero (map (pick sums) xs))) refl
     where
-      by : (get_or sums j zero_ℚ ≡ zero_ℚ) ⊎ ¬ (get_or sums j zero_ℚ ≡ zero_ℚ) → (o : Option ℚ) → lookup (nat_eq j) (filter is_nonzero (map (pick sums) xs)) ≡ o → unwrap_or o zero_ℚ ≡ get_or sums j zero_ℚ
+      by : (get_or sums j zero_ℚ ≡ zero_ℚ) ⊎ ¬ (get_or sums j zero_ℚ ≡ zero_ℚ) → (o : Option ℚ)
+          → lookup (nat_eq j) (filter is_nonzero (map (pick sums) xs)) ≡ o
+          → unwrap_or o zero_ℚ ≡ get_or sums j zero_ℚ
       by (inl z) None e = sym z
-      by z (Some v) e = only_picked xs v (contains_unfiltered is_nonzero (map (pick sums) xs) (j, v) (Contains-from_lookup exact j v _ e)).0
+      by z (Some v) e =
+          only_picked xs v
+          (contains_unfiltered is_nonzero (map (pick sums) xs) (j, v)
+          (Contains-from_lookup exact j v _ e)).0
       by (inr n) None e =
           let there = Contains-from_any exact j xs (sym (t.listed j) ∙ c j n) in
-          let is = lookup-from_Contains nat_eq_equiv j (get_or sums j zero_ℚ) _ (IsDistinct-keys_filter nat_eq is_nonzero _ distinct) (contains_filter is_nonzero (map (pick sums) xs) (pick sums j) (nonzero_test (get_or sums j zero_ℚ) n) (picked xs there)) in
+          let is = lookup-from_Contains nat_eq_equiv j (get_or sums j zero_ℚ) _
+          (IsDistinct-keys_filter nat_eq is_nonzero _ distinct)
+          (contains_filter is_nonzero (map (pick sums) xs) (pick sums j)
+          (nonzero_test (get_or sums j zero_ℚ) n) (picked xs there)) in
           absurd (let clash = sym e ∙ is in cc)
 
 pub collected_at : (sums : List ℚ) (marks : List Bool) (xs : List ℕ) → Touching marks xs
     → Covers sums marks → IsStrictlyIncreasing xs → (j : ℕ)
     → at (from_sorted (filter is_nonzero (map (pick sums) xs))) j ≡ get_or sums j zero_ℚ
-collected_at sums marks xs t c s j = ap (λ o. unwrap_or o zero_ℚ) (get-from_sorted nat_cmp _ j (rises_sorted 0 _ (collected_rises sums xs s))) ∙ found sums marks xs t c j
+collected_at sums marks xs t c s j =
+    ap (λ o. unwrap_or o zero_ℚ)
+    (get-from_sorted nat_cmp _ j (rises_sorted 0 _ (collected_rises sums xs s)))
+    ∙ found sums marks xs t c j
 
 pub touched_within : (sums : List ℚ) (marks : List Bool) (xs : List ℕ) → length marks ≡ length sums
     → Touching marks xs → All (λ j. j < length sums) xs
-touched_within sums marks xs e t k d l = let h = touched_below marks xs xs k t refl l in rw (get_or_default xs k d 0 l, ← e) h
+touched_within sums marks xs e t k d l =
+    let h = touched_below marks xs xs k t refl l in
+    rw (get_or_default xs k d 0 l, ← e) h
 
 pub touched_sorted : (marks : List Bool) (xs ys : List ℕ) (m n : ℕ) → IsPermutation xs ys → n ≡ m
     → AreTouched marks xs m → AreTouched marks ys n
-touched_sorted marks xs ys m n p e k = record { room = (let r = k.room in omega (arith, e, r)); touching = touching_sorted marks xs ys p k.touching }
+touched_sorted marks xs ys m n p e k = record {
+  room = (let r = k.room in omega (arith, e, r));
+  touching = touching_sorted marks xs ys p k.touching;
+}
 
 pub on_ok : {A E : Type 0} (r : Result A E) (P : Type 0) → P → OnOk r P
 on_ok r P p = grind arith

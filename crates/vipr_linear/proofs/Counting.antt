@@ -25,14 +25,24 @@ use Rattle.vipr_linear.proofs.{Rows.contains_unfiltered, Rows.exact, Rows.nothin
 no_numer : (x : ℚ) → x ≡ zero_ℚ → int_eq x.numer (pos 0) ≡ true
 no_numer x z = ap (λ (y : ℚ). int_eq y.numer (pos 0)) z ∙ ap (λ n. int_eq n (pos 0)) zero_numer
 
-module _ (sums : List ℚ) (places : List ℕ) (i : ℕ) (x : ℚ) (l : i < length places) (w : get_or places i 0 < length sums) (r : x ≡ get_or sums (get_or places i 0) x) where
+module _ (sums : List ℚ) (places : List ℕ) (i : ℕ) (x : ℚ) (l : i < length places)
+    (w : get_or places i 0 < length sums) (r : x ≡ get_or sums (get_or places i 0) x) where
   abbrev so_far : List (ℕ × ℚ)
   so_far = filter is_nonzero (take i (map (pick sums) places))
 
-  pub counted : x ≢ zero_ℚ → length (filter is_nonzero (take (i + 1) (map (pick sums) places))) ≡ length (filter is_nonzero (take i (map (pick sums) places))) + 1
-  counted n = grind (arith, kept sums places i x l w r so_far, nonzero_test x n, length_push so_far (get_or places i 0, x))
+  pub counted : x ≢ zero_ℚ
+      → length (filter is_nonzero (take (i + 1) (map (pick sums) places))) ≡ length
+      (filter is_nonzero (take i (map (pick sums) places))) + 1
+  counted n = grind (
+    arith,
+    kept sums places i x l w r so_far,
+    nonzero_test x n,
+    length_push so_far (get_or places i 0, x),
+  )
 
-  pub passed : x ≡ zero_ℚ → length (filter is_nonzero (take (i + 1) (map (pick sums) places))) ≡ length (filter is_nonzero (take i (map (pick sums) places)))
+  pub passed : x ≡ zero_ℚ
+      → length (filter is_nonzero (take (i + 1) (map (pick sums) places))) ≡ length
+      (filter is_nonzero (take i (map (pick sums) places)))
   passed z = sym (ap length (left_out sums places i x l w r so_far refl (no_numer x z)))
 
 -- ---- entries of a row by their variables
@@ -66,7 +76,8 @@ apart v low (p ∷ es) l r =
 distinct_variables : (low : ℕ) (es : List (ℕ × ℚ)) → RisesFrom low es
     → IsDistinct nat_eq (variables_of es)
 distinct_variables low [] r = nothing_distinct
-distinct_variables low (p ∷ es) r = IsDistinct-cons nat_eq p.0 (variables_of es) (apart p.0 (p.0 + 1) es (omega arith) r.2) (distinct_variables (p.0 + 1) es r.2)
+distinct_variables low (p ∷ es) r = IsDistinct-cons nat_eq p.0 (variables_of es)
+    (apart p.0 (p.0 + 1) es (omega arith) r.2) (distinct_variables (p.0 + 1) es r.2)
 
 any_one_more : (q j : ℕ) (xs : List ℕ) → list_any (nat_eq q) (xs ++ j ∷ []) ≡ true
     → (q ≡ j) ⊎ (list_any (nat_eq q) xs ≡ true)
@@ -82,8 +93,10 @@ module _ (sums : List ℚ) (marks : List Bool) (xs : List ℕ) (t : Touching mar
       by : (o : Option ℚ) → lookup (nat_eq q) these ≡ o → ⊥
       by None e = let k : false ≡ true = sym (ap is_some e) ∙ is_some-lookup (nat_eq q) these ∙ n in absurd (cc)
       by (Some v) e =
-          let there = contains_unfiltered is_nonzero (map (pick sums) xs) (q, v) (Contains-from_lookup exact q v these e) in
-          let zero : v ≡ zero_ℚ = sym (ap (λ o. unwrap_or o zero_ℚ) (find_lookup q these ∙ e)) ∙ found sums marks xs t c q ∙ z in
+          let there = contains_unfiltered is_nonzero (map (pick sums) xs) (q, v)
+          (Contains-from_lookup exact q v these e) in
+          let zero : v ≡ zero_ℚ = sym (ap (λ o. unwrap_or o zero_ℚ) (find_lookup q these ∙ e))
+          ∙ found sums marks xs t c q ∙ z in
           let k : false ≡ true = sym (ap not (no_numer v zero)) ∙ there.1 in absurd (cc)
 
   there_if_nonzero : (q : ℕ) → get_or sums q zero_ℚ ≢ zero_ℚ → IsSome (lookup (nat_eq q) these)
@@ -92,13 +105,18 @@ module _ (sums : List ℚ) (marks : List Bool) (xs : List ℕ) (t : Touching mar
   module _ (es : List (ℕ × ℚ)) (r : RisesFrom 0 es) where
     same_count : ((j : ℕ) → get_or sums j zero_ℚ ≡ coefficient es j) → length these ≡ length es
     same_count h =
-        let le = length-le_from_keys nat_eq_equiv (variables_of these) es (picked_distinct sums xs t.distinct) (λ q n. found_nonzero es q (λ z. these_named q n (h q ∙ z))) in
-        let ge = length-le_from_keys nat_eq_equiv (variables_of es) these (distinct_variables 0 es r) (λ q n. there_if_nonzero q (λ z. named_nonzero 0 es r q n (sym (h q) ∙ z))) in
+        let le = length-le_from_keys nat_eq_equiv (variables_of these) es
+        (picked_distinct sums xs t.distinct)
+        (λ q n. found_nonzero es q (λ z. these_named q n (h q ∙ z))) in
+        let ge = length-le_from_keys nat_eq_equiv (variables_of es) these
+        (distinct_variables 0 es r)
+        (λ q n. there_if_nonzero q (λ z. named_nonzero 0 es r q n (sym (h q) ∙ z))) in
         let a = length-map these (λ (p : ℕ × ℚ). p.0) in
         let b = length-map es (λ (p : ℕ × ℚ). p.0) in
         omega (arith, le, ge, a, b)
 
-    module _ (h : (j : ℕ) → coefficient es j ≢ zero_ℚ → get_or sums j zero_ℚ ≡ coefficient es j) (n : length these ≡ length es) (j : ℕ) (z : coefficient es j ≡ zero_ℚ) where
+    module _ (h : (j : ℕ) → coefficient es j ≢ zero_ℚ → get_or sums j zero_ℚ ≡ coefficient es j)
+        (n : length these ≡ length es) (j : ℕ) (z : coefficient es j ≡ zero_ℚ) where
       not_named : list_any (nat_eq j) (variables_of es) ≡ false
       not_named = by (list_any (nat_eq j) (variables_of es)) refl
         where
@@ -106,7 +124,9 @@ module _ (sums : List ℚ) (marks : List Bool) (xs : List ℕ) (t : Touching mar
           by true e = absurd (named_nonzero 0 es r j e z)
           by false e = e
 
-      each_there : get_or sums j zero_ℚ ≢ zero_ℚ → (q : ℕ) → list_any (nat_eq q) (variables_of es ++ j ∷ []) ≡ true → IsSome (lookup (nat_eq q) these)
+      each_there : get_or sums j zero_ℚ ≢ zero_ℚ → (q : ℕ)
+          → list_any (nat_eq q) (variables_of es ++ j ∷ []) ≡ true
+          → IsSome (lookup (nat_eq q) these)
       each_there some q m = by (any_one_more q j (variables_of es) m)
         where
           by : (q ≡ j) ⊎ (list_any (nat_eq q) (variables_of es) ≡ true) → IsSome (lookup (nat_eq q) these)
@@ -119,22 +139,32 @@ module _ (sums : List ℚ) (marks : List Bool) (xs : List ℕ) (t : Touching mar
           by : (get_or sums j zero_ℚ ≡ zero_ℚ) ⊎ ¬ (get_or sums j zero_ℚ ≡ zero_ℚ) → get_or sums j zero_ℚ ≡ zero_ℚ
           by (inl e) = e
           by (inr some) =
-              let more = length-le_from_keys nat_eq_equiv (variables_of es ++ j ∷ []) these (IsDistinct-push nat_eq_equiv (variables_of es) j (distinct_variables 0 es r) not_named) (each_there some) in
+              let more = length-le_from_keys nat_eq_equiv (variables_of es ++ j ∷ []) these
+              (IsDistinct-push nat_eq_equiv (variables_of es) j (distinct_variables 0 es r)
+              not_named) (each_there some) in
               let a = length_push (variables_of es) j in
               let b = length-map es (λ (p : ℕ × ℚ). p.0) in
               absurd (omega (arith, more, a, b, n))
 
   pub row_counted : (row : Row) (es : List (ℕ × ℚ)) → es ≡ entries row → RisesFrom 0 es
-      → (All (λ e. get_or sums e.0 zero_ℚ ≡ e.1) es × (length (filter is_nonzero (map (pick sums) xs)) ≡ length es)) ↔ ((j : ℕ) → get_or sums j zero_ℚ ≡ at row j)
-  row_counted row es e r = (λ h j. there h j (zero_or_not (coefficient es j)), λ h. (each.1 (λ j n. h j ∙ sym (co j)), same_count es r (λ j. h j ∙ sym (co j))))
+      → (All (λ e. get_or sums e.0 zero_ℚ ≡ e.1) es
+      × (length (filter is_nonzero (map (pick sums) xs)) ≡ length es))
+      ↔ ((j : ℕ) → get_or sums j zero_ℚ ≡ at row j)
+  row_counted row es e r = (
+    λ h j. there h j (zero_or_not (coefficient es j)),
+    λ h. (each.1 (λ j n. h j ∙ sym (co j)), same_count es r (λ j. h j ∙ sym (co j))),
+  )
     where
       co : (j : ℕ) → coefficient es j ≡ at row j
       co j = ap (λ ys. coefficient ys j) e ∙ coefficient_at row (subst (RisesFrom 0) e r) j
 
-      each : All (λ (p : ℕ × ℚ). get_or sums p.0 zero_ℚ ≡ p.1) es ↔ ((j : ℕ) → coefficient es j ≢ zero_ℚ → get_or sums j zero_ℚ ≡ coefficient es j)
+      each : All (λ (p : ℕ × ℚ). get_or sums p.0 zero_ℚ ≡ p.1) es
+          ↔ ((j : ℕ) → coefficient es j ≢ zero_ℚ → get_or sums j zero_ℚ ≡ coefficient es j)
       each = entries_each (λ j x. get_or sums j zero_ℚ ≡ x) 0 es r
 
-      there : (All (λ (p : ℕ × ℚ). get_or sums p.0 zero_ℚ ≡ p.1) es × (length these ≡ length es)) → (j : ℕ) → (coefficient es j ≡ zero_ℚ) ⊎ ¬ (coefficient es j ≡ zero_ℚ) → get_or sums j zero_ℚ ≡ at row j
+      there : (All (λ (p : ℕ × ℚ). get_or sums p.0 zero_ℚ ≡ p.1) es × (length these ≡ length es))
+          → (j : ℕ) → (coefficient es j ≡ zero_ℚ) ⊎ ¬ (coefficient es j ≡ zero_ℚ)
+          → get_or sums j zero_ℚ ≡ at row j
       there h j (inl z) = none_left_over es r (each.0 h.0) h.1 j z ∙ sym z ∙ co j
       there h j (inr n) = each.0 h.0 j n ∙ co j
 
@@ -150,7 +180,9 @@ all_zero_listed sums xs covers all j = by (zero_or_not (get_or sums j zero_ℚ))
   where
     by : (get_or sums j zero_ℚ ≡ zero_ℚ) ⊎ ¬ (get_or sums j zero_ℚ ≡ zero_ℚ) → get_or sums j zero_ℚ ≡ zero_ℚ
     by (inl e) = e
-    by (inr n) = let at = covers j n in ap (λ k. get_or sums k zero_ℚ) (sym (get_or_default xs at.0 0 j at.1 ∙ at.2)) ∙ all at.0 at.1
+    by (inr n) =
+        let at = covers j n in
+        ap (λ k. get_or sums k zero_ℚ) (sym (get_or_default xs at.0 0 j at.1 ∙ at.2)) ∙ all at.0 at.1
 
 pub same_test : (a b : ℕ) → a ≡ b → nat_eq a b ≡ true
 same_test a b e = grind (arith, nat_tests)

@@ -23,7 +23,12 @@ pub also_within : {xs ys : List ℚ} {i : ℕ} → xs ≡ ys → i < length ys �
 also_within {xs} {ys} {i} e h = subst (λ l. i < length l) (sym e) h
 
 pub marked_below : (marks : List Bool) (j : ℕ) → get_or marks j false ≡ true → j < length marks
-marked_below marks j t = elim (cases_lt j (length marks)) [ inl l ↦ l | inr past ↦ absurd (let e = get_or_past marks j false past in cc) ]
+marked_below marks j t =
+    elim (cases_lt j (length marks)) [
+      | inl l ↦ l
+      | inr past ↦
+          absurd (let e = get_or_past marks j false past in cc)
+    ]
 
 itself : (j : ℕ) → nat_eq j j ≡ true
 itself j = grind (arith, nat_tests)
@@ -39,7 +44,9 @@ or_false a = grind arith
 
 -- ---- one more place in a list
 pub unmarked_more : (list : List ℕ) (v j : ℕ) → j ≢ v → list_any (nat_eq j) list ≡ list_any (nat_eq j) (list ++ v ∷ [])
-unmarked_more list v j n = sym (list_any-append (nat_eq j) list (v ∷ []) ∙ ap (λ b. list_any (nat_eq j) list || (b || false)) (other j v n) ∙ or_false _)
+unmarked_more list v j n =
+    sym (list_any-append (nat_eq j) list (v ∷ [])
+    ∙ ap (λ b. list_any (nat_eq j) list || (b || false)) (other j v n) ∙ or_false _)
 
 pub marked_more : (marks : List Bool) (list : List ℕ) (v j : ℕ) → v < length marks
     → get_or marks j false ≡ list_any (nat_eq j) list
@@ -47,11 +54,16 @@ pub marked_more : (marks : List Bool) (list : List ℕ) (v j : ℕ) → v < leng
 marked_more marks list v j l is = by (cases_eq j v)
   where
     by : (j ≡ v) ⊎ (j ≢ v) → get_or (slice_set marks v true) j false ≡ list_any (nat_eq j) (list ++ v ∷ [])
-    by (inl e) = ap (λ k. get_or (slice_set marks v true) k false) e ∙ get_or-set_same marks v true false l ∙ sym (list_any-append (nat_eq j) list (v ∷ []) ∙ ap (λ b. list_any (nat_eq j) list || (b || false)) (ap (λ k. nat_eq j k) (sym e) ∙ itself j) ∙ or_true _)
+    by (inl e) = ap (λ k. get_or (slice_set marks v true) k false) e
+        ∙ get_or-set_same marks v true false l
+        ∙ sym (list_any-append (nat_eq j) list (v ∷ [])
+        ∙ ap (λ b. list_any (nat_eq j) list || (b || false)) (ap (λ k. nat_eq j k) (sym e)
+        ∙ itself j) ∙ or_true _)
     by (inr n) = get_or-set_other marks v j true false n ∙ is ∙ unmarked_more list v j n
 
 -- ---- one more touched variable
-module _ (marks : List Bool) (touched : List ℕ) (v : ℕ) (l : v < length marks) (m : get_or marks v false ≡ false) (t : Touching marks touched) where
+module _ (marks : List Bool) (touched : List ℕ) (v : ℕ) (l : v < length marks)
+    (m : get_or marks v false ≡ false) (t : Touching marks touched) where
   distinct_more : IsDistinct nat_eq (touched ++ v ∷ [])
   distinct_more = IsDistinct-push nat_eq_equiv touched v t.distinct (sym (t.listed v) ∙ m)
 
@@ -63,7 +75,8 @@ module _ (marks : List Bool) (touched : List ℕ) (v : ℕ) (l : v < length mark
 
   pub touch_room : length touched < length marks
   touch_room =
-      let all = length-le_from_distinct_below (touched ++ v ∷ []) (length (slice_set marks v true)) distinct_more (λ q h. marked_below (slice_set marks v true) q (listed_more q ∙ h)) in
+      let all = length-le_from_distinct_below (touched ++ v ∷ []) (length (slice_set marks v true))
+      distinct_more (λ q h. marked_below (slice_set marks v true) q (listed_more q ∙ h)) in
       omega (arith, all, length_push touched v, length-set marks v true)
 
 -- ---- terms, in their order
@@ -71,14 +84,20 @@ pub next : {A : Type 0} (es : List A) (i : ℕ) (p : A) → i < length es → p 
     → drop i es ≡ p ∷ drop (i + 1) es
 next es i p l e = rw add-one (drop-cons es i p l ∙ ap (λ x. x ∷ drop (suc i) es) (sym e))
 
-module _ (sums : List ℚ) (m : ℚ) (es : List (ℕ × ℚ)) (i : ℕ) (p : ℕ × ℚ) (l : i < length es) (e : p ≡ get_or es i p) where
+module _ (sums : List ℚ) (m : ℚ) (es : List (ℕ × ℚ)) (i : ℕ) (p : ℕ × ℚ) (l : i < length es)
+    (e : p ≡ get_or es i p) where
   pub next_sums : with_terms sums m (drop i es) ≡ with_terms (with_term sums m p) m (drop (i + 1) es)
   unfolding with_terms
   next_sums = ap (with_terms sums m) (next es i p l e)
 
-  pub next_fits : TermsFitIn sums m (drop i es) ↔ (TermFits (get_or sums p.0 zero_ℚ) m p.1 × TermsFitIn (with_term sums m p) m (drop (i + 1) es))
+  pub next_fits : TermsFitIn sums m (drop i es)
+      ↔ (TermFits (get_or sums p.0 zero_ℚ) m p.1 × TermsFitIn (with_term sums m p) m
+      (drop (i + 1) es))
   unfolding TermsFitIn
-  next_fits = (λ h. subst (TermsFitIn sums m) (next es i p l e) h, λ h. subst (TermsFitIn sums m) (sym (next es i p l e)) h)
+  next_fits = (
+    λ h. subst (TermsFitIn sums m) (next es i p l e) h,
+    λ h. subst (TermsFitIn sums m) (sym (next es i p l e)) h,
+  )
 
 -- a sum that changes at a marked variable
 pub covers_set : (sums : List ℚ) (marks : List Bool) (v : ℕ) (x : ℚ) → v < length sums
@@ -98,12 +117,14 @@ pub touched_at_first : (n m : ℕ) (list : List ℕ) → list ≡ [] → n ≤ m
     → AreTouched (replicate n false) list m
 touched_at_first n m list e le = record {
   room = (let l = length-replicate n false in omega (arith, l, le));
-  touching = subst (Touching (replicate n false)) (sym e) (record { listed = λ j. none j (cases_lt j n); distinct = nothing_distinct });
+  touching = subst (Touching (replicate n false)) (sym e)
+      (record { listed = λ j. none j (cases_lt j n); distinct = nothing_distinct });
 }
   where
     none : (j : ℕ) → (j < n) ⊎ (n ≤ j) → get_or (replicate n false) j false ≡ false
     none j (inl l) = get_or-replicate n j false false l
-    none j (inr past) = get_or_past (replicate n false) j false (let e = length-replicate n false in omega (arith, e, past))
+    none j (inr past) = get_or_past (replicate n false) j false (let e = length-replicate n false in
+        omega (arith, e, past))
 
 pub covered_at_first : (n : ℕ) → AreCovered (replicate n zero_ℚ) (replicate n false)
 covered_at_first n = record {
@@ -113,14 +134,16 @@ covered_at_first n = record {
   where
     zero : (j : ℕ) → (j < n) ⊎ (n ≤ j) → get_or (replicate n zero_ℚ) j zero_ℚ ≡ zero_ℚ
     zero j (inl l) = get_or-replicate n j zero_ℚ zero_ℚ l
-    zero j (inr past) = get_or_past (replicate n zero_ℚ) j zero_ℚ (let e = length-replicate n zero_ℚ in omega (arith, e, past))
+    zero j (inr past) = get_or_past (replicate n zero_ℚ) j zero_ℚ
+        (let e = length-replicate n zero_ℚ in omega (arith, e, past))
 
 -- a place is touched, and its sum changes
 pub covered_set : (sums : List ℚ) (marks : List Bool) (v : ℕ) (x : ℚ) → v < length sums
     → AreCovered sums marks → AreCovered (slice_set sums v x) (slice_set marks v true)
 covered_set sums marks v x l k = record {
   places = length-set marks v true ∙ k.places ∙ sym (length-set sums v x);
-  covers = covers_set sums (slice_set marks v true) v x l here (covers_more sums marks (slice_set marks v true) stays k.covers);
+  covers = covers_set sums (slice_set marks v true) v x l here
+      (covers_more sums marks (slice_set marks v true) stays k.covers);
 }
   where
     here : get_or (slice_set marks v true) v false ≡ true
@@ -151,7 +174,9 @@ no_more sums m es i h = ap (with_terms sums m) (drop_all i es h)
 -- ---- setting sums back
 pub touched_below : (marks : List Bool) (touched items : List ℕ) (i : ℕ) → Touching marks touched
     → items ≡ touched → i < length items → get_or items i 0 < length marks
-touched_below marks touched items i t e l = marked_below marks _ (t.listed _ ∙ rw (← e) (list_any_at (nat_eq (get_or items i 0)) items i 0 l (itself _)))
+touched_below marks touched items i t e l =
+    marked_below marks _
+    (t.listed _ ∙ rw (← e) (list_any_at (nat_eq (get_or items i 0)) items i 0 l (itself _)))
 
 none_there : (items : List ℕ) (i j : ℕ) → length items ≤ i
     → list_any (nat_eq j) (drop i items) ≡ true → ⊥
@@ -160,12 +185,20 @@ none_there items i j h t = absurd (let e = ap (list_any (nat_eq j)) (drop_all i 
 pub all_zero : (sums : List ℚ) (items : List ℕ) (i : ℕ) → length items ≤ i
     → ((j : ℕ) → get_or sums j zero_ℚ ≢ zero_ℚ → list_any (nat_eq j) (drop i items) ≡ true)
     → (j : ℕ) → get_or sums j zero_ℚ ≡ zero_ℚ
-all_zero sums items i h left j = elim (zero_or_not (get_or sums j zero_ℚ)) [ inl e ↦ e | inr n ↦ absurd (none_there items i j h (left j n)) ]
+all_zero sums items i h left j =
+    elim (zero_or_not (get_or sums j zero_ℚ)) [
+      | inl e ↦ e
+      | inr n ↦
+          absurd (none_there items i j h (left j n))
+    ]
 
 pub none_touched : (marks : List Bool) (items : List ℕ) (i : ℕ) → length items ≤ i
     → ((j : ℕ) → get_or marks j false ≡ true → list_any (nat_eq j) (drop i items) ≡ true)
     → Touching marks []
-none_touched marks items i h left = record { listed = λ j. by (get_or marks j false) refl j; distinct = nothing_distinct }
+none_touched marks items i h left = record {
+  listed = λ j. by (get_or marks j false) refl j;
+  distinct = nothing_distinct;
+}
   where
     by : (b : Bool) → b ≡ b → (j : ℕ) → get_or marks j false ≡ false
     by b e j = at (get_or marks j false) refl
@@ -176,22 +209,31 @@ none_touched marks items i h left = record { listed = λ j. by (get_or marks j f
 
 pub all_false : (marks : List Bool) (n : ℕ) → length marks ≡ n → Touching marks []
     → marks ≡ replicate n false
-all_false marks n e none = same_lists _ _ (e ∙ sym (length-replicate n false)) (λ k d l. get_or_default marks k d false l ∙ none.listed k ∙ sym (get_or-replicate n k false d (omega (arith, e, l))))
+all_false marks n e none = same_lists _ _ (e ∙ sym (length-replicate n false))
+    (λ k d l. get_or_default marks k d false l ∙ none.listed k
+    ∙ sym (get_or-replicate n k false d (omega (arith, e, l))))
 
 -- ---- the sums that are not 0
 abbrev pub pick : List ℚ → ℕ → ℕ × ℚ
 pick sums j = (j, get_or sums j zero_ℚ)
 
-module _ (sums : List ℚ) (touched : List ℕ) (i : ℕ) (x : ℚ) (l : i < length touched) (w : get_or touched i 0 < length sums) (r : x ≡ get_or sums (get_or touched i 0) x) (es : List (ℕ × ℚ)) (so : es ≡ filter is_nonzero (take i (map (pick sums) touched))) where
+module _ (sums : List ℚ) (touched : List ℕ) (i : ℕ) (x : ℚ) (l : i < length touched)
+    (w : get_or touched i 0 < length sums) (r : x ≡ get_or sums (get_or touched i 0) x)
+    (es : List (ℕ × ℚ)) (so : es ≡ filter is_nonzero (take i (map (pick sums) touched))) where
   picked : get_or (map (pick sums) touched) i (0, zero_ℚ) ≡ (get_or touched i 0, x)
-  picked = get_or-map (pick sums) touched i 0 (0, zero_ℚ) l ∙ ap (λ y. (get_or touched i 0, y)) (get_or_default sums (get_or touched i 0) zero_ℚ x w ∙ sym r)
+  picked = get_or-map (pick sums) touched i 0 (0, zero_ℚ) l
+      ∙ ap (λ y. (get_or touched i 0, y)) (get_or_default sums (get_or touched i 0) zero_ℚ x w
+      ∙ sym r)
 
-  one_more : filter is_nonzero (take (i + 1) (map (pick sums) touched)) ≡ es ++ cond (is_nonzero (get_or touched i 0, x)) ((get_or touched i 0, x) ∷ []) []
+  one_more : filter is_nonzero (take (i + 1) (map (pick sums) touched)) ≡ es
+      ++ cond (is_nonzero (get_or touched i 0, x)) ((get_or touched i 0, x) ∷ []) []
   one_more =
-      filter_more is_nonzero (map (pick sums) touched) i (0, zero_ℚ) (let e = length-map touched (pick sums) in omega (arith, e, l))
+      filter_more is_nonzero (map (pick sums) touched) i (0, zero_ℚ)
+      (let e = length-map touched (pick sums) in omega (arith, e, l))
       ∙ ap₂ (λ a b. a ++ cond (is_nonzero b) (b ∷ []) []) (sym so) picked
 
-  pub kept : int_eq x.numer (pos 0) ≡ false → es ++ (get_or touched i 0, x) ∷ [] ≡ filter is_nonzero (take (i + 1) (map (pick sums) touched))
+  pub kept : int_eq x.numer (pos 0) ≡ false → es ++ (get_or touched i 0, x) ∷ [] ≡ filter is_nonzero
+      (take (i + 1) (map (pick sums) touched))
   kept f = sym (one_more ∙ ap (λ b. es ++ cond (not b) ((get_or touched i 0, x) ∷ []) []) f)
 
   pub left_out : int_eq x.numer (pos 0) ≡ true → es ≡ filter is_nonzero (take (i + 1) (map (pick sums) touched))

@@ -38,7 +38,12 @@ set_below : (low : ℕ) (xs : List ℚ) (es : List (ℕ × ℚ)) (j : ℕ) → R
     → get_or (with_set xs es) j zero_ℚ ≡ get_or xs j zero_ℚ
 unfolding with_set
 set_below low xs [] j r l = refl
-set_below low xs (p ∷ ps) j r l = grind (arith, set_below (p.0 + 1) (slice_set xs p.0 p.1) ps j r.2 (omega (arith, r.0, l)), get_or-set_other)
+set_below low xs (p ∷ ps) j r l =
+    grind (
+      arith,
+      set_below (p.0 + 1) (slice_set xs p.0 p.1) ps j r.2 (omega (arith, r.0, l)),
+      get_or-set_other,
+    )
 
 -- over places that are 0, each has its coefficient
 set_at : (low : ℕ) (xs : List ℚ) (es : List (ℕ × ℚ)) (j : ℕ) → RisesFrom low es → low ≤ j
@@ -49,21 +54,37 @@ set_at low xs [] j r a l none = none j a
 set_at low xs (p ∷ ps) j r a l none =
     let within : j < length (slice_set xs p.0 p.1) = (let s = length-set xs p.0 p.1 in omega (arith, s, l)) in
     by (cases_lt j p.0) (cases_eq j p.0)
-    (λ later. set_at (p.0 + 1) (slice_set xs p.0 p.1) ps j r.2 later within (λ k b. get_or-set_other xs p.0 k p.1 zero_ℚ (λ e. absurd (omega (arith, b, e))) ∙ none k (let h : low ≤ p.0 = r.0 in omega (arith, b, h))))
+    (λ later. set_at (p.0 + 1) (slice_set xs p.0 p.1) ps j r.2 later within
+    (λ k b. get_or-set_other xs p.0 k p.1 zero_ℚ (λ e. absurd (omega (arith, b, e)))
+    ∙ none k (let h : low ≤ p.0 = r.0 in omega (arith, b, h))))
   where
-    by : (j < p.0) ⊎ (p.0 ≤ j) → (j ≡ p.0) ⊎ (j ≢ p.0) → (p.0 + 1 ≤ j → get_or (with_set (slice_set xs p.0 p.1) ps) j zero_ℚ ≡ coefficient ps j) → get_or (with_set (slice_set xs p.0 p.1) ps) j zero_ℚ ≡ coefficient (p ∷ ps) j
+    by : (j < p.0) ⊎ (p.0 ≤ j) → (j ≡ p.0) ⊎ (j ≢ p.0)
+        → (p.0 + 1 ≤ j → get_or (with_set (slice_set xs p.0 p.1) ps) j zero_ℚ ≡ coefficient ps j)
+        → get_or (with_set (slice_set xs p.0 p.1) ps) j zero_ℚ ≡ coefficient (p ∷ ps) j
     by x (inl e) further =
         let within : p.0 < length xs = omega (arith, e, l) in
-        set_below (p.0 + 1) (slice_set xs p.0 p.1) ps j r.2 (omega (arith, e)) ∙ ap (λ k. get_or (slice_set xs p.0 p.1) k zero_ℚ) e ∙ get_or-set_same xs p.0 p.1 zero_ℚ within ∙ sym (coefficient_here p ps j e)
+        set_below (p.0 + 1) (slice_set xs p.0 p.1) ps j r.2 (omega (arith, e))
+        ∙ ap (λ k. get_or (slice_set xs p.0 p.1) k zero_ℚ) e
+        ∙ get_or-set_same xs p.0 p.1 zero_ℚ within ∙ sym (coefficient_here p ps j e)
     by (inl before) (inr n) further =
-        set_below (p.0 + 1) (slice_set xs p.0 p.1) ps j r.2 (omega (arith, before)) ∙ get_or-set_other xs p.0 j p.1 zero_ℚ n ∙ none j a
+        set_below (p.0 + 1) (slice_set xs p.0 p.1) ps j r.2 (omega (arith, before))
+        ∙ get_or-set_other xs p.0 j p.1 zero_ℚ n ∙ none j a
         ∙ sym (coefficient_later p ps j n ∙ coefficient_below (p.0 + 1) ps j (omega (arith, before)) r.2)
     by (inr past) (inr n) further =
         let later : p.0 + 1 ≤ j = omega (arith, past, n) in further later ∙ sym (coefficient_later p ps j n)
 
 pub laid_out : (n : ℕ) (row : Row) (es : List (ℕ × ℚ)) (old xs : List ℚ) → es ≡ entries row
     → RisesFrom 0 es → old ≡ replicate n zero_ℚ → xs ≡ with_set old es → IsLaidOut n (at row) xs
-laid_out n row es old xs list rising start set = grind (arith, length-with_set, length-replicate, set_at, coefficient_at, get_or-replicate, get_or_past)
+laid_out n row es old xs list rising start set =
+    grind (
+      arith,
+      length-with_set,
+      length-replicate,
+      set_at,
+      coefficient_at,
+      get_or-replicate,
+      get_or_past,
+    )
 
 -- ---- coordinates that aren't whole
 whole_zero : IsWhole zero_ℚ
@@ -72,7 +93,8 @@ whole_zero = (pos 0, refl)
 rises_drop : (low : ℕ) (es : List (ℕ × ℚ)) (i : ℕ) → RisesFrom low es → RisesFrom low (drop i es)
 rises_drop low es zero r = r
 rises_drop low [] (suc i) r = tt
-rises_drop low (e ∷ es) (suc i) r = rises_from low (e.0 + 1) (drop i es) (let h : low ≤ e.0 = r.0 in omega (arith, h)) (rises_drop (e.0 + 1) es i r.2)
+rises_drop low (e ∷ es) (suc i) r = rises_from low (e.0 + 1) (drop i es) (let h : low ≤ e.0 = r.0 in
+    omega (arith, h)) (rises_drop (e.0 + 1) es i r.2)
 
 -- an integer variable is whole, or stands among the entries that are left
 abbrev pub WholeOrLeft : Ints → Row → List (ℕ × ℚ) → Type 0
@@ -88,7 +110,8 @@ module _ (integers : Ints) (row : Row) (es : List (ℕ × ℚ)) (r : RisesFrom 0
   pub none_left_whole : (i : ℕ) → length es ≤ i → WholeOrLeft integers row (drop i es) → AreWhole integers row
   none_left_whole i past h j integer = grind (arith, drop_all)
 
-  module _ (i : ℕ) (p : ℕ × ℚ) (l : i < length es) (e : p ≡ get_or es i p) (h : WholeOrLeft integers row (drop i es)) where
+  module _ (i : ℕ) (p : ℕ × ℚ) (l : i < length es) (e : p ≡ get_or es i p)
+      (h : WholeOrLeft integers row (drop i es)) where
     rest : drop i es ≡ p ∷ drop (i + 1) es
     rest = next es i p l e
 
@@ -98,7 +121,8 @@ module _ (integers : Ints) (row : Row) (es : List (ℕ × ℚ)) (r : RisesFrom 0
       | inr at_rest ↦ by (at_rest ∙ ap (λ xs. coefficient xs j) rest) (cases_eq j p.0)
     ]
       where
-        by : at row j ≡ coefficient (p ∷ drop (i + 1) es) j → (j ≡ p.0) ⊎ (j ≢ p.0) → IsWhole (at row j) ⊎ (at row j ≡ coefficient (drop (i + 1) es) j)
+        by : at row j ≡ coefficient (p ∷ drop (i + 1) es) j → (j ≡ p.0) ⊎ (j ≢ p.0)
+            → IsWhole (at row j) ⊎ (at row j ≡ coefficient (drop (i + 1) es) j)
         by k (inl same) = elim fine [
           | inl w ↦ inl (subst IsWhole (sym (k ∙ coefficient_here p (drop (i + 1) es) j same)) w)
           | inr out ↦ absurd (out (subst (IsInteger integers) same integer))
@@ -108,7 +132,8 @@ module _ (integers : Ints) (row : Row) (es : List (ℕ × ℚ)) (r : RisesFrom 0
     pub first_found : IsInteger integers p.0 → ¬ IsWhole p.1 → IsFirstFractional integers row p
     first_found integer fractional = record {
       integer = integer;
-      coordinate = sym (is_listed p.0) ∙ ap (coefficient es) (ap (λ (q : ℕ × ℚ). q.0) e) ∙ at_place 0 es i p r l ∙ ap (λ (q : ℕ × ℚ). q.1) (sym e);
+      coordinate = sym (is_listed p.0) ∙ ap (coefficient es) (ap (λ (q : ℕ × ℚ). q.0) e)
+          ∙ at_place 0 es i p r l ∙ ap (λ (q : ℕ × ℚ). q.1) (sym e);
       fractional = fractional;
       least = λ j below whole. elim (h j whole) [
         | inl w ↦ w
@@ -117,13 +142,17 @@ module _ (integers : Ints) (row : Row) (es : List (ℕ × ℚ)) (r : RisesFrom 0
     }
       where
         from_here : RisesFrom p.0 (drop i es)
-        from_here = let s = subst (RisesFrom 0) rest (rises_drop 0 es i r) in subst (RisesFrom p.0) (sym rest) (omega arith, s.1, s.2)
+        from_here =
+            let s = subst (RisesFrom 0) rest (rises_drop 0 es i r) in
+            subst (RisesFrom p.0) (sym rest) (omega arith, s.1, s.2)
 
 -- ---- points that agree below n
 point_value : (n : ℕ) (row x y : ℕ → ℚ) → ((j : ℕ) → j < n → x j ≡ y j)
     → value n row x ≡ value n row y
 point_value zero row x y same = refl
-point_value (suc n) row x y same = ap₂ (λ v c. v +ℚ row n *ℚ c) (point_value n row x y (λ j l. same j (omega arith))) (same n (omega arith))
+point_value (suc n) row x y same =
+    ap₂ (λ v c. v +ℚ row n *ℚ c) (point_value n row x y (λ j l. same j (omega arith)))
+    (same n (omega arith))
 
 point_fits : (n : ℕ) (row x y : ℕ → ℚ) → ((j : ℕ) → j < n → x j ≡ y j) → ValueFits n row x
     → ValueFits n row y
@@ -134,4 +163,8 @@ module _ (n : ℕ) (x : Point) (xs : List ℚ) (laid : IsLaidOut n x xs) (row : 
   laid_value = point_value n row (point_of xs) x laid.coordinates
 
   pub laid_fits : ValueFits n row (point_of xs) ↔ ValueFits n row x
-  laid_fits = (point_fits n row (point_of xs) x laid.coordinates, point_fits n row x (point_of xs) (λ j l. sym (laid.coordinates j l)))
+  laid_fits = (
+    point_fits n row (point_of xs) x laid.coordinates,
+    point_fits n row x (point_of xs)
+        (λ j l. sym (laid.coordinates j l)),
+  )

@@ -42,7 +42,9 @@ rounding_dominates c (Row e) d h = (λ l. inr (k, h.2.1, subst (λ x. Dominates 
 
     back : DominatesRounded (condition_of c) d → Dominates (condition_of e) d
     back (inl l) = absurd (l.1 (h.2.0, subst (λ s. RoundsTo s c.rhs h.2.0) l.0 h.2.1))
-    back (inr l) = subst (λ x. Dominates x d) (sym same) (subst (λ m. Dominates (record (condition_of c) { bound = whole m }) d) (rounds_once (sense_of c.sense) c.rhs l.0 h.2.0 l.1 h.2.1) l.2)
+    back (inr l) = subst (λ x. Dominates x d) (sym same)
+        (subst (λ m. Dominates (record (condition_of c) { bound = whole m }) d)
+        (rounds_once (sense_of c.sense) c.rhs l.0 h.2.0 l.1 h.2.1) l.2)
 rounding_dominates c Absurd d h = (λ l. inl h, λ l. tt)
 
 -- with the rounded right-hand side

@@ -60,7 +60,8 @@ rises_below x low (e ∷ es) h r = grind (arith, rises_below x (e.0 + 1) es (ome
 
 pub rises_sorted : (low : ℕ) (es : List (ℕ × ℚ)) → RisesFrom low es → T (is_sorted nat_cmp es)
 rises_sorted low [] r = tt
-rises_sorted low (e ∷ es) r = grind (arith, rises_below e.0 (e.0 + 1) es (omega arith) r.2, rises_sorted (e.0 + 1) es r.2)
+rises_sorted low (e ∷ es) r =
+    grind (arith, rises_below e.0 (e.0 + 1) es (omega arith) r.2, rises_sorted (e.0 + 1) es r.2)
 
 -- ---- look-ups
 module _ (j : ℕ) where
@@ -69,7 +70,8 @@ module _ (j : ℕ) where
   find_nonzero low (e ∷ es) r = grind (arith, find_nonzero (e.0 + 1) es r.2)
 
 pub no_zeros : (es : List (ℕ × ℚ)) → RisesFrom 0 es → HasNoZeros (from_sorted es)
-no_zeros es r = λ j. subst (λ (o : Option ℚ). IfSome o (λ a. a ≢ zero_ℚ)) (sym (get-from_sorted nat_cmp es j (rises_sorted 0 es r))) (find_nonzero j 0 es r)
+no_zeros es r = λ j. subst (λ (o : Option ℚ). IfSome o (λ a. a ≢ zero_ℚ))
+    (sym (get-from_sorted nat_cmp es j (rises_sorted 0 es r))) (find_nonzero j 0 es r)
 
 pub nonzero_from : (low : ℕ) (es : List (ℕ × ℚ)) → RisesFrom low es
     → All (λ (e : ℕ × ℚ). e.1 ≢ zero_ℚ) es
@@ -78,7 +80,9 @@ nonzero_from low (e ∷ es) r = All-cons (λ (e : ℕ × ℚ). e.1 ≢ zero_ℚ)
 
 -- the row of such entries has numbers that can be written
 pub entries_fit : (es : List (ℕ × ℚ)) → AreEntries es → RowFits (from_sorted es)
-entries_fit es a = subst (All (λ (e : ℕ × ℚ). (e.1 ≢ zero_ℚ) × IsBounded e.1)) (sym (entries-from_sorted nat_cmp es (rises_sorted 0 es a.rising))) (λ k d l. (nonzero_from 0 es a.rising k d l, a.bounded k d l))
+entries_fit es a = subst (All (λ (e : ℕ × ℚ). (e.1 ≢ zero_ℚ) × IsBounded e.1))
+    (sym (entries-from_sorted nat_cmp es (rises_sorted 0 es a.rising)))
+    (λ k d l. (nonzero_from 0 es a.rising k d l, a.bounded k d l))
 
 pub find_lookup : (q : ℕ) (es : List (ℕ × ℚ)) → find nat_cmp q es ≡ lookup (nat_eq q) es
 find_lookup q [] = refl
@@ -88,14 +92,19 @@ pub exact : (x y : ℕ) → nat_eq x y ≡ true → x ≡ y
 exact x y h = grind (arith, nat_tests)
 
 -- a look-up does not depend on the order
-module _ (q : ℕ) (xs ys : List (ℕ × ℚ)) (dx : IsDistinct nat_eq (variables_of xs)) (dy : IsDistinct nat_eq (variables_of ys)) (there : (e : ℕ × ℚ) → Contains xs e → Contains ys e) (back : (e : ℕ × ℚ) → Contains ys e → Contains xs e) where
+module _ (q : ℕ) (xs ys : List (ℕ × ℚ)) (dx : IsDistinct nat_eq (variables_of xs))
+    (dy : IsDistinct nat_eq (variables_of ys)) (there : (e : ℕ × ℚ) → Contains xs e → Contains ys e)
+    (back : (e : ℕ × ℚ) → Contains ys e → Contains xs e) where
   same_lookup : lookup (nat_eq q) xs ≡ lookup (nat_eq q) ys
   same_lookup = by (lookup (nat_eq q) xs) (lookup (nat_eq q) ys) refl refl
     where
       by : (a b : Option ℚ) → lookup (nat_eq q) xs ≡ a → lookup (nat_eq q) ys ≡ b → a ≡ b
       by None None e f = refl
-      by (Some v) b e f = sym (lookup-from_Contains nat_eq_equiv q v ys dy (there (q, v) (Contains-from_lookup exact q v xs e))) ∙ f
-      by None (Some w) e f = sym e ∙ lookup-from_Contains nat_eq_equiv q w xs dx (back (q, w) (Contains-from_lookup exact q w ys f))
+      by (Some v) b e f =
+          sym (lookup-from_Contains nat_eq_equiv q v ys dy
+          (there (q, v) (Contains-from_lookup exact q v xs e))) ∙ f
+      by None (Some w) e f = sym e ∙ lookup-from_Contains nat_eq_equiv q w xs dx
+          (back (q, w) (Contains-from_lookup exact q w ys f))
 
 -- ---- filters
 contains_cons : (x e : ℕ × ℚ) (es : List (ℕ × ℚ)) → Contains es e → Contains (x ∷ es) e
@@ -108,8 +117,11 @@ pub contains_filter : (p : ℕ × ℚ → Bool) (es : List (ℕ × ℚ)) (e : �
     → Contains es e → Contains (filter p es) e
 contains_filter p [] e t h = absurd (omega (arith, h.1))
 contains_filter p (x ∷ es) e t h = elim (contains_cases x e es h) [
-  | inl same ↦ subst (λ b. Contains (cond b (x ∷ filter p es) (filter p es)) e) (sym (ap p same ∙ t)) (0, omega arith, same)
-  | inr later ↦ let rest = contains_filter p es e t later in elim (p x) as (λ b. Contains (cond b (x ∷ filter p es) (filter p es)) e) [ true ↦ contains_cons x e _ rest | false ↦ rest ]
+  | inl same ↦ subst (λ b. Contains (cond b (x ∷ filter p es) (filter p es)) e)
+      (sym (ap p same ∙ t)) (0, omega arith, same)
+  | inr later ↦ let rest = contains_filter p es e t later in
+      elim (p x) as (λ b. Contains (cond b (x ∷ filter p es) (filter p es)) e)
+      [ true ↦ contains_cons x e _ rest | false ↦ rest ]
 ]
 
 pub contains_unfiltered : (p : ℕ × ℚ → Bool) (es : List (ℕ × ℚ)) (e : ℕ × ℚ)
@@ -124,25 +136,36 @@ find_filtered : (q : ℕ) (xs ys : List (ℕ × ℚ)) → IsPermutation xs ys �
     → find nat_cmp q (filter is_nonzero xs) ≡ find nat_cmp q (filter is_nonzero ys)
 find_filtered q xs ys p p' dx dy =
     find_lookup q _
-    ∙ same_lookup q (filter is_nonzero xs) (filter is_nonzero ys) (IsDistinct-keys_filter nat_eq is_nonzero xs dx) (IsDistinct-keys_filter nat_eq is_nonzero ys dy) (moved xs ys p) (moved ys xs p')
+    ∙ same_lookup q (filter is_nonzero xs) (filter is_nonzero ys)
+    (IsDistinct-keys_filter nat_eq is_nonzero xs dx)
+    (IsDistinct-keys_filter nat_eq is_nonzero ys dy) (moved xs ys p) (moved ys xs p')
     ∙ sym (find_lookup q _)
   where
-    moved : (xs ys : List (ℕ × ℚ)) → IsPermutation xs ys → (e : ℕ × ℚ) → Contains (filter is_nonzero xs) e → Contains (filter is_nonzero ys) e
-    moved xs ys p e h = let r = contains_unfiltered is_nonzero xs e h in contains_filter is_nonzero ys e r.1 (Contains-permutation xs ys e p r.0)
+    moved : (xs ys : List (ℕ × ℚ)) → IsPermutation xs ys → (e : ℕ × ℚ)
+        → Contains (filter is_nonzero xs) e → Contains (filter is_nonzero ys) e
+    moved xs ys p e h =
+        let r = contains_unfiltered is_nonzero xs e h in
+        contains_filter is_nonzero ys e r.1 (Contains-permutation xs ys e p r.0)
 
 -- ---- the list that a row keeps
 at_least_all : (low x : ℕ) (ys : List ℕ) → low ≤ x → AllByRecursion (λ y. nat_cmp x y ≡ Less) ys
     → AllByRecursion (λ y. low + 1 ≤ y) ys
 at_least_all low x [] le h = tt
-at_least_all low x (y ∷ ys) le h = (let l : nat_cmp x y ≡ Less = h.0 in grind (arith, nat_tests), at_least_all low x ys le h.1)
+at_least_all low x (y ∷ ys) le h =
+    (let l : nat_cmp x y ≡ Less = h.0 in grind (arith, nat_tests), at_least_all low x ys le h.1)
 
 rises_filtered : (low : ℕ) (es : List (ℕ × ℚ)) → AllByRecursion (λ y. low ≤ y) (variables_of es)
     → IsStrictlySortedBy nat_cmp (variables_of es) → RisesFrom low (filter is_nonzero es)
 rises_filtered low [] h s = tt
 rises_filtered low (e ∷ es) h s =
-    by (is_nonzero e) refl h.0 (rises_filtered (e.0 + 1) es (at_least_all e.0 e.0 (variables_of es) (omega arith) (sorted_head nat_cmp e.0 (variables_of es) s)) (sorted_tail nat_cmp e.0 (variables_of es) s))
+    by (is_nonzero e) refl h.0
+    (rises_filtered (e.0 + 1) es
+    (at_least_all e.0 e.0 (variables_of es) (omega arith)
+    (sorted_head nat_cmp e.0 (variables_of es) s))
+    (sorted_tail nat_cmp e.0 (variables_of es) s))
   where
-    by : (b : Bool) → is_nonzero e ≡ b → low ≤ e.0 → RisesFrom (e.0 + 1) (filter is_nonzero es) → RisesFrom low (cond b (e ∷ filter is_nonzero es) (filter is_nonzero es))
+    by : (b : Bool) → is_nonzero e ≡ b → low ≤ e.0 → RisesFrom (e.0 + 1) (filter is_nonzero es)
+        → RisesFrom low (cond b (e ∷ filter is_nonzero es) (filter is_nonzero es))
     by true t le rest = (le, not_zero e.1 t, rest)
     by false t le rest = rises_from low (e.0 + 1) (filter is_nonzero es) (omega arith) rest
 
@@ -156,7 +179,10 @@ pub row_kept : (es : List (ℕ × ℚ)) → IsStrictlyIncreasing (variables_of e
 row_kept es s = rises_filtered 0 es (at_least_nothing _) (sorted_from_strictly_increasing _ s)
 
 pub distinct_of_rising : (xs : List ℕ) → IsStrictlyIncreasing xs → IsDistinct nat_eq xs
-distinct_of_rising xs s = IsDistinct-from_apart nat_eq xs (λ i j d l h. let b = below_from_sorted xs i j d (sorted_from_strictly_increasing xs s) l h in grind (arith, nat_tests))
+distinct_of_rising xs s =
+    IsDistinct-from_apart nat_eq xs
+    (λ i j d l h. let b = below_from_sorted xs i j d (sorted_from_strictly_increasing xs s) l h in
+    grind (arith, nat_tests))
 
 -- the list that is kept makes the row of the pairs
 pub row_seen : (pairs es : List (ℕ × ℚ)) → IsPermutation pairs es → IsPermutation es pairs
@@ -173,12 +199,17 @@ non_decreasing_keys es n = λ i j d le l.
     let e = length-map es (λ (p : ℕ × ℚ). p.0) in
     let before : i < length es = omega (arith, e) in
     let within : j < length es = omega (arith, e) in
-    rw (get_or-map (λ (p : ℕ × ℚ). p.0) es i (d, zero_ℚ) d before, get_or-map (λ (p : ℕ × ℚ). p.0) es j (d, zero_ℚ) d within) (n i j (d, zero_ℚ) le within)
+    rw (
+      get_or-map (λ (p : ℕ × ℚ). p.0) es i (d, zero_ℚ) d before,
+      get_or-map (λ (p : ℕ × ℚ). p.0) es j (d, zero_ℚ) d within,
+    ) (n i j (d, zero_ℚ) le within)
 
 pub rising_of_sorted : (pairs es : List (ℕ × ℚ)) → IsPermutation pairs es
     → IsNonDecreasingBy (λ p. p.0) es → IsDistinct nat_eq (variables_of pairs)
     → IsStrictlyIncreasing (variables_of es)
-rising_of_sorted pairs es p n d = IsStrictlyIncreasing-from_distinct (variables_of es) (non_decreasing_keys es n) (IsDistinct-IsPermutation nat_eq (λ x y. grind (arith, nat_tests)) (variables_of pairs) (variables_of es) (IsPermutation-map (λ p. p.0) pairs es p) d)
+rising_of_sorted pairs es p n d = IsStrictlyIncreasing-from_distinct (variables_of es)
+    (non_decreasing_keys es n) (IsDistinct-IsPermutation nat_eq (λ x y. grind (arith, nat_tests))
+    (variables_of pairs) (variables_of es) (IsPermutation-map (λ p. p.0) pairs es p) d)
 
 -- ---- the test whether variables rise
 -- the last variable of a row is the greatest
@@ -221,7 +252,8 @@ falls_at es i p q some l more rising =
     let second = key_at es i q l in
     let next : i - 1 + 1 ≡ i = omega arith in
     let e = length-map es (λ (p : ℕ × ℚ). p.0) in
-    let h : get_or (variables_of es) (i - 1) 0 < get_or (variables_of es) (i - 1 + 1) 0 = rising (i - 1) (omega (arith, e)) in
+    let h : get_or (variables_of es) (i - 1) 0 < get_or (variables_of es) (i - 1 + 1) 0 =
+    rising (i - 1) (omega (arith, e)) in
     let h' = rw next at h in
     omega (arith, first, second, h')
 
@@ -236,19 +268,27 @@ module _ (es : List (ℕ × ℚ)) (i : ℕ) (p : ℕ × ℚ) (l : i < length es)
   one_more : take (i + 1) (variables_of es) ≡ take i (variables_of es) ++ p.0 ∷ []
   one_more = take_more (variables_of es) i 0 within ∙ ap (λ v. take i (variables_of es) ++ v ∷ []) here
 
-  pub first_repeated_at : IsDistinct nat_eq (take i (variables_of es)) → list_any (nat_eq p.0) (take i (variables_of es)) ≡ true → IsFirstRepeated (variables_of es) p.0
+  pub first_repeated_at : IsDistinct nat_eq (take i (variables_of es))
+      → list_any (nat_eq p.0) (take i (variables_of es)) ≡ true
+      → IsFirstRepeated (variables_of es) p.0
   first_repeated_at d t = record {
     before = take i (variables_of es);
     after = drop (i + 1) (variables_of es);
-    parts = sym (take-append-drop (i + 1) (variables_of es)) ∙ ap (λ xs. xs ++ drop (i + 1) (variables_of es)) one_more ∙ append_assoc (take i (variables_of es)) (p.0 ∷ []) (drop (i + 1) (variables_of es));
+    parts = sym (take-append-drop (i + 1) (variables_of es))
+        ∙ ap (λ xs. xs ++ drop (i + 1) (variables_of es)) one_more
+        ∙ append_assoc (take i (variables_of es)) (p.0 ∷ []) (drop (i + 1) (variables_of es));
     distinct = d;
     repeated = Contains-from_any exact p.0 (take i (variables_of es)) t;
   }
 
-  pub distinct_more : IsDistinct nat_eq (take i (variables_of es)) → list_any (nat_eq p.0) (take i (variables_of es)) ≡ false → IsDistinct nat_eq (take (i + 1) (variables_of es))
+  pub distinct_more : IsDistinct nat_eq (take i (variables_of es))
+      → list_any (nat_eq p.0) (take i (variables_of es)) ≡ false
+      → IsDistinct nat_eq (take (i + 1) (variables_of es))
   distinct_more d t = rw one_more (IsDistinct-push nat_eq_equiv (take i (variables_of es)) p.0 d t)
 
-  pub seen_more : (q : ℕ) (old new : Bool) → old ≡ list_any (nat_eq q) (take i (variables_of es)) → new ≡ cond (is_at (nat_cmp p.0) q) true old → new ≡ list_any (nat_eq q) (take (i + 1) (variables_of es))
+  pub seen_more : (q : ℕ) (old new : Bool) → old ≡ list_any (nat_eq q) (take i (variables_of es))
+      → new ≡ cond (is_at (nat_cmp p.0) q) true old
+      → new ≡ list_any (nat_eq q) (take (i + 1) (variables_of es))
   seen_more q old new a b =
       b ∙ ap (λ t. cond t true old) same ∙ either (nat_eq q p.0) old ∙ ap (λ o. o || (nat_eq q p.0 || false)) a
       ∙ sym (list_any-append (nat_eq q) (take i (variables_of es)) (p.0 ∷ [])) ∙ ap (list_any (nat_eq q)) (sym one_more)
@@ -272,7 +312,10 @@ same_entry a b = (there (nat_eq a.0 b.0) refl, back)
     there false e h = absurd (cc)
 
     back : a ≡ b → (nat_eq a.0 b.0 && eq_ℚ a.1 b.1) ≡ true
-    back e = let k : nat_eq a.0 b.0 ≡ true = let f = ap (λ (p : ℕ × ℚ). p.0) e in grind (arith, nat_tests) in ap (λ t. t && eq_ℚ a.1 b.1) k ∙ (eq_is a.1 b.1).1 (ap (λ (p : ℕ × ℚ). p.1) e)
+    back e =
+        let k : nat_eq a.0 b.0 ≡ true = let f = ap (λ (p : ℕ × ℚ). p.0) e in
+        grind (arith, nat_tests) in
+        ap (λ t. t && eq_ℚ a.1 b.1) k ∙ (eq_is a.1 b.1).1 (ap (λ (p : ℕ × ℚ). p.1) e)
 
 pub same_lists : (xs ys : List (ℕ × ℚ)) → RisesFrom 0 xs → RisesFrom 0 ys
     → ((j : ℕ) → at (from_sorted xs) j ≡ at (from_sorted ys) j) → xs ≡ ys
@@ -301,7 +344,11 @@ at-nothing j = ap (λ o. unwrap_or o zero_ℚ) (get-from_sorted nat_cmp [] j tt)
 pub empty_known : (xs : List (ℕ × ℚ)) (b : Bool) → RisesFrom 0 xs → b ≡ (length xs == 0)
     → (b ≡ true) ↔ ((j : ℕ) → at (from_sorted xs) j ≡ zero_ℚ)
 empty_known [] b r h = (λ t j. at-nothing j, λ e. h)
-empty_known (x ∷ xs) b r h = (λ t. absurd (grind (arith, nat_tests)), λ e. let is = same_lists (x ∷ xs) [] r tt (λ j. e j ∙ sym (at-nothing j)) in absurd (cc))
+empty_known (x ∷ xs) b r h = (
+  λ t. absurd (grind (arith, nat_tests)),
+  λ e. let is =
+      same_lists (x ∷ xs) [] r tt (λ j. e j ∙ sym (at-nothing j)) in absurd (cc),
+)
 
 -- ---- the row of one pair
 one_rises : (v : ℕ) → IsStrictlyIncreasing (v ∷ [])
@@ -311,7 +358,8 @@ pub one_seen : (e : ℕ × ℚ)
     → from_sorted {R = nat_cmp} (filter is_nonzero (e ∷ [])) ≡ row_of (e ∷ [])
 one_seen e =
     let one = e ∷ [] in
-    row_seen one one (IsPermutation-refl one) (IsPermutation-refl one) (distinct_of_rising _ (one_rises e.0)) (one_rises e.0)
+    row_seen one one (IsPermutation-refl one) (IsPermutation-refl one)
+    (distinct_of_rising _ (one_rises e.0)) (one_rises e.0)
 
 pub one_passes : (e : ℕ × ℚ) → is_nonzero e ≡ true → filter is_nonzero (e ∷ []) ≡ e ∷ []
 one_passes e t = ap (λ b. cond b (e ∷ []) []) t
@@ -320,4 +368,8 @@ pub one_fails : (e : ℕ × ℚ) → is_nonzero e ≡ false → filter is_nonzer
 one_fails e t = ap (λ b. cond b (e ∷ []) []) t
 
 pub one_kept : (e : ℕ × ℚ) → is_nonzero e ≡ true → IsBounded e.1 → AreEntries (e ∷ [])
-one_kept e t b = record { rising = subst (RisesFrom 0) (one_passes e t) (row_kept (e ∷ []) (one_rises e.0)); bounded = search (rules, b) }
+one_kept e t b =
+    record {
+      rising = subst (RisesFrom 0) (one_passes e t) (row_kept (e ∷ []) (one_rises e.0));
+      bounded = search (rules, b);
+    }

@@ -29,7 +29,13 @@ pub deduped_seen : (xs ys zs : List ℕ) → IsPermutation xs ys
 deduped_seen xs ys zs p f = same_set nat_cmp_total nat_cmp-IsAntisymmetric _ _ (λ q.
     member zs q
     ∙ ap (list_any (nat_eq q)) (dedup_is nat_eq ys zs f)
-    ∙ same_from_decides _ _ (is_member-Decides Decides-eqb (dedup nat_eq ys) q) (λ t. Contains-dedup_nat ys q (Contains-permutation xs ys q p ((is_member-Decides Decides-eqb xs q).0 t)), λ h. (is_member-Decides Decides-eqb xs q).1 (Contains-permutation ys xs q (IsPermutation-sym xs ys p) (Contains-from_dedup nat_eq ys q h)))
+    ∙ same_from_decides _ _ (is_member-Decides Decides-eqb (dedup nat_eq ys) q) (
+      λ t. Contains-dedup_nat ys q
+          (Contains-permutation xs ys q p ((is_member-Decides Decides-eqb xs q).0 t)),
+      λ h. (is_member-Decides Decides-eqb xs q).1
+          (Contains-permutation ys xs q (IsPermutation-sym xs ys p)
+          (Contains-from_dedup nat_eq ys q h)),
+    )
     ∙ sym (member xs q))
 
 pub deduped_rises : (ys zs : List ℕ) → IsSorted nat_cmp ys
@@ -45,15 +51,19 @@ pub found : (xs : List ℕ) (q : ℕ) (r : Result ℕ ℕ) → IsStrictlyIncreas
     → is_ok r ≡ contains (from_list {R = nat_cmp} xs) q
 found xs q r rising s = by r (searched xs q r s (order xs rising)) ∙ sym (member xs q)
   where
-    by : (r : Result ℕ ℕ) → MatchResult r (λ i. (i < length xs) × (get_or xs i 0 ≡ q)) (λ i. (i ≤ length xs) × ((k : ℕ) → k < i → get_or xs k 0 < q) × ((k : ℕ) → i ≤ k → k < length xs → q < get_or xs k 0)) → is_ok r ≡ list_any (nat_eq q) xs
+    by : (r : Result ℕ ℕ) → MatchResult r (λ i. (i < length xs) × (get_or xs i 0 ≡ q))
+        (λ i. (i ≤ length xs) × ((k : ℕ) → k < i → get_or xs k 0 < q)
+        × ((k : ℕ) → i ≤ k → k < length xs → q < get_or xs k 0)) → is_ok r ≡ list_any (nat_eq q) xs
     by (Ok i) h = sym (list_any_at (nat_eq q) xs i 0 h.0 (at (get_or xs i 0) h.1))
       where
         at : (x : ℕ) → x ≡ q → nat_eq q x ≡ true
         at x e = grind (arith, nat_tests)
-    by (Err i) h = sym (list_any_none (nat_eq q) xs (All-from_get_or (λ x. nat_eq q x ≡ false) xs 0 (λ k lt. elim (cases_lt k i) [
-      | inl before ↦ other (get_or xs k 0) (inl (h.1 k before))
-      | inr after ↦ other (get_or xs k 0) (inr (h.2 k after lt))
-    ])))
+    by (Err i) h =
+        sym (list_any_none (nat_eq q) xs
+        (All-from_get_or (λ x. nat_eq q x ≡ false) xs 0 (λ k lt. elim (cases_lt k i) [
+          | inl before ↦ other (get_or xs k 0) (inl (h.1 k before))
+          | inr after ↦ other (get_or xs k 0) (inr (h.2 k after lt))
+        ])))
       where
         other : (x : ℕ) → (x < q) ⊎ (q < x) → nat_eq q x ≡ false
         other x e = grind (arith, nat_tests)

@@ -40,7 +40,8 @@ one_read r x c e h = grind arith
 pub only_by : (i : Input) (x : Result Certificate TextError)
     → IsRead (λ c. c) x (certificate_read (text_of i)) → i.fails ≡ false → (c : Certificate)
     → Spells i.bytes c → (x ≡ Ok c) ⊎ (x ≡ Err error.Memory)
-only_by i x h e c s = one_read (certificate_read (text_of i)) x c (ap certificate_read (whole_is i e) ∙ (reads_texts i.bytes c).1 s) h
+only_by i x h e c s = one_read (certificate_read (text_of i)) x c
+    (ap certificate_read (whole_is i e) ∙ (reads_texts i.bytes c).1 s) h
 
 -- ---- the parts of a certificate, one after the other
 

@@ -50,7 +50,8 @@ bounds_next row cs n old new before next v = (
     | inl below ↦ (before v).0 ((next v).0 w).0 i below same
     | inr past ↦
         let e : n ≡ i = omega (arith, l, past) in
-        subst (λ k. Compares (nth cs k).sense v (nth cs k).bound) e (((next v).0 w).1 (subst (λ k. HasRow row (nth cs k)) (sym e) same))
+        subst (λ k. Compares (nth cs k).sense v (nth cs k).bound) e
+        (((next v).0 w).1 (subst (λ k. HasRow row (nth cs k)) (sym e) same))
   ],
   λ h. (next v).1 ((before v).1 (λ i l same. h i (omega (arith, l)) same), λ same. h n (omega arith) same),
 )

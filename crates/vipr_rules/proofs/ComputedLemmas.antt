@@ -17,11 +17,13 @@ use Rattle.vipr_rules.proofs.StepLemmas.{stops_first, stops_second, passes_both,
 use Rattle.vipr_rules.proofs.RoundLemmas.{sum_rounded}
 
 module _ (P : Profile) (c : Certificate) (d : Derivation) (es : List (ℕ × ℚ)) where
-  pub adding_stops : (k : Computed) (e : RuleError) → StopsIn P c d (sum_tests es) e → StopsIn P c d (step_tests (reason_by k es)) e
+  pub adding_stops : (k : Computed) (e : RuleError) → StopsIn P c d (sum_tests es) e
+      → StopsIn P c d (step_tests (reason_by k es)) e
   adding_stops Sum e h = stops_first P c d (sum_tests es) (by_sum es ∷ []) e h
   adding_stops Rounding e h = stops_first P c d (sum_tests es) (roundable es ∷ by_rounding es ∷ []) e h
 
-  pub computing_stops : (k : Computed) (e : RuleError) → PassesTestsIn P c d (sum_tests es) → StopsIn P c d (computed_tests k es) e → StopsIn P c d (step_tests (reason_by k es)) e
+  pub computing_stops : (k : Computed) (e : RuleError) → PassesTestsIn P c d (sum_tests es)
+      → StopsIn P c d (computed_tests k es) e → StopsIn P c d (step_tests (reason_by k es)) e
   computing_stops Sum e p h = stops_second P c d (sum_tests es) (by_sum es ∷ []) e p h
   computing_stops Rounding e p h = stops_second P c d (sum_tests es) (roundable es ∷ by_rounding es ∷ []) e p h
 
@@ -29,15 +31,20 @@ module _ (P : Profile) (c : Certificate) (d : Derivation) (es : List (ℕ × ℚ
   pub none_free : (k : Computed) → PassesTestsIn P c d (free_tests (reason_by k es))
   none_free k = grind arith
 
-  pub computed_passes : (k : Computed) (x : Condition) (stated : Constraint) (ints : Ints) → IsSum c es x → c.problem.integers ≡ ints → condition_of stated ≡ condition d.stated
+  pub computed_passes : (k : Computed) (x : Condition) (stated : Constraint) (ints : Ints)
+      → IsSum c es x → c.problem.integers ≡ ints → condition_of stated ≡ condition d.stated
       → DominatesBy k ints x (condition_of stated) → PassesTestsIn P c d (computed_tests k es)
   computed_passes Sum x stated ints summed same says h = dominated P c d es x stated summed says h
-  computed_passes Rounding x stated ints summed same says h = sum_rounded P c d es x (condition_of stated) summed ints same says h.0 h.1
+  computed_passes Rounding x stated ints summed same says h =
+      sum_rounded P c d es x (condition_of stated) summed ints same says h.0 h.1
 
   -- the outcome of these tests, and then the set
-  pub computed_ruled : (k : Computed) → PassesTestsIn P c d (sum_tests es) → (r : Result (Unit {0}) RuleError) (s : Result (FinSet nat_cmp) RuleError)
-      → MatchResult r (λ _. PassesTestsIn P c d (computed_tests k es)) (λ e. (e ≡ Memory) ⊎ StopsIn P c d (computed_tests k es) e)
-      → MatchResult s (IsSetByReason c (reason_by k es)) (λ e. e ≡ Memory) → IsRuledBy P c d (reason_by k es) (result_and r s)
+  pub computed_ruled : (k : Computed) → PassesTestsIn P c d (sum_tests es)
+      → (r : Result (Unit {0}) RuleError) (s : Result (FinSet nat_cmp) RuleError)
+      → MatchResult r (λ _. PassesTestsIn P c d (computed_tests k es))
+      (λ e. (e ≡ Memory) ⊎ StopsIn P c d (computed_tests k es) e)
+      → MatchResult s (IsSetByReason c (reason_by k es)) (λ e. e ≡ Memory)
+      → IsRuledBy P c d (reason_by k es) (result_and r s)
   computed_ruled k p r s q h = grind (arith, computing_stops, passes_both)
 
 pub set_computed : (c : Certificate) (es : List (ℕ × ℚ)) (s : FinSet nat_cmp) (k : Computed)
@@ -47,4 +54,5 @@ set_computed c es s k h = grind arith
 pub follows_true : (n : ℕ) (x : Point) (ints : Ints) (k : Computed) (held stated : Condition)
     → IsWholePoint ints x → DominatesBy k ints held stated → IsTrueAt n held x → IsTrueAt n stated x
 follows_true n x ints Sum held stated w h t = dominates_true n x held stated h t
-follows_true n x ints Rounding held stated w h t = rounded_true n x held stated (whole_value ints n x held.row h.0 w) h.1 t
+follows_true n x ints Rounding held stated w h t =
+    rounded_true n x held stated (whole_value ints n x held.row h.0 w) h.1 t

@@ -53,16 +53,21 @@ front f g xs bs rest i d b same lt at = ap (λ l. slice_index_or (l ++ rest) i d
 -- ---- the tests of one index
 module _ (P : Profile) (c : Certificate) (d : Derivation) (i : ℕ) where
   pub earlier_stops : (n : ℕ) → n ≡ count c → n ≤ i → StopsIn P c d (earlier i ∷ []) (NotEarlier i)
-  earlier_stops n is h = stops_one P c d (earlier i) (NotEarlier i) (λ lt. omega (arith, is, h, lt)) (index i, refl, refl)
+  earlier_stops n is h = stops_one P c d (earlier i) (NotEarlier i) (λ lt. omega (arith, is, h, lt))
+      (index i, refl, refl)
 
-  pub live_passes : PassesTestsIn P c d (earlier i ∷ []) → IsTrue (is_live c (count c) i) → PassesTestsIn P c d (index_tests i)
+  pub live_passes : PassesTestsIn P c d (earlier i ∷ []) → IsTrue (is_live c (count c) i)
+      → PassesTestsIn P c d (index_tests i)
   live_passes p h = passes_both P c d (earlier i ∷ []) (live i ∷ []) p (passes_one P c d (live i) h)
 
-  pub live_stops : PassesTestsIn P c d (earlier i ∷ []) → ¬ IsTrue (is_live c (count c) i) → StopsIn P c d (index_tests i) (Dropped i)
-  live_stops p bad = stops_second P c d (earlier i ∷ []) (live i ∷ []) (Dropped i) p (stops_one P c d (live i) (Dropped i) bad (index i, refl, refl))
+  pub live_stops : PassesTestsIn P c d (earlier i ∷ []) → ¬ IsTrue (is_live c (count c) i)
+      → StopsIn P c d (index_tests i) (Dropped i)
+  live_stops p bad = stops_second P c d (earlier i ∷ []) (live i ∷ []) (Dropped i) p
+      (stops_one P c d (live i) (Dropped i) bad (index i, refl, refl))
 
 -- the constraints of the problem, and the table of the derived ones
-module _ (c : Certificate) (cons : List (Named Constraint)) (t : Table) (same : map (named_of constraint_of) cons ≡ c.problem.constraints) (table : IsTableOf c t) where
+module _ (c : Certificate) (cons : List (Named Constraint)) (t : Table)
+    (same : map (named_of constraint_of) cons ≡ c.problem.constraints) (table : IsTableOf c t) where
   as_many : length c.problem.constraints ≡ length cons
   as_many = sym (simp length-map at (ap length same))
 
@@ -70,7 +75,8 @@ module _ (c : Certificate) (cons : List (Named Constraint)) (t : Table) (same : 
   items = ap (map (λ n. n.item)) (sym same) ∙ map-map (λ n. n.item) (named_of constraint_of) cons
 
   conditions : map (λ n. condition n.item) c.problem.constraints ≡ map (λ n. condition_of n.item) cons
-  conditions = sym (map-map condition (λ n. n.item) c.problem.constraints) ∙ ap (map condition) items ∙ map-map condition (λ n. constraint_of n.item) cons
+  conditions = sym (map-map condition (λ n. n.item) c.problem.constraints)
+      ∙ ap (map condition) items ∙ map-map condition (λ n. constraint_of n.item) cons
 
   derived : (i : ℕ) → length cons ≤ i → is_derived c i ≡ true
   derived i h = at_least (length c.problem.constraints) i (let e = as_many in omega (arith, e))
@@ -88,8 +94,19 @@ module _ (c : Certificate) (cons : List (Named Constraint)) (t : Table) (same : 
   pub given_is_live : (i : ℕ) → i < length cons → IsTrue (is_live c (count c) i)
   given_is_live i h = live_given c i (let e = as_many in omega (arith, e))
 
-  pub given_is_known : (i : ℕ) (n : Named Constraint) (x : Bor Constraint) → i < length cons → n ≡ get_or cons i n → x.now ≡ n.item → IsKnownAs c i (Given x)
-  given_is_known i n x h at is = search (rules, as_many, constraints_listed, front, conditions, none_in_empty, rests_given, reason_given)
+  pub given_is_known : (i : ℕ) (n : Named Constraint) (x : Bor Constraint) → i < length cons
+      → n ≡ get_or cons i n → x.now ≡ n.item → IsKnownAs c i (Given x)
+  given_is_known i n x h at is =
+      search (
+        rules,
+        as_many,
+        constraints_listed,
+        front,
+        conditions,
+        none_in_empty,
+        rests_given,
+        reason_given,
+      )
 
   pub derived_is_live : (i : ℕ) (e : Entry) → length cons ≤ i → Some e ≡ entry_at t i → IsTrue (is_live c (count c) i)
   derived_is_live i e h at = sym (derived_live i h) ∙ sym (ap is_some at)

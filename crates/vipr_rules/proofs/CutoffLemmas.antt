@@ -21,33 +21,59 @@ pub none_listed : (P : Profile) (c : Certificate) (d : Derivation)
     → IsBestValue c.problem c.solutions None → StopsIn P c d (step_tests sol) NoSolution
 none_listed P c d none = (listed, inr (none_below c.solutions none, refl), (nothing, refl, refl))
 
-module _ (P : Profile) (c : Certificate) (d : Derivation) (best : ℚ) (is : IsBestValue c.problem c.solutions (Some best)) where
+module _ (P : Profile) (c : Certificate) (d : Derivation) (best : ℚ)
+    (is : IsBestValue c.problem c.solutions (Some best)) where
   some_listed : 0 < length c.solutions
   some_listed = let h = is.0.1.1 in omega arith
 
   abbrev bound : Condition
   bound = objective_constraint c.problem (reaches c.problem.direction) best
 
-  module _ (computed stated : Constraint) (same : condition_of computed ≡ bound) (says : condition_of stated ≡ condition d.stated) where
+  module _ (computed stated : Constraint) (same : condition_of computed ≡ bound)
+      (says : condition_of stated ≡ condition d.stated) where
     pub cut_passes : Dominates (condition_of computed) (condition_of stated) → PassesTestsIn P c d (step_tests sol)
-    cut_passes h = inl (some_listed, inl ((cuts_off c (Some best) (condition d.stated) is).1 (subst (Dominates bound) says (subst (λ x. Dominates x (condition_of stated)) same h)), refl))
+    cut_passes h =
+        inl (
+          some_listed,
+          inl (
+            (cuts_off c (Some best) (condition d.stated) is).1
+                (subst (Dominates bound) says (subst (λ x. Dominates x (condition_of stated)) same h)),
+            refl,
+          ),
+        )
 
     pub cut_not_dominated : (e : RuleError) → IsNotDominated computed stated e → StopsIn P c d (step_tests sol) e
     cut_not_dominated e (this, bad) = (
       by_cutoff,
-      inl (some_listed, inr ((λ v. bad (subst (λ x. Dominates x (condition_of stated)) (sym same) (subst (Dominates bound) (sym says) ((cuts_off c (Some best) (condition d.stated) is).0 v)))), refl)),
+      inl (
+        some_listed,
+        inr (
+          (λ v. bad
+              (subst (λ x. Dominates x (condition_of stated)) (sym same)
+              (subst (Dominates bound) (sym says)
+              ((cuts_off c (Some best) (condition d.stated) is).0 v)))),
+          refl,
+        ),
+      ),
       (
         compared (condition_of computed) (condition_of stated),
         this,
         (
           is.0.0,
-          (is.0.1, subst (λ w. All (λ t. IsAsGood c.problem.direction w (objective_at c.problem (at t.item))) c.solutions) (sym is.0.2) is.1),
+          (
+            is.0.1,
+            subst
+                (λ w. All (λ t. IsAsGood c.problem.direction w (objective_at c.problem (at t.item)))
+                c.solutions) (sym is.0.2) is.1,
+          ),
           ap₂ compared (same ∙ ap (objective_constraint c.problem (reaches c.problem.direction)) (sym is.0.2)) says,
         ),
       ),
     )
 
-    pub cut_ruled : (r : Result (Unit {0}) RuleError) (s : FinSet nat_cmp) → MatchResult r (λ _. Dominates (condition_of computed) (condition_of stated)) (λ e. (e ≡ Memory) ⊎ IsNotDominated computed stated e)
+    pub cut_ruled : (r : Result (Unit {0}) RuleError) (s : FinSet nat_cmp)
+        → MatchResult r (λ _. Dominates (condition_of computed) (condition_of stated))
+        (λ e. (e ≡ Memory) ⊎ IsNotDominated computed stated e)
         → IsSetByReason c sol s → IsRuledBy P c d sol (result_and r (Ok s))
     cut_ruled r s h rests = grind (arith, cut_passes, cut_not_dominated)
 

@@ -34,17 +34,21 @@ module _ (n : ℕ) (says : ℕ → Condition) (x : Point) where
       by b h = grind arith
 
   -- what follows in a branch, where what the branch assumes is true
-  branch_true : (s r : FinSet nat_cmp) (l : ℕ) (a from : Condition) → says l ≡ a → r ≡ remove s l → IsTrueUnder n says s from x → AreTrue n says r x → IsTrueAt n a x → IsTrueAt n from x
+  branch_true : (s r : FinSet nat_cmp) (l : ℕ) (a from : Condition) → says l ≡ a → r ≡ remove s l
+      → IsTrueUnder n says s from x → AreTrue n says r x → IsTrueAt n a x → IsTrueAt n from x
   branch_true s r l a from is e under h t = under (λ b m. elim (either b l) [
     | inl same ↦ subst (λ i. IsTrueAt n (says i) x) (sym same) (subst (λ d. IsTrueAt n d x) (sym is) t)
     | inr apart ↦ h b (subst (λ v. IsTrue (contains v b)) (sym e) ((in_remove s l b).1 (m, apart)))
   ])
 
-  pub branches_true : (P : Profile) (integers : Ints) (s1 s2 r1 r2 u : FinSet nat_cmp) (l1 l2 : ℕ) (a1 a2 from1 from2 d : Condition)
+  pub branches_true : (P : Profile) (integers : Ints) (s1 s2 r1 r2 u : FinSet nat_cmp) (l1 l2 : ℕ)
+      (a1 a2 from1 from2 d : Condition)
       → says l1 ≡ a1 → says l2 ≡ a2 → r1 ≡ remove s1 l1 → r2 ≡ remove s2 l2 → u ≡ union r1 r2
       → IsTrueUnder n says s1 from1 x → IsTrueUnder n says s2 from2 x
-      → IsSplit P integers a1 a2 → Dominates from1 d → Dominates from2 d → IsWholePoint integers x → IsTrueUnder n says u d x
-  branches_true P integers s1 s2 r1 r2 u l1 l2 a1 a2 from1 from2 d is1 is2 e1 e2 e under1 under2 split dom1 dom2 whole h =
+      → IsSplit P integers a1 a2 → Dominates from1 d → Dominates from2 d → IsWholePoint integers x
+      → IsTrueUnder n says u d x
+  branches_true P integers s1 s2 r1 r2 u l1 l2 a1 a2 from1 from2 d is1 is2 e1 e2 e under1 under2
+      split dom1 dom2 whole h =
       uns_true P integers n x a1 a2 from1 from2 d (split, dom1, dom2) whole
       (branch_true s1 r1 l1 a1 from1 is1 e1 under1 (true_left r1 r2 u e h))
       (branch_true s2 r2 l2 a2 from2 is2 e2 under2 (true_right r1 r2 u e h))

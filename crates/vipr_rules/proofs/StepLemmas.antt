@@ -32,7 +32,8 @@ stops_first P c d xs ys e (t, f, known) = (t, failing_first (PassesStep P c (con
 
 pub stops_second : (P : Profile) (c : Certificate) (d : Derivation) (xs ys : List StepTest)
     (e : RuleError) → PassesTestsIn P c d xs → StopsIn P c d ys e → StopsIn P c d (xs ++ ys) e
-stops_second P c d xs ys e p (t, f, known) = (t, failing_second (PassesStep P c (condition d.stated)) xs ys (Some t) p f, known)
+stops_second P c d xs ys e p (t, f, known) =
+    (t, failing_second (PassesStep P c (condition d.stated)) xs ys (Some t) p f, known)
 
 pub passes_both : (P : Profile) (c : Certificate) (d : Derivation) (xs ys : List StepTest)
     → PassesTestsIn P c d xs → PassesTestsIn P c d ys → PassesTestsIn P c d (xs ++ ys)
@@ -42,7 +43,8 @@ module _ (P : Profile) (c : Certificate) (d : Derivation) where
   pub passes_one : (t : StepTest) → PassesStep P c (condition d.stated) t → PassesTestsIn P c d (t ∷ [])
   passes_one t h = inl (h, refl)
 
-  pub stops_one : (t : StepTest) (e : RuleError) → ¬ PassesStep P c (condition d.stated) t → ReportsTest c d e t → StopsIn P c d (t ∷ []) e
+  pub stops_one : (t : StepTest) (e : RuleError) → ¬ PassesStep P c (condition d.stated) t
+      → ReportsTest c d e t → StopsIn P c d (t ∷ []) e
   stops_one t e bad known = (t, inr (bad, refl), known)
 
 pub refusal : (P : Profile) (c : Certificate) (d : Derivation) (e : RuleError)
@@ -60,21 +62,33 @@ pub free_of_all : (P : Profile) (c : Certificate) (d : Derivation) (r : Reason)
 free_of_all P c d r p = grind arith
 
 -- ---- by `lin`
-module _ (P : Profile) (c : Certificate) (d : Derivation) (es : List (ℕ × ℚ)) (computed : Condition) (stated : Constraint) (summed : IsSum c es computed) (says : condition_of stated ≡ condition d.stated) where
+module _ (P : Profile) (c : Certificate) (d : Derivation) (es : List (ℕ × ℚ)) (computed : Condition)
+    (stated : Constraint) (summed : IsSum c es computed)
+    (says : condition_of stated ≡ condition d.stated) where
   combines : Dominates computed (condition_of stated) → Combines (entries c es) (condition d.stated)
-  combines h = (summed.0, summed.1, subst (λ x. Dominates x (condition d.stated)) summed.2 (subst (Dominates computed) says h))
+  combines h = (
+    summed.0,
+    summed.1,
+    subst (λ x. Dominates x (condition d.stated)) summed.2
+        (subst (Dominates computed) says h),
+  )
 
   combines_not : ¬ Dominates computed (condition_of stated) → ¬ Combines (entries c es) (condition d.stated)
   combines_not bad (s, h, dom) =
-      bad (subst (Dominates computed) (sym says) (subst (λ x. Dominates x (condition d.stated)) (ap (sum_of (entries c es)) (one_sense (entries c es) s summed.0 h summed.1) ∙ sym summed.2) dom))
+      bad (subst (Dominates computed) (sym says)
+      (subst (λ x. Dominates x (condition d.stated))
+      (ap (sum_of (entries c es)) (one_sense (entries c es) s summed.0 h summed.1)
+      ∙ sym summed.2) dom))
 
   pub dominated : Dominates computed (condition_of stated) → PassesTestsIn P c d (by_sum es ∷ [])
   dominated h = passes_one P c d (by_sum es) (combines h)
 
   -- the sum is laid out for what is told
-  pub not_dominated : (sum : Constraint) → condition_of sum ≡ computed → (e : RuleError) → IsNotDominated sum stated e → StopsIn P c d (by_sum es ∷ []) e
+  pub not_dominated : (sum : Constraint) → condition_of sum ≡ computed → (e : RuleError)
+      → IsNotDominated sum stated e → StopsIn P c d (by_sum es ∷ []) e
   not_dominated sum same e (is, bad) =
-      stops_one P c d (by_sum es) e (combines_not (λ h. bad (subst (λ x. Dominates x (condition_of stated)) (sym same) h)))
+      stops_one P c d (by_sum es) e
+      (combines_not (λ h. bad (subst (λ x. Dominates x (condition_of stated)) (sym same) h)))
       (compared (condition_of sum) (condition_of stated), is, (computed, summed, ap₂ compared same says))
 
 -- the same of a constraint that says what the sum says
@@ -96,11 +110,14 @@ pub follows_if_ok : {S : Type 0} (r : Result (Unit {0}) RuleError) (s : Result S
 follows_if_ok r s A B Q h f = grind arith
 
 -- a set that is found, unless a growth was refused
-module _ {E : Type 0} (found : Result (FinSet nat_cmp) E) (r : Result (FinSet nat_cmp) RuleError) (Q : FinSet nat_cmp → Type 0) where
-  pub found_or_memory : MatchResult found (λ s. r ≡ Ok s) (λ _. r ≡ Err Memory) → IfOk found Q → MatchResult r Q (λ e. e ≡ Memory)
+module _ {E : Type 0} (found : Result (FinSet nat_cmp) E) (r : Result (FinSet nat_cmp) RuleError)
+    (Q : FinSet nat_cmp → Type 0) where
+  pub found_or_memory : MatchResult found (λ s. r ≡ Ok s) (λ _. r ≡ Err Memory) → IfOk found Q
+      → MatchResult r Q (λ e. e ≡ Memory)
   found_or_memory is h = by found is h
     where
-      by : (o : Result (FinSet nat_cmp) E) → MatchResult o (λ s. r ≡ Ok s) (λ _. r ≡ Err Memory) → IfOk o Q → MatchResult r Q (λ e. e ≡ Memory)
+      by : (o : Result (FinSet nat_cmp) E) → MatchResult o (λ s. r ≡ Ok s) (λ _. r ≡ Err Memory)
+          → IfOk o Q → MatchResult r Q (λ e. e ≡ Memory)
       by (Ok s) is h = subst (λ x. MatchResult x Q (λ e. e ≡ Memory)) (sym is) h
       by (Err e) is h = subst (λ x. MatchResult x Q (λ e. e ≡ Memory)) (sym is) refl
 
@@ -127,7 +144,8 @@ pub own_set : (n a : ℕ) → IsTrue (contains (insert {R = nat_cmp} empty n) a)
 own_set n a = (λ t. out (sym (contained a) ∙ t), λ e. contained a ∙ back e)
   where
     contained : (a : ℕ) → contains (insert {R = nat_cmp} empty n) a ≡ (nat_eq a n || false)
-    contained a = contains-insert nat_cmp_total empty n a ∙ ap₂ (λ x y. x || y) (unsigned_tied a n) (contains-empty nat_cmp a)
+    contained a = contains-insert nat_cmp_total empty n a
+        ∙ ap₂ (λ x y. x || y) (unsigned_tied a n) (contains-empty nat_cmp a)
 
     out : (nat_eq a n || false) ≡ true → n ≡ a
     out h = grind (arith, nat_tests)
@@ -136,7 +154,11 @@ own_set n a = (λ t. out (sym (contained a) ∙ t), λ e. contained a ∙ back e
     back e = grind (arith, nat_tests)
 
 pub no_set : (c : Certificate) (s : FinSet nat_cmp) → s ≡ empty → IsSetByReason c sol s
-no_set c s e a = (λ t. let h : contains {R = nat_cmp} empty a ≡ true = subst (λ x. contains x a ≡ true) e t in absurd (let n = contains-empty nat_cmp a in cc), λ r. absurd r)
+no_set c s e a = (
+  λ t. let h : contains {R = nat_cmp} empty a ≡ true = subst (λ x. contains x a ≡ true) e t in
+      absurd (let n = contains-empty nat_cmp a in cc),
+  λ r. absurd r,
+)
 
 -- ---- what is kept
 pub kept_entry : (P : Profile) (c : Certificate) (d : Derivation) (e : Entry) → RefersBack c
@@ -144,14 +166,19 @@ pub kept_entry : (P : Profile) (c : Certificate) (d : Derivation) (e : Entry) �
     → condition_of e.constraint ≡ condition d.stated → IsSetByReason c d.reason e.assumptions
     → e.is_assumption ≡ is_assumption (Some d.reason) → e.last ≡ d.last
     → IsEntryOf (with_next c d) (count c) e
-kept_entry P c d e back passes says rests assumed last = grind (arith, constraint_next, rests_next, next_good, reason_next, last_next)
+kept_entry P c d e back passes says rests assumed last =
+    grind (arith, constraint_next, rests_next, next_good, reason_next, last_next)
 
 -- ---- the induction over the derivations
 pub keeps_sound : (P : Profile) (c : Certificate) (d : Derivation) → RefersBack c
     → PassesTestsIn P c d (step_tests d.reason) → KeepsSound c d
-keeps_sound P c d back passes s = let good = next_good P c d passes in sound_next P c d back good.earlier good.follows (λ i r. by i (cases_lt i (length c.problem.constraints)) (good.references i r))
+keeps_sound P c d back passes s =
+    let good = next_good P c d passes in
+    sound_next P c d back good.earlier good.follows
+    (λ i r. by i (cases_lt i (length c.problem.constraints)) (good.references i r))
   where
-    by : (i : ℕ) → (i < length c.problem.constraints) ⊎ (length c.problem.constraints ≤ i) → IsTrue (is_live c (count c) i) → IsSound c i
+    by : (i : ℕ) → (i < length c.problem.constraints) ⊎ (length c.problem.constraints ≤ i)
+        → IsTrue (is_live c (count c) i) → IsSound c i
     by i (inl given) live = sound_given c i given
     by i (inr derived) live = s i derived live
 
@@ -160,14 +187,26 @@ module _ (P : Profile) (c : Certificate) (d : Derivation) where
   pub named_stops : (r : Reason) (e : RuleError) → StopsIn P c d (named_tests r) e → StopsIn P c d (step_tests r) e
   named_stops r e s = grind (arith, failing_first, append_assoc)
 
-  entries_earlier : (es : List (ℕ × ℚ)) → PassesTestsIn P c d (flat_map reference_tests es) → All (λ e. e.0 < count c) es
+  entries_earlier : (es : List (ℕ × ℚ)) → PassesTestsIn P c d (flat_map reference_tests es)
+      → All (λ e. e.0 < count c) es
   entries_earlier [] p = All-nil (λ e. e.0 < count c)
-  entries_earlier (e ∷ es) p = let parts = failing_parts (PassesStep P c (condition d.stated)) (reference_tests e) (flat_map reference_tests es) None p in grind (arith, entries_earlier es, All-cons (λ (e : ℕ × ℚ). e.0 < count c) e es)
+  entries_earlier (e ∷ es) p =
+      let parts = failing_parts (PassesStep P c (condition d.stated)) (reference_tests e)
+      (flat_map reference_tests es) None p in
+      grind (arith, entries_earlier es, All-cons (λ (e : ℕ × ℚ). e.0 < count c) e es)
 
   named_earlier : (r : Reason) → PassesTestsIn P c d (named_tests r) → NamesEarlier (count c) (Some r)
   named_earlier r p = grind (arith, entries_earlier)
 
-  pub finds_in : (r : Reason) (x : Result (FinSet nat_cmp) RuleError) → d.reason ≡ r → FindsSetBy P c d r x → FindsSetIn P c d x
+  pub finds_in : (r : Reason) (x : Result (FinSet nat_cmp) RuleError) → d.reason ≡ r
+      → FindsSetBy P c d r x → FindsSetIn P c d x
   finds_in r x same h =
-      let found = subst (λ r. FindsSetBy P c d r x) (sym same) h in
-      (found, MatchResult-weaker x found (λ s k. named_earlier d.reason k.0) (λ e k. elim k [ inl memory ↦ inl memory | inr stops ↦ inr (refusal P c d e (named_stops d.reason e stops)) ]))
+      let found = subst (λ r. FindsSetBy P c d r x) (sym same) h in (
+        found,
+        MatchResult-weaker x found (λ s k. named_earlier d.reason k.0)
+            (λ e k. elim k [
+              | inl memory ↦ inl memory
+              | inr stops ↦
+                  inr (refusal P c d e (named_stops d.reason e stops))
+            ]),
+      )

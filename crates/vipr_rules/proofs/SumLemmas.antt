@@ -19,19 +19,29 @@ pub held_without : (n : ℕ) (es : List Entry) (e : Entry) (a : Accumulator) →
 held_without n es e a is z = record {
   variables = is.variables;
   fresh = is.fresh;
-  row_is = λ j. is.row_is j ∙ sym (sum_more (λ e. e.0 *ℚ e.1.row j) es e ∙ ap (λ m. sum_over (λ e. e.0 *ℚ e.1.row j) es +ℚ m *ℚ e.1.row j) z ∙ nothing _ (e.1.row j));
-  bound_is = is.bound_is ∙ sym (sum_more (λ e. e.0 *ℚ e.1.bound) es e ∙ ap (λ m. sum_over (λ e. e.0 *ℚ e.1.bound) es +ℚ m *ℚ e.1.bound) z ∙ nothing _ e.1.bound);
-  sense_is = joined_sense es (e ∷ []) a.sense equal a.sense is.sense_is (subst (HasSense (e ∷ [])) (turned_zero e.0 e.1.sense z) (turned_sense e.0 e.1)) (joined_equal a.sense);
+  row_is = λ j. is.row_is j
+      ∙ sym (sum_more (λ e. e.0 *ℚ e.1.row j) es e
+      ∙ ap (λ m. sum_over (λ e. e.0 *ℚ e.1.row j) es +ℚ m *ℚ e.1.row j) z ∙ nothing _ (e.1.row j));
+  bound_is = is.bound_is
+      ∙ sym (sum_more (λ e. e.0 *ℚ e.1.bound) es e
+      ∙ ap (λ m. sum_over (λ e. e.0 *ℚ e.1.bound) es +ℚ m *ℚ e.1.bound) z ∙ nothing _ e.1.bound);
+  sense_is = joined_sense es (e ∷ []) a.sense equal a.sense is.sense_is
+      (subst (HasSense (e ∷ [])) (turned_zero e.0 e.1.sense z) (turned_sense e.0 e.1))
+      (joined_equal a.sense);
   fits = (fits_known n es e a is).0 (λ m. absurd (m z));
 }
 
 -- ---- an entry by its index
 module _ (c : Certificate) (before : List (ℕ × ℚ)) (e : ℕ × ℚ) where
-  pub entries_more : (x : Condition) → x ≡ constraint_at c e.0 → entries c (before ++ e ∷ []) ≡ entries c before ++ (e.1, x) ∷ []
-  entries_more x says = map-append (λ (e : ℕ × ℚ). (e.1, constraint_at c e.0)) before (e ∷ []) ∙ ap (λ y. entries c before ++ (e.1, y) ∷ []) (sym says)
+  pub entries_more : (x : Condition) → x ≡ constraint_at c e.0
+      → entries c (before ++ e ∷ []) ≡ entries c before ++ (e.1, x) ∷ []
+  entries_more x says = map-append (λ (e : ℕ × ℚ). (e.1, constraint_at c e.0)) before (e ∷ [])
+      ∙ ap (λ y. entries c before ++ (e.1, y) ∷ []) (sym says)
 
-  pub unused_held : (n : ℕ) (a : Accumulator) → Holds n (entries c before) a → e.1 ≡ zero_ℚ → Holds n (entries c (before ++ e ∷ [])) a
-  unused_held n a is z = subst (λ es. Holds n es a) (sym (entries_more (constraint_at c e.0) refl)) (held_without n (entries c before) (e.1, constraint_at c e.0) a is z)
+  pub unused_held : (n : ℕ) (a : Accumulator) → Holds n (entries c before) a → e.1 ≡ zero_ℚ
+      → Holds n (entries c (before ++ e ∷ [])) a
+  unused_held n a is z = subst (λ es. Holds n es a) (sym (entries_more (constraint_at c e.0) refl))
+      (held_without n (entries c before) (e.1, constraint_at c e.0) a is z)
 
 -- ---- over all points: what is held is a sum of entries that are true at x
 pub record IsTrueSum (n : ℕ) (x : Point) (a : Accumulator) : Type 0 where
@@ -47,9 +57,12 @@ pub more_true : (n : ℕ) (x : Point) (a b : Accumulator) (e : Entry) (s : IsTru
 more_true n x a b e s held t = record {
   es = s.es ++ e ∷ [];
   held = held;
-  each = All-append (IsTrueEntry n x) s.es (e ∷ []) s.each (All-cons (IsTrueEntry n x) e [] (λ m. t) (All-nil (IsTrueEntry n x)));
+  each = All-append (IsTrueEntry n x) s.es (e ∷ []) s.each
+      (All-cons (IsTrueEntry n x) e [] (λ m. t) (All-nil (IsTrueEntry n x)));
 }
 
 pub sum_is_true : (n : ℕ) (x : Point) (a : Accumulator) → IsTrueSum n x a
     → IsTrueAt n (held_condition a) x
-sum_is_true n x a s = let k = held_sum n s.es a s.held in subst (λ d. IsTrueAt n d x) (sym k.1) (sum_true n x s.es a.sense k.0 s.each)
+sum_is_true n x a s =
+    let k = held_sum n s.es a s.held in
+    subst (λ d. IsTrueAt n d x) (sym k.1) (sum_true n x s.es a.sense k.0 s.each)

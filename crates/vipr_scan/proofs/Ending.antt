@@ -20,16 +20,20 @@ pub trailing : (l : Rest) (s : TokenView) → Ok (Some s) ≡ next_answer l
 unfolding end_of
 trailing l s h = go l.tokens l.fails h
   where
-    go : (ts : List Token) (fails : Bool) → Ok (Some s) ≡ first_answer ts fails → end_of ts l ≡ Err (refused 18 s.offset)
+    go : (ts : List Token) (fails : Bool) → Ok (Some s) ≡ first_answer ts fails
+        → end_of ts l ≡ Err (refused 18 s.offset)
     go [] false e = absurd (cc)
     go [] true e = absurd (cc)
-    go (t ∷ ts) fails e = let same : s ≡ view_of_read t = (cc) in ap (λ (x : TokenView). Err (refused 18 x.offset)) (sym same)
+    go (t ∷ ts) fails e =
+        let same : s ≡ view_of_read t = (cc) in
+        ap (λ (x : TokenView). Err (refused 18 x.offset)) (sym same)
 
 pub failed : (l : Rest) → Err stop.Read ≡ next_answer l → end_read l ≡ Err unread
 unfolding end_of
 failed l h = go l.tokens l.fails refl h
   where
-    go : (ts : List Token) (fails : Bool) → fails ≡ l.fails → Err stop.Read ≡ first_answer ts fails → end_of ts l ≡ Err unread
+    go : (ts : List Token) (fails : Bool) → fails ≡ l.fails → Err stop.Read ≡ first_answer ts fails
+        → end_of ts l ≡ Err unread
     go [] false q e = absurd (cc)
     go [] true q e = rw (← q) refl
     go (t ∷ ts) fails q e = absurd (cc)

@@ -44,7 +44,10 @@ pub passed_on : {R : Type 0} (input : R → Option Input) (t : Window R) (bytes 
     (gap len : ℕ) → bytes ≡ drop (length (at_hand t) - length bytes) (at_hand t)
     → IsGapAt bytes gap → IsInFront (drop gap bytes) len
     → length bytes' ≡ length bytes - (gap + len + 1) →
-    Scans (λ (done : Unit {0}). let w : Token = record { bytes = take len (drop gap bytes); offset = offset_behind (hand_of input t) (length (at_hand t) - length bytes + gap) } in w)
+    Scans (λ (done : Unit {0}). let w : Token = record {
+      bytes = take len (drop gap bytes);
+      offset = offset_behind (hand_of input t) (length (at_hand t) - length bytes + gap);
+    } in w)
     token_read (rest_behind (hand_of input t) (length (at_hand t) - length bytes))
     (rest_behind (hand_of input t) (length (at_hand t) - length bytes')) (Ok tt)
 passed_on input t bytes bytes' gap len part is front left =
@@ -64,8 +67,13 @@ passed_on input t bytes bytes' gap len part is front left =
     let now : drop n (unread t) ≡ bytes = ap (drop n) (sym whole) ∙ sym part in
     let to : length (at_hand t) - length bytes' ≡ m = omega arith in
     let cut : drop m (unread t) ≡ drop (len + 1) (drop gap bytes) = grind (arith, drop-drop) in
-    let s : TokenView = record { bytes = take len (drop gap bytes); offset = offset_behind h (n + gap); long = false } in
+    let s : TokenView = record {
+      bytes = take len (drop gap bytes);
+      offset = offset_behind h (n + gap);
+      long = false;
+    } in
     let o : ℕ = offset_behind h n in
     rw (place, to, now) (short_known _ _ s
     (passed_answer source o s.offset bytes gap len is.within is.tokens front (omega arith) (omega arith)) refl
-    (passed_left source o s.offset (offset_behind h m) bytes (drop m (unread t)) gap len is.within is.tokens front (omega arith) (omega arith) (omega arith) cut))
+    (passed_left source o s.offset (offset_behind h m) bytes (drop m (unread t)) gap len is.within
+    is.tokens front (omega arith) (omega arith) (omega arith) cut))

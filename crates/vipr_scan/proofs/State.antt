@@ -20,7 +20,11 @@ abbrev pub left_at : Position → ℕ → List ℕ → Option Input → Option R
 left_at place offset un source = option_and_then (left_of place offset) (option_map (prepend un) source)
 
 abbrev pub left_is : Position → ℕ → List ℕ → Input → Rest
-left_is place offset un r = record { tokens = tokens_in place r.fails offset (un ++ r.bytes); fails = r.fails; length = offset + length (un ++ r.bytes) }
+left_is place offset un r = record {
+  tokens = tokens_in place r.fails offset (un ++ r.bytes);
+  fails = r.fails;
+  length = offset + length (un ++ r.bytes);
+}
 
 if_known : (b : Bool) (l : Rest) (Q : Rest → Type 0) → (b ≡ true → Q l)
     → IfSome (if b then Some l else None) Q
@@ -89,7 +93,8 @@ on_err r P p = grind arith
 -- bytes in front are where they were
 pub in_front : (old new : List ℕ) (k : ℕ) → take (length old) new ≡ old → k < length old
     → get_or new k 0 ≡ get_or old k 0
-in_front old new k front within = sym (get_or-take (length old) new k 0 within) ∙ ap (λ (xs : List ℕ). get_or xs k 0) front
+in_front old new k front within = sym (get_or-take (length old) new k 0 within)
+    ∙ ap (λ (xs : List ℕ). get_or xs k 0) front
 
 -- what is told of the input decides what is left
 pub input_keeps : (p : Position) (o o' : ℕ) (un un' : List ℕ) (source source' : Option Input)
@@ -113,24 +118,32 @@ pub token_left : (source : Option Input) (o o' : ℕ) (un un' : List ℕ) (n : �
     (Ok (Some (record { bytes = take n un; offset = o; long = false })) ≡ next_answer l)
     × (left_at Past o' un' source ≡ Some (next_left l)))
 token_left source o o' un un' n some within short solid white ends cut at =
-    known Past o un source (λ l. (Ok (Some (record { bytes = take n un; offset = o; long = false })) ≡ next_answer l) × (left_at Past o' un' source ≡ Some (next_left l))) (λ r is fits.
+    known Past o un source
+    (λ l. (Ok (Some (record { bytes = take n un; offset = o; long = false })) ≡ next_answer l)
+    × (left_at Past o' un' source ≡ Some (next_left l))) (λ r is fits.
     let a : length (un ++ r.bytes) ≡ length un + length r.bytes = length-append un r.bytes in
     let b : length (un' ++ r.bytes) ≡ length un' + length r.bytes = length-append un' r.bytes in
     let d : length un' ≡ length un - n = ap length cut ∙ length-drop n un in
     let e : o' ≡ o + n = omega arith in
     let over : Input = record { bytes = []; fails = false } in
     let last : n ≡ length un → r ≡ over = λ h. let z : source ≡ Some over = ends h in (cc) in
-    let w : tokens_from r.fails false o (un ++ r.bytes) ≡ record { bytes = take n (un ++ r.bytes); offset = o } ∷ tokens_from r.fails false (o + n) (drop n (un ++ r.bytes)) =
+    let w : tokens_from r.fails false o (un ++ r.bytes) ≡ record {
+      bytes = take n (un ++ r.bytes);
+      offset = o;
+    } ∷ tokens_from r.fails false (o + n) (drop n (un ++ r.bytes)) =
     token_whole r.fails o (un ++ r.bytes) n some (omega arith)
     (λ k h. rw (get_or_append_left un r.bytes 0 k (omega arith)) (solid k h))
     (λ h. elim (cases_lt n (length un)) [
       | inl l ↦ rw (get_or_append_left un r.bytes 0 n l) (white l)
-      | inr m ↦ let z : length r.bytes ≡ 0 = ap (λ (i : Input). length i.bytes) (last (omega arith)) in absurd (omega arith)
+      | inr m ↦ let z : length r.bytes ≡ 0 = ap (λ (i : Input). length i.bytes) (last (omega arith)) in
+          absurd (omega arith)
     ])
     (λ h. ap (λ (i : Input). i.fails) (last (omega arith))) in
     let t : take n (un ++ r.bytes) ≡ take n un = take-append-le n un r.bytes within in
-    let f : drop n (un ++ r.bytes) ≡ un' ++ r.bytes = drop-append-le n un r.bytes within ∙ ap (λ (xs : List ℕ). xs ++ r.bytes) (sym cut) in
-    let v : tokens_from r.fails false o (un ++ r.bytes) ≡ record { bytes = take n un; offset = o } ∷ tokens_from r.fails false o' (un' ++ r.bytes) =
+    let f : drop n (un ++ r.bytes) ≡ un' ++ r.bytes = drop-append-le n un r.bytes within
+    ∙ ap (λ (xs : List ℕ). xs ++ r.bytes) (sym cut) in
+    let v : tokens_from r.fails false o (un ++ r.bytes) ≡ record { bytes = take n un; offset = o }
+    ∷ tokens_from r.fails false o' (un' ++ r.bytes) =
     rw (w, t, f, e) refl in
     let u : left_at Past o' un' (Some r) ≡ Some (left_is Past o' un' r) = answers Past o' un' r (omega arith) in
     let len : length (take n un) ≡ n = length-take-le n un within in
@@ -145,15 +158,19 @@ pub long_left : (source : Option Input) (o : ℕ) (un : List ℕ) → 65536 ≤ 
     IfSome (left_at Past o un source)
     (λ l. Ok (Some (record { bytes = take 65535 un; offset = o; long = true })) ≡ next_answer l)
 long_left source o un within solid =
-    known Past o un source (λ l. Ok (Some (record { bytes = take 65535 un; offset = o; long = true })) ≡ next_answer l) (λ r is fits.
+    known Past o un source
+    (λ l. Ok (Some (record { bytes = take 65535 un; offset = o; long = true })) ≡ next_answer l)
+    (λ r is fits.
     let a : length (un ++ r.bytes) ≡ length un + length r.bytes = length-append un r.bytes in
     let solid' : (k : ℕ) → k < 65536 → is_white (get_or (un ++ r.bytes) k 0) ≡ false =
     λ k h. rw (get_or_append_left un r.bytes 0 k (omega arith)) (solid k h) in
     let m : 65536 ≤ length (un ++ r.bytes) = omega arith in
     let more : 65536 ≤ length (run (un ++ r.bytes)) = (run_from (un ++ r.bytes) 65536 m solid').0 in
-    let t : take 65535 (run (un ++ r.bytes)) ≡ take 65535 (un ++ r.bytes) = (run_from (un ++ r.bytes) 65535 (omega arith) (λ k h. solid' k (omega arith))).1 in
+    let t : take 65535 (run (un ++ r.bytes)) ≡ take 65535 (un ++ r.bytes) =
+    (run_from (un ++ r.bytes) 65535 (omega arith) (λ k h. solid' k (omega arith))).1 in
     let f : take 65535 (un ++ r.bytes) ≡ take 65535 un = take-append-le 65535 un r.bytes (omega arith) in
-    let yes : nat_lt 65535 (length (run (un ++ r.bytes))) ≡ true = lt-ltb 65535 (length (run (un ++ r.bytes))) (omega arith) in
+    let yes : nat_lt 65535 (length (run (un ++ r.bytes))) ≡ true =
+    lt-ltb 65535 (length (run (un ++ r.bytes))) (omega arith) in
     rw (token_long r.fails o (un ++ r.bytes) m solid') (rw (t, f, yes) refl))
 
 pub some_weaker : (o : Option Rest) (P Q : Rest → Type 0) → ((l : Rest) → P l → Q l) → IfSome o P
@@ -180,15 +197,26 @@ pub read_answer : (source : Option Input) (o : ℕ) (buf : List ℕ) (start end 
 read_answer source o buf start end n len shown some limit within solid white ends =
     let un : List ℕ = slice_range buf start end in
     let short : length (slice_range buf start end) ≤ end - start = part_short buf start end in
-    let front : slice_range buf start (start + len) ≡ take len (slice_range buf start end) = part_front buf start end len (omega arith) in
+    let front : slice_range buf start (start + len) ≡ take len (slice_range buf start end) =
+    part_front buf start end len (omega arith) in
     elim (cases_eq n 65536) [
       | inl h ↦
           let m : len ≡ 65535 = omega arith in
-          rw (eq-eqb n 65536 h, front, m) (long_left source o (slice_range buf start end) (omega arith) (λ k j. solid k (omega arith)))
+          rw (eq-eqb n 65536 h, front, m)
+          (long_left source o (slice_range buf start end) (omega arith)
+          (λ k j. solid k (omega arith)))
       | inr h ↦
           let m : len ≡ n = omega arith in
-          rw (ne_eqb n 65536 h, front, m) (some_weaker _ _ _ (λ (l : Rest) (p : (Ok (Some (record { bytes = take n (slice_range buf start end); offset = o; long = false })) ≡ next_answer l) × (left_at Past (min (o + n) (2 ^ 64 - 1)) (drop n (slice_range buf start end)) source ≡ Some (next_left l))). p.0)
-          (token_left source o (min (o + n) (2 ^ 64 - 1)) (slice_range buf start end) (drop n (slice_range buf start end)) n some within (omega arith) solid white
+          rw (ne_eqb n 65536 h, front, m)
+          (some_weaker _ _ _
+          (λ (l : Rest)
+          (p : (Ok (Some
+          (record { bytes = take n (slice_range buf start end); offset = o; long = false })) ≡
+          next_answer l)
+          × (left_at Past (min (o + n) (2 ^ 64 - 1)) (drop n (slice_range buf start end))
+          source ≡ Some (next_left l))). p.0)
+          (token_left source o (min (o + n) (2 ^ 64 - 1)) (slice_range buf start end)
+          (drop n (slice_range buf start end)) n some within (omega arith) solid white
           (λ e. ends (omega arith) e) refl refl))
     ]
 
@@ -201,7 +229,10 @@ pub read_left : (source : Option Input) (o o' : ℕ) (un un' : List ℕ) (n : �
     un' ≡ drop n un → o' ≡ min (o + n) (2 ^ 64 - 1) →
     IfSome (left_at Past o un source) (λ l. left_at Past o' un' source ≡ Some (next_left l))
 read_left source o o' un un' n some within short solid white ends cut at =
-    some_weaker _ _ _ (λ (l : Rest) (p : (Ok (Some (record { bytes = take n un; offset = o; long = false })) ≡ next_answer l) × (left_at Past o' un' source ≡ Some (next_left l))). p.1)
+    some_weaker _ _ _
+    (λ (l : Rest)
+    (p : (Ok (Some (record { bytes = take n un; offset = o; long = false })) ≡ next_answer l)
+    × (left_at Past o' un' source ≡ Some (next_left l))). p.1)
     (token_left source o o' un un' n some within short solid white ends cut at)
 
 -- at most 65,535 bytes of a run are a token
@@ -224,7 +255,13 @@ passed : (source : Option Input) (o o' o'' : ℕ) (un un' : List ℕ) (gap len :
     IfSome (left_at Past o un source) (λ l.
     (Ok (Some (record { bytes = take len (drop gap un); offset = o'; long = false }))
     ≡ next_answer l) × (left_at Past o'' un' source ≡ Some (next_left l)))
-passed source o o' o'' un un' gap len within same front short at behind cut = grind (arith, length-drop gap un, gap_left source Past Past o o' un (drop gap un) gap within, token_left)
+passed source o o' o'' un un' gap len within same front short at behind cut =
+    grind (
+      arith,
+      length-drop gap un,
+      gap_left source Past Past o o' un (drop gap un) gap within,
+      token_left,
+    )
 
 pub passed_answer : (source : Option Input) (o o' : ℕ) (un : List ℕ) (gap len : ℕ)
     → gap ≤ length un →
@@ -236,7 +273,11 @@ pub passed_answer : (source : Option Input) (o o' : ℕ) (un : List ℕ) (gap le
     ≡ next_answer l)
 passed_answer source o o' un gap len within same front short at =
     let mid : ℕ = min (o' + len) (2 ^ 64 - 1) in
-    some_weaker _ _ _ (λ (l : Rest) (p : (Ok (Some (record { bytes = take len (drop gap un); offset = o'; long = false })) ≡ next_answer l) × (left_at Past mid (drop len (drop gap un)) source ≡ Some (next_left l))). p.0)
+    some_weaker _ _ _
+    (λ (l : Rest)
+    (p : (Ok (Some (record { bytes = take len (drop gap un); offset = o'; long = false })) ≡
+    next_answer l) × (left_at Past mid (drop len (drop gap un)) source ≡ Some (next_left l))).
+    p.0)
     (passed source o o' mid un (drop len (drop gap un)) gap len within same front short at refl refl)
 
 -- the white space that ends a token begins none
@@ -264,7 +305,11 @@ passed_left source o o' o'' un un' gap len within same front short at behind cut
     let more : len < length token = front.within in
     let size : length (drop len token) ≡ length token - len = length-drop len token in
     let one : un' ≡ drop 1 (drop len token) = cut ∙ sym (drop-drop 1 len token) in
-    let keeps : Keeps (left_at Past mid (drop len token) source) (left_at Past o'' un' source) = grind (arith, white_taken) in
-    some_weaker _ _ _ (λ (l : Rest) (p : (Ok (Some (record { bytes = take len token; offset = o'; long = false })) ≡ next_answer l) × (left_at Past mid (drop len token) source ≡ Some (next_left l))).
+    let keeps : Keeps (left_at Past mid (drop len token) source) (left_at Past o'' un' source) =
+    grind (arith, white_taken) in
+    some_weaker _ _ _
+    (λ (l : Rest)
+    (p : (Ok (Some (record { bytes = take len token; offset = o'; long = false })) ≡ next_answer
+    l) × (left_at Past mid (drop len token) source ≡ Some (next_left l))).
     still _ _ _ keeps p.1)
     (passed source o o' mid un (drop len token) gap len within same front short at refl refl)

@@ -18,7 +18,9 @@ pub short_token : (l : Rest) (s : TokenView) → Ok (Some s) ≡ next_answer l �
 unfolding first_token
 short_token l s h short = go l.tokens l.fails h
   where
-    go : (ts : List Token) (fails : Bool) → Ok (Some s) ≡ first_answer ts fails → first_token ts (record l { tokens = ts; fails = fails }) ≡ Ok (token_seen s, next_left (record l { tokens = ts; fails = fails }))
+    go : (ts : List Token) (fails : Bool) → Ok (Some s) ≡ first_answer ts fails
+        → first_token ts (record l { tokens = ts; fails = fails }) ≡ Ok
+        (token_seen s, next_left (record l { tokens = ts; fails = fails }))
     go [] false e = cc
     go [] true e = cc
     go (t ∷ ts) fails e =
@@ -44,11 +46,14 @@ unfolding first_token
 behind_of None new answer is left = tt
 behind_of (Some l) new answer is left = go l.tokens l.fails is left
   where
-    long : (b : Bool) (t : Token) (ts : List Token) (fails : Bool) → b ≡ nat_lt 65535 (length t.bytes) → answer ≡ first_answer (t ∷ ts) fails → (stops answer ≡ false → new ≡ Some (record l { tokens = ts; fails = fails }))
+    long : (b : Bool) (t : Token) (ts : List Token) (fails : Bool)
+        → b ≡ nat_lt 65535 (length t.bytes) → answer ≡ first_answer (t ∷ ts) fails
+        → (stops answer ≡ false → new ≡ Some (record l { tokens = ts; fails = fails }))
         → IfOk (first_token (t ∷ ts) (record l { tokens = t ∷ ts; fails = fails })) (λ x. new ≡ Some x.1)
     long true t ts fails b is left = rw (← b) tt
     long false t ts fails b is left = rw (← b) (left (rw is (sym b)))
 
-    go : (ts : List Token) (fails : Bool) → answer ≡ first_answer ts fails → (stops answer ≡ false → new ≡ Some (next_left (record l { tokens = ts; fails = fails })))
+    go : (ts : List Token) (fails : Bool) → answer ≡ first_answer ts fails
+        → (stops answer ≡ false → new ≡ Some (next_left (record l { tokens = ts; fails = fails })))
         → IfOk (first_token ts (record l { tokens = ts; fails = fails })) (λ x. new ≡ Some x.1)
     go ts fails is left = grind arith

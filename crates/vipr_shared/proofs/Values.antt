@@ -31,7 +31,11 @@ mark_shown n vs s = (s.1.0 ∙ (λ i. vstruct (of_list (s.1.1.0.0 i ++ (s.1.1.1.
 
 pub mark_made : {M : Type 1} {𝓤 : Ura M} (𝓛 : Logic 𝓤) (n : ℕ) → (n < 2 ^ 64)
     → ent 𝓤 (emp 𝓤) (sem 𝓛 (mark_own n (mark_val n ∷ [])))
-mark_made 𝓛 n f = makes_shadow 𝓛 (mark_own n (mark_val n ∷ [])) (λ _. (tt, ((tt, tt), ((λ _. (tt, tt)), tt)))) ((vint w64 n ∷ [], (vstruct vnil ∷ [], tt)), (refl, ((refl, f), ((tt, (refl, tt)), tt))))
+mark_made 𝓛 n f = makes_shadow 𝓛 (mark_own n (mark_val n ∷ []))
+    (λ _. (tt, ((tt, tt), ((λ _. (tt, tt)), tt)))) (
+      (vint w64 n ∷ [], (vstruct vnil ∷ [], tt)),
+      (refl, ((refl, f), ((tt, (refl, tt)), tt))),
+    )
 
 pub mark_typed : (n : ℕ) → (n < 2 ^ 64) → T (has_ty mark_type (mark_val n)) × WT (mark_val n)
 mark_typed n f = (tt, (record { fits = f }, (tt, tt)))

@@ -16,16 +16,24 @@ module _ (P : Profile) (c : Certificate) (k : ℕ) where
   abbrev Refers : List (ℕ × ℚ) → ℕ → Type 0
   Refers es i = (m : ℚ) × Contains es (i, m) × (m ≢ zero_ℚ)
 
-  usable : (es : List (ℕ × ℚ)) → All (λ (e : ℕ × ℚ). e.0 < k) es → ((i : ℕ) → Refers es i → IsTrue (is_live c k i)) → AreUsable c k es
-  usable es early live = All-weaker (Contains es) IsUsable (λ e h. (All-contains (λ (f : ℕ × ℚ). f.0 < k) es e early h, λ n. live e.0 (e.1, h, n))) es (All-contains_itself es)
+  usable : (es : List (ℕ × ℚ)) → All (λ (e : ℕ × ℚ). e.0 < k) es
+      → ((i : ℕ) → Refers es i → IsTrue (is_live c k i)) → AreUsable c k es
+  usable es early live = All-weaker (Contains es) IsUsable
+      (λ e h. (All-contains (λ (f : ℕ × ℚ). f.0 < k) es e early h, λ n. live e.0 (e.1, h, n))) es
+      (All-contains_itself es)
 
   pub good_assumed : (d : Condition) → IsGoodStep P c k asm d
   good_assumed d = record { earlier = tt; follows = tt; fits = tt; references = λ i r. absurd r }
 
-  pub good_summed : (es : List (ℕ × ℚ)) (d : Condition) → IsGoodStep P c k (lin es) d ↔ (AreUsable c k es × SumOfFits (entries c es) × (s : Sense) × HasSense (entries c es) s × Dominates (sum_of (entries c es) s) d)
+  pub good_summed : (es : List (ℕ × ℚ)) (d : Condition) → IsGoodStep P c k (lin es) d
+      ↔ (AreUsable c k es × SumOfFits (entries c es) × (s : Sense) × HasSense (entries c es) s
+      × Dominates (sum_of (entries c es) s) d)
   good_summed es d = grind (arith, usable)
 
-  pub good_rounded : (es : List (ℕ × ℚ)) (d : Condition) → IsGoodStep P c k (rnd es) d ↔ (AreUsable c k es × SumOfFits (entries c es) × (s : Sense) × HasSense (entries c es) s × IsWholeRow c.problem.integers (sum_of (entries c es) s).row × DominatesRounded (sum_of (entries c es) s) d)
+  pub good_rounded : (es : List (ℕ × ℚ)) (d : Condition) → IsGoodStep P c k (rnd es) d
+      ↔ (AreUsable c k es × SumOfFits (entries c es) × (s : Sense) × HasSense (entries c es) s
+      × IsWholeRow c.problem.integers (sum_of (entries c es) s).row
+      × DominatesRounded (sum_of (entries c es) s) d)
   good_rounded es d = grind (arith, usable)
 
   abbrev IsThere : ℕ → Type 0
@@ -33,11 +41,14 @@ module _ (P : Profile) (c : Certificate) (k : ℕ) where
 
   pub good_branched : (i1 l1 i2 l2 : ℕ) (d : Condition) → IsGoodStep P c k (uns i1 l1 i2 l2) d
       ↔ (All IsThere (i1 ∷ l1 ∷ i2 ∷ l2 ∷ []) × (reason_at c l1 ≡ Some asm) × (reason_at c l2 ≡ Some asm)
-      × IsSplit P c.problem.integers (constraint_at c l1) (constraint_at c l2) × Dominates (constraint_at c i1) d × Dominates (constraint_at c i2) d)
+      × IsSplit P c.problem.integers (constraint_at c l1) (constraint_at c l2)
+      × Dominates (constraint_at c i1) d × Dominates (constraint_at c i2) d)
   good_branched i1 l1 i2 l2 d = (
     λ g. let e = g.earlier in let r = g.references in let f = g.follows in let u = f.2 in (
-      All-cons IsThere i1 (l1 ∷ i2 ∷ l2 ∷ []) (e.0, r i1 (inl refl)) (All-cons IsThere l1 (i2 ∷ l2 ∷ []) (e.1, r l1 (inr (inl refl)))
-          (All-cons IsThere i2 (l2 ∷ []) (e.2, r i2 (inr (inr (inl refl)))) (All-cons IsThere l2 [] (e.3, r l2 (inr (inr (inr refl)))) (All-nil IsThere)))),
+      All-cons IsThere i1 (l1 ∷ i2 ∷ l2 ∷ []) (e.0, r i1 (inl refl))
+          (All-cons IsThere l1 (i2 ∷ l2 ∷ []) (e.1, r l1 (inr (inl refl)))
+          (All-cons IsThere i2 (l2 ∷ []) (e.2, r i2 (inr (inr (inl refl))))
+          (All-cons IsThere l2 [] (e.3, r l2 (inr (inr (inr refl)))) (All-nil IsThere)))),
       f.0,
       f.1,
       u.0,
@@ -61,5 +72,6 @@ module _ (P : Profile) (c : Certificate) (k : ℕ) where
         },
   )
 
-  pub good_cut_off : (d : Condition) → IsGoodStep P c k sol d ↔ ((s : Named Row) × IsBest c s × Dominates (cutoff c.problem s) d)
+  pub good_cut_off : (d : Condition) → IsGoodStep P c k sol d
+      ↔ ((s : Named Row) × IsBest c s × Dominates (cutoff c.problem s) d)
   good_cut_off d = (λ g. g.follows, λ h. record { earlier = tt; follows = h; fits = tt; references = λ i r. absurd r })

@@ -38,21 +38,39 @@ module _ (P : Profile) (p : Problem) (ss : List (Named Row)) where
       first [] h = absurd (omega arith)
       first (n ∷ l) h = n
 
-  proves_out : (i : ℕ) → ProvesDual P (start p ss) i → (d : Named Constraint) → Meets P p (slice_index_or p.constraints i d)
-  proves_out i q d = let h : i < length p.constraints = let l = q.0 in omega arith in subst (MeetsDual P p p.claim) (given_is p ss i d h) ((dual_given P (start p ss) i h).0 q)
+  proves_out : (i : ℕ) → ProvesDual P (start p ss) i → (d : Named Constraint)
+      → Meets P p (slice_index_or p.constraints i d)
+  proves_out i q d =
+      let h : i < length p.constraints = let l = q.0 in
+      omega arith in
+      subst (MeetsDual P p p.claim) (given_is p ss i d h) ((dual_given P (start p ss) i h).0 q)
 
   proves_in : (i : ℕ) → i < length p.constraints → HoldsAt (Meets P p) p.constraints i → ProvesDual P (start p ss) i
-  proves_in i h m = let d = any_one i h in (dual_given P (start p ss) i h).1 (subst (MeetsDual P p p.claim) (sym (given_is p ss i d h)) (m d))
+  proves_in i h m =
+      let d = any_one i h in
+      (dual_given P (start p ss) i h).1 (subst (MeetsDual P p p.claim) (sym (given_is p ss i d h)) (m d))
 
   goal_at_start : (goal : Option ℕ) → IsFirstMet P p goal → GoalIs P (start p ss) goal
-  goal_at_start None a = λ k q. let h : k < length p.constraints = let l = q.0 in omega arith in let d = any_one k h in a k d h (proves_out k q d)
-  goal_at_start (Some i) a = (proves_in i a.0 a.1, λ k q. least k (λ l. let h : k < length p.constraints = let l = a.0 in omega arith in let d = any_one k h in a.2 k d (omega arith) l (proves_out k q d)))
+  goal_at_start None a = λ k q. let h : k < length p.constraints =
+      let l = q.0 in
+      omega arith in
+      let d = any_one k h in
+      a k d h (proves_out k q d)
+  goal_at_start (Some i) a = (
+    proves_in i a.0 a.1,
+    λ k q. least k (λ l. let h : k < length p.constraints = let l = a.0 in
+        omega arith in let d = any_one k h in a.2 k d (omega arith) l (proves_out k q d)),
+  )
     where
       least : (k : ℕ) → ¬ (k < i) → i ≤ k
       least k n = ⊎_elim (λ (l : k < i). absurd (n l)) (λ (l : i ≤ k). l) (cases_lt k i)
 
   pub checked_start : (goal : Option ℕ) → IsFirstMet P p goal → IsChecked P (start p ss) goal 0
-  checked_start goal a = record { steps = good_without P (start p ss) refl; goal_is = goal_at_start goal a; peak_is = refl }
+  checked_start goal a = record {
+    steps = good_without P (start p ss) refl;
+    goal_is = goal_at_start goal a;
+    peak_is = refl;
+  }
 
 -- ---- the next derivation
 
@@ -63,8 +81,10 @@ proves_next P c d = grind (arith, known_next, count_next)
 next_goal : (P : Profile) (c : Certificate) (d : Derivation) (goal next : Option ℕ) → RefersBack c
     → GoalIs P c goal → NextGoal P c d goal next → GoalIs P (with_next c d) next
 next_goal P c d (Some g) next b h n = subst (GoalIs P (with_next c d)) (sym n) (goal_stays P c d g b h)
-next_goal P c d None next b h (inl n) = subst (GoalIs P (with_next c d)) (sym n.1) (goal_found P c d b h ((proves_next P c d).1 n.0))
-next_goal P c d None next b h (inr n) = subst (GoalIs P (with_next c d)) (sym n.1) (goal_missing P c d b h (λ q. n.0 ((proves_next P c d).0 q)))
+next_goal P c d None next b h (inl n) = subst (GoalIs P (with_next c d)) (sym n.1)
+    (goal_found P c d b h ((proves_next P c d).1 n.0))
+next_goal P c d None next b h (inr n) = subst (GoalIs P (with_next c d)) (sym n.1)
+    (goal_missing P c d b h (λ q. n.0 ((proves_next P c d).0 q)))
 
 pub checked_next : (P : Profile) (c : Certificate) (d : Derivation) (goal next : Option ℕ)
     (most_held : ℕ) → IsChecked P c goal most_held → IsGoodNext P c d → NextGoal P c d goal next
@@ -83,9 +103,21 @@ pub checked_verified : (P : Profile) (c : Certificate) (goal : Option ℕ) (most
     → Answers P (derivations_from c 0 r) (verified (report_from c goal most_held))
 checked_verified P c goal most_held r h e s =
     let m = goal_met P c goal h.goal_is s in
-    (known.end_verified P (answers P (verified (report_from c goal most_held))) c r e m.0).1 (report_from c goal most_held, record { claim = refl; solutions = refl; derived = refl; peak = h.peak_is; goal = m.1 }, refl)
+    (known.end_verified P (answers P (verified (report_from c goal most_held))) c r e m.0).1 (
+      report_from c goal most_held,
+      record {
+        claim = refl;
+        solutions = refl;
+        derived = refl;
+        peak = h.peak_is;
+        goal = m.1;
+      },
+      refl,
+    )
 
 pub checked_unproved : (P : Profile) (c : Certificate) (most_held : ℕ) (r : Rest)
     → IsChecked P c None most_held → end_read r ≡ Ok tt → NeedsGoal c.problem c.problem.claim
     → Answers P (derivations_from c 0 r) (answer_of_test meets_dual)
-checked_unproved P c most_held r h e s = (known.end_unproved P (answers P (answer_of_test meets_dual)) c r e (goal_missed P c h.goal_is s)).1 refl
+checked_unproved P c most_held r h e s =
+    (known.end_unproved P (answers P (answer_of_test meets_dual)) c r e
+    (goal_missed P c h.goal_is s)).1 refl

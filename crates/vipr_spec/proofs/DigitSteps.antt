@@ -23,7 +23,9 @@ head_other n b bs h = grind (arith, nat_tests)
 
 pub next_digit : (n i : ℕ) (bs : List ℕ) → i < length bs → 48 ≤ get_or bs i 0 → get_or bs i 0 ≤ 57
     → natural_after (n * 10 + (get_or bs i 0 - 48)) (drop (i + 1) bs) ≡ natural_after n (drop i bs)
-next_digit n i bs h low high = rw (add-one) (sym (ap (natural_after n) (drop-cons bs i 0 h) ∙ head_digit n (get_or bs i 0) _ low high))
+next_digit n i bs h low high =
+    rw (add-one)
+    (sym (ap (natural_after n) (drop-cons bs i 0 h) ∙ head_digit n (get_or bs i 0) _ low high))
 
 pub next_other : (n i : ℕ) (bs : List ℕ) → i < length bs
     → (get_or bs i 0 < 48) ⊎ (57 < get_or bs i 0) → natural_after n (drop i bs) ≡ None

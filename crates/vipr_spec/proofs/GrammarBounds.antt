@@ -29,7 +29,8 @@ module _ (infinite : List ℕ) (none : IsNoNumber infinite) where
   unfolding bound_of
   bound_sound t o e = search (rules, number_is)
 
-  bound_other : (t : List ℕ) (x : ℚ) → SpellsNumber t x → (b : Bool) → bytes_eq t infinite ≡ b → (if b then Ok None else some_of (number_of t)) ≡ Ok (Some x)
+  bound_other : (t : List ℕ) (x : ℚ) → SpellsNumber t x → (b : Bool) → bytes_eq t infinite ≡ b
+      → (if b then Ok None else some_of (number_of t)) ≡ Ok (Some x)
   bound_other t x h true e = grind (arith, same_bytes t infinite e, number_complete t x h)
   bound_other t x h false e = ap some_of ((number_is t x).1 h)
 
@@ -41,4 +42,8 @@ module _ (infinite : List ℕ) (none : IsNoNumber infinite) where
   bound_is t o = (bound_sound t o, bound_complete t o)
 
 pub kinds_of_number : KindsOfNumber
-kinds_of_number = record { number = number_is; lower = bound_is (codes "-inf") no_lower; upper = bound_is (codes "inf") no_upper }
+kinds_of_number = record {
+  number = number_is;
+  lower = bound_is (codes "-inf") no_lower;
+  upper = bound_is (codes "inf") no_upper;
+}

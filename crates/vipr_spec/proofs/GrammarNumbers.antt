@@ -7,7 +7,9 @@ use Rattle.vipr_spec.specs.{is_digit, natural_after, natural_of, ReadsNaturals}
 use Rattle.vipr_spec.specs.Grammar.{SpellsNatural}
 
 module _ (b : ℕ) (bs : List ℕ) (n m : ℕ) where
-  more_sound : (natural_after (n * 10 + (b - 48)) bs ≡ Some m → AllDigits 10 bs × (digits_value_after 10 (n * 10 + (b - 48)) bs ≡ m)) → (d : Bool) → is_digit b ≡ d → (if d then natural_after (n * 10 + (b - 48)) bs else None) ≡ Some m
+  more_sound : (natural_after (n * 10 + (b - 48)) bs ≡ Some m
+      → AllDigits 10 bs × (digits_value_after 10 (n * 10 + (b - 48)) bs ≡ m)) → (d : Bool)
+      → is_digit b ≡ d → (if d then natural_after (n * 10 + (b - 48)) bs else None) ≡ Some m
       → AllDigits 10 (b ∷ bs) × (digits_value_after 10 n (b ∷ bs) ≡ m)
   more_sound k d h f = grind (arith, nat_tests)
 

@@ -14,7 +14,12 @@ use Rattle.vipr_spec.proofs.GrammarSteps.{next_sound, read_as}
 
 pub one_token : {r s : Rest} {t : Token} (P : List (List ℕ) → Type 0) → Next r t s
     → P (t.bytes ∷ []) → ReadsFront P r s
-one_token {t = t} P n h = record { front = t ∷ []; joined = n.joined; short = All-cons IsShort t.bytes [] n.short (All-nil IsShort); shape = h }
+one_token {t = t} P n h = record {
+  front = t ∷ [];
+  joined = n.joined;
+  short = All-cons IsShort t.bytes [] n.short (All-nil IsShort);
+  shape = h;
+}
 
 pub record FirstOf (P : List (List ℕ) → Type 0) (r s : Rest) : Type 0 where
   pub token : Token
@@ -25,7 +30,12 @@ pub first_of_front : (P : List (List ℕ) → Type 0) (r s : Rest) (ts : List To
     → r ≡ record s { tokens = ts ++ s.tokens } → All IsShort (bytes_of ts) → bytes_of ts ≡ b ∷ []
     → P (bytes_of ts) → FirstOf P r s
 first_of_front P r s [] b j a e h = absurd (cc)
-first_of_front P r s (t ∷ []) b j a e h = record { token = t; next = record { joined = j; short = All-head IsShort t.bytes [] a }; shape = h }
+first_of_front P r s (t ∷ []) b j a e h =
+    record {
+      token = t;
+      next = record { joined = j; short = All-head IsShort t.bytes [] a };
+      shape = h;
+    }
 first_of_front P r s (t ∷ u ∷ us) b j a e h = absurd (cc)
 
 pub next_complete : {r : Rest} {t : Token} {s : Rest} → Next r t s → token_read r ≡ Ok (t, s)
@@ -63,15 +73,18 @@ reads_like {S = S} {T = T} law to from r s x = (
 )
 
 pub reads_name : Reads (token_of name_of) word
-reads_name = reads_like (reads_one name_of (λ t x. t ≡ x) kinds_of_token.name) (λ x ts h. h.1 ∙ ap (λ b. b ∷ []) h.2) (λ x ts h. (x, h, refl))
+reads_name = reads_like (reads_one name_of (λ t x. t ≡ x) kinds_of_token.name)
+    (λ x ts h. h.1 ∙ ap (λ b. b ∷ []) h.2) (λ x ts h. (x, h, refl))
 
 pub reads_fixed : (w : List ℕ) (c : ℕ) → Reads (token_of (word_of w c)) (λ u. word w)
-reads_fixed w c = reads_like (reads_one (word_of w c) (λ t x. t ≡ w) (kinds_of_token.fixed w c)) (λ x ts h. h.1 ∙ ap (λ b. b ∷ []) h.2) (λ x ts h. (w, h, refl))
+reads_fixed w c = reads_like (reads_one (word_of w c) (λ t x. t ≡ w) (kinds_of_token.fixed w c))
+    (λ x ts h. h.1 ∙ ap (λ b. b ∷ []) h.2) (λ x ts h. (w, h, refl))
 
 -- ---- so many in a row
 
 module _ {A : Type 0} (read : Rest → Read A) (S : A → List (List ℕ) → Type 0) (law : Reads read S) where
-  pub repeated_sound : (n : ℕ) (r s : Rest) (xs : List A) → read_each read n r ≡ Ok (xs, s) → (length xs ≡ n) × ReadsFront (each S xs) r s
+  pub repeated_sound : (n : ℕ) (r s : Rest) (xs : List A) → read_each read n r ≡ Ok (xs, s)
+      → (length xs ≡ n) × ReadsFront (each S xs) r s
   unfolding read_each
   repeated_sound zero r s xs e = grind (arith, same_ok, read_is, read_nothing)
   repeated_sound (suc n) r s xs e =
@@ -81,7 +94,10 @@ module _ {A : Type 0} (read : Rest → Read A) (S : A → List (List ℕ) → Ty
       let both = same_ok ys.2 in
       (ap (λ p. length p.0) (sym both) ∙ ap suc k.0, read_is (each S) ys.2 (read_then ((law r x.0.1 x.0.0).0 x.1) k.1))
 
-  pub repeated_complete : (xs : List A) (r s : Rest) → ReadsFront (each S xs) r s → read_each read (length xs) r ≡ Ok (xs, s)
+  pub repeated_complete : (xs : List A) (r s : Rest) → ReadsFront (each S xs) r s
+      → read_each read (length xs) r ≡ Ok (xs, s)
   unfolding read_each
   repeated_complete [] r s t = ap (λ q. Ok ([], q)) (nothing_read t)
-  repeated_complete (x ∷ xs) r s t = let p = parted t in ok_then _ ((law r p.at x).1 p.before) (ok_then _ (repeated_complete xs p.at s p.after) refl)
+  repeated_complete (x ∷ xs) r s t =
+      let p = parted t in
+      ok_then _ ((law r p.at x).1 p.before) (ok_then _ (repeated_complete xs p.at s p.after) refl)

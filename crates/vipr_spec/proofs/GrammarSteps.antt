@@ -71,8 +71,10 @@ pub read_then : {P Q : List (List ℕ) → Type 0} {r s t : Rest} → ReadsFront
     → ReadsFront (P then Q) r t
 read_then {t = t} a b = record {
   front = a.front ++ b.front;
-  joined = a.joined ∙ ap (λ (u : Rest). record u { tokens = a.front ++ u.tokens }) b.joined ∙ ap (λ l. record t { tokens = l }) (sym (append_assoc a.front b.front t.tokens));
-  short = subst (All IsShort) (sym (map-append _ a.front b.front)) (All-append IsShort (bytes_of a.front) (bytes_of b.front) a.short b.short);
+  joined = a.joined ∙ ap (λ (u : Rest). record u { tokens = a.front ++ u.tokens }) b.joined
+      ∙ ap (λ l. record t { tokens = l }) (sym (append_assoc a.front b.front t.tokens));
+  short = subst (All IsShort) (sym (map-append _ a.front b.front))
+      (All-append IsShort (bytes_of a.front) (bytes_of b.front) a.short b.short);
   shape = (bytes_of a.front, bytes_of b.front, map-append _ a.front b.front, a.shape, b.shape);
 }
 
@@ -85,12 +87,21 @@ record Split (ts : List Token) (xs ys : List (List ℕ)) : Type 0 where
 
 split_more : {t : Token} {ts : List Token} {x : List ℕ} {xs ys : List (List ℕ)} → t.bytes ≡ x
     → Split ts xs ys → Split (t ∷ ts) (x ∷ xs) ys
-split_more {t} e s = record { front = t ∷ s.front; back = s.back; joined = ap (λ l. t ∷ l) s.joined; in_front = cc; behind = s.behind }
+split_more {t} e s = record {
+  front = t ∷ s.front;
+  back = s.back;
+  joined = ap (λ l. t ∷ l) s.joined;
+  in_front = cc;
+  behind = s.behind;
+}
 
 split : (ts : List Token) (xs ys : List (List ℕ)) → bytes_of ts ≡ xs ++ ys → Split ts xs ys
 split ts [] ys e = record { front = []; back = ts; joined = refl; in_front = refl; behind = e }
 split [] (x ∷ xs) ys e = absurd (cc)
-split (t ∷ ts) (x ∷ xs) ys e = let h : t.bytes ≡ x = cc in let k : bytes_of ts ≡ xs ++ ys = cc in split_more h (split ts xs ys k)
+split (t ∷ ts) (x ∷ xs) ys e =
+    let h : t.bytes ≡ x = cc in
+    let k : bytes_of ts ≡ xs ++ ys = cc in
+    split_more h (split ts xs ys k)
 
 all_front : {X : Type 0} (P : X → Type 0) (xs ys : List X) → All P (xs ++ ys) → All P xs
 all_front P [] ys h = All-nil P
@@ -110,16 +121,23 @@ pub parted : {P Q : List (List ℕ) → Type 0} {r t : Rest} → ReadsFront (P t
     → Parted P Q r t
 parted {P} {Q} {r} {t} a =
     let k = split a.front a.shape.0 a.shape.1 a.shape.2 in
-    let all : All IsShort (bytes_of k.front ++ bytes_of k.back) = subst (All IsShort) (ap bytes_of k.joined ∙ map-append _ k.front k.back) a.short in
+    let all : All IsShort (bytes_of k.front ++ bytes_of k.back) =
+    subst (All IsShort) (ap bytes_of k.joined ∙ map-append _ k.front k.back) a.short in
     record {
       at = record t { tokens = k.back ++ t.tokens };
       before = record {
         front = k.front;
-        joined = a.joined ∙ ap (λ l. record t { tokens = l ++ t.tokens }) k.joined ∙ ap (λ l. record t { tokens = l }) (append_assoc k.front k.back t.tokens);
+        joined = a.joined ∙ ap (λ l. record t { tokens = l ++ t.tokens }) k.joined
+            ∙ ap (λ l. record t { tokens = l }) (append_assoc k.front k.back t.tokens);
         short = all_front IsShort (bytes_of k.front) (bytes_of k.back) all;
         shape = subst P (sym k.in_front) a.shape.3;
       };
-      after = record { front = k.back; joined = refl; short = all_back IsShort (bytes_of k.front) (bytes_of k.back) all; shape = subst Q (sym k.behind) a.shape.4 };
+      after = record {
+        front = k.back;
+        joined = refl;
+        short = all_back IsShort (bytes_of k.front) (bytes_of k.back) all;
+        shape = subst Q (sym k.behind) a.shape.4;
+      };
     }
 
 -- ---- one token

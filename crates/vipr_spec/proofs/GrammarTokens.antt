@@ -26,7 +26,8 @@ bytes_same t w e = (bytes_eq-Decides t w).1 e
 -- the first word of several, or what the others give
 pub picked : {A E : Type 0} (t w : List ℕ) (x y : A) (others : Result A E)
     → (if bytes_eq t w then Ok x else others) ≡ Ok y → ((t ≡ w) × (x ≡ y)) ⊎ (others ≡ Ok y)
-picked t w x y others e = ⊎_elim (λ h. inl (same_bytes t w h.0, same_ok h.1)) (λ h. inr h.1) (chosen (bytes_eq t w) (Ok x) others (Ok y) e)
+picked t w x y others e = ⊎_elim (λ h. inl (same_bytes t w h.0, same_ok h.1)) (λ h. inr h.1)
+    (chosen (bytes_eq t w) (Ok x) others (Ok y) e)
 
 -- of the first word a value P holds, and of the others too
 pub picks : {A : Type 0} (P : A → Type 0) (t w : List ℕ) (x y : A) (others : Result A ℕ)
@@ -37,7 +38,8 @@ picks P t w x y others here there e = ⊎_elim (λ h. subst P h.1 (here h.0)) th
 one_of_two : {A : Type 0} (P : A → Type 0) (t v w : List ℕ) (x y z : A) (c : ℕ) → (t ≡ v → P x)
     → (t ≡ w → P y)
     → (if bytes_eq t v then Ok x else (if bytes_eq t w then Ok y else Err c)) ≡ Ok z → P z
-one_of_two P t v w x y z c first second e = picks P t v x z _ first (λ f. picks P t w y z _ second (grind (arith, common_steps)) f) e
+one_of_two P t v w x y z c first second e =
+    picks P t v x z _ first (λ f. picks P t w y z _ second (grind (arith, common_steps)) f) e
 
 fixed_sound : (w : List ℕ) (c : ℕ) (t : List ℕ) (x : Unit {0}) → word_of w c t ≡ Ok x → t ≡ w
 fixed_sound w c t x e = same_bytes t w (guard_true (bytes_eq t w) tt x c e).0
@@ -47,7 +49,8 @@ fixed_complete w c t x e = ap (λ b. if b then Ok tt else Err c) (bytes_same t w
 
 sense_sound : (t : List ℕ) (s : Sense) → spelled_sense t ≡ Ok s → SpellsSense t s
 unfolding spelled_sense
-sense_sound t s e = picks (SpellsSense t) t _ equal s _ (λ h. h) (λ f. one_of_two (SpellsSense t) t _ _ at_most at_least s _ (λ h. h) (λ h. h) f) e
+sense_sound t s e = picks (SpellsSense t) t _ equal s _ (λ h. h)
+    (λ f. one_of_two (SpellsSense t) t _ _ at_most at_least s _ (λ h. h) (λ h. h) f) e
 
 sense_complete : (t : List ℕ) (s : Sense) → SpellsSense t s → spelled_sense t ≡ Ok s
 unfolding spelled_sense
@@ -55,8 +58,14 @@ sense_complete t s e = grind arith
 
 direction_is : ReadsKind spelled_direction SpellsDirection
 unfolding spelled_direction
-direction_is t minimum = (λ e. one_of_two (SpellsDirection t) t _ _ minimum maximum minimum _ (λ h. h) (λ h. h) e, λ e. rw e)
-direction_is t maximum = (λ e. one_of_two (SpellsDirection t) t _ _ minimum maximum maximum _ (λ h. h) (λ h. h) e, λ e. rw e)
+direction_is t minimum = (
+  λ e. one_of_two (SpellsDirection t) t _ _ minimum maximum minimum _ (λ h. h) (λ h. h) e,
+  λ e. rw e,
+)
+direction_is t maximum = (
+  λ e. one_of_two (SpellsDirection t) t _ _ minimum maximum maximum _ (λ h. h) (λ h. h) e,
+  λ e. rw e,
+)
 
 has_range_is : ReadsKind has_range_of SpellsRange
 unfolding has_range_of
@@ -101,7 +110,10 @@ below_complete n found i e h = grind (arith, nat_tests)
 
 variable_is : (n : ℕ) → ReadsKind (variable_of n) (SpellsVariable n)
 unfolding variable_of
-variable_is n t i = (λ e. let k = below_sound n (natural_of t) i e in (natural_sound t i k.0, k.1), λ h. below_complete n (natural_of t) i (natural_complete t i h.0) h.1)
+variable_is n t i = (
+  λ e. let k = below_sound n (natural_of t) i e in (natural_sound t i k.0, k.1),
+  λ h. below_complete n (natural_of t) i (natural_complete t i h.0) h.1,
+)
 
 new_variable_is : (n : ℕ) (before : List ℕ) → ReadsKind (new_variable_of n before)
     (λ t i. SpellsVariable n t i × (list_any (nat_eq i) before ≡ false))

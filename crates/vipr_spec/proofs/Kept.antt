@@ -102,7 +102,8 @@ length_kept keep k (x ∷ xs) = by (length_kept keep (suc k) xs) (cases_Bool (ke
 pub kept_all : {A : Type 0} (keep : ℕ → Bool) (k : ℕ) (xs : List A)
     → ((i : ℕ) → k ≤ i → i < k + length xs → keep i ≡ true) → kept_of keep k xs ≡ xs
 kept_all keep k [] all = refl
-kept_all keep k (x ∷ xs) all = grind (arith, kept_yes, kept_all keep (suc k) xs (λ i a b. all i (omega arith) (omega arith)))
+kept_all keep k (x ∷ xs) all =
+    grind (arith, kept_yes, kept_all keep (suc k) xs (λ i a b. all i (omega arith) (omega arith)))
 
 -- what was at an index that is kept
 pub kept_at : {A : Type 0} (keep : ℕ → Bool) (d : A) (k j p : ℕ) (xs : List A) → keep (k + j) ≡ true

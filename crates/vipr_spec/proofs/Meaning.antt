@@ -26,13 +26,15 @@ module _ {A B : Type 0} (R : A → B → Type 0) (P : A → Type 0) (Q : B → T
   all_to f [] [] z a = All-nil Q
   all_to f [] (y ∷ ys) z a = absurd z
   all_to f (x ∷ xs) [] z a = absurd z
-  all_to f (x ∷ xs) (y ∷ ys) z a = All-cons Q y ys (f x y z.0 (All-head P x xs a)) (all_to f xs ys z.1 (All-tail P x xs a))
+  all_to f (x ∷ xs) (y ∷ ys) z a = All-cons Q y ys (f x y z.0 (All-head P x xs a))
+      (all_to f xs ys z.1 (All-tail P x xs a))
 
   all_from : ((a : A) (b : B) → R a b → Q b → P a) → (xs : List A) (ys : List B) → AllZip R xs ys → All Q ys → All P xs
   all_from f [] [] z a = All-nil P
   all_from f [] (y ∷ ys) z a = absurd z
   all_from f (x ∷ xs) [] z a = absurd z
-  all_from f (x ∷ xs) (y ∷ ys) z a = All-cons P x xs (f x y z.0 (All-head Q y ys a)) (all_from f xs ys z.1 (All-tail Q y ys a))
+  all_from f (x ∷ xs) (y ∷ ys) z a = All-cons P x xs (f x y z.0 (All-head Q y ys a))
+      (all_from f xs ys z.1 (All-tail Q y ys a))
 
 module _ {A B : Type 0} (R : A → B → Type 0) (Q : B → Type 0) where
   any_to : (x : A) → ((b : B) → R x b → Q b) → (xs : List A) (ys : List B) → AllZip R xs ys
@@ -40,7 +42,9 @@ module _ {A B : Type 0} (R : A → B → Type 0) (Q : B → Type 0) where
   any_to x f [] ys z k l e = absurd (omega (arith, l))
   any_to x f (a ∷ xs) [] z k l e = absurd z
   any_to x f (a ∷ xs) (b ∷ ys) z zero l e = (0, b, omega arith, refl, f b (subst (λ y. R y b) e z.0))
-  any_to x f (a ∷ xs) (b ∷ ys) z (suc k) l e = let r = any_to x f xs ys z.1 k (omega (arith, l)) e in (suc r.0, r.1, omega (arith, r.2), r.3, r.4)
+  any_to x f (a ∷ xs) (b ∷ ys) z (suc k) l e =
+      let r = any_to x f xs ys z.1 k (omega (arith, l)) e in
+      (suc r.0, r.1, omega (arith, r.2), r.3, r.4)
 
 -- ---- constraints
 
@@ -68,26 +72,40 @@ module _ (p : Problem) (ss : List (Named Row)) (q : short.Problem) (qs : List sh
   feasible_from : (x : Point) → short.IsFeasible q x → IsFeasible p x
   feasible_from x f = record {
     whole = λ j i.
-        let t = Any-from_list_any (λ y. nat_eq y j) q.integers (sym (contains-from_list_nat q.integers j) ∙ subst (λ s. IsInteger s j) m.integers i) in
+        let t = Any-from_list_any (λ y. nat_eq y j) q.integers
+        (sym (contains-from_list_nat q.integers j) ∙ subst (λ s. IsInteger s j) m.integers i) in
         let same : t.1 ≡ j = grind (arith, nat_tests, t.4) in
         subst (λ k. IsWhole (x k)) (t.3 ∙ same) (f.0 t.0 t.1 t.2);
-    meets = all_from (AreOneConstraint (variables p)) (λ c. IsTrueAt (variables p) (condition c.item) x) (λ d. short.IsTrueAt d x) (λ c d r. true_from (variables p) c d _ _ r (r.row.value x)) p.constraints q.constraints m.constraints f.1;
+    meets = all_from (AreOneConstraint (variables p))
+        (λ c. IsTrueAt (variables p) (condition c.item) x) (λ d. short.IsTrueAt d x)
+        (λ c d r. true_from (variables p) c d _ _ r (r.row.value x)) p.constraints q.constraints
+        m.constraints f.1;
   }
 
-  feasible_at : (s : Named Row) (t : short.Row) → AreOneSolution (variables p) s t → IsFeasible p (at s.item) → short.IsFeasible q (short.point_of t)
+  feasible_at : (s : Named Row) (t : short.Row) → AreOneSolution (variables p) s t
+      → IsFeasible p (at s.item) → short.IsFeasible q (short.point_of t)
   feasible_at s t r f = (
     All-weaker (Contains q.integers) (λ j. IsWhole (short.point_of t j)) (λ j h.
-        grind (arith, contains-from_list_nat q.integers j, list_any-from_Any, eq-eqb j j)) q.integers (All-contains_itself q.integers),
-    all_to (AreOneConstraint (variables p)) (λ c. IsTrueAt (variables p) (condition c.item) (at s.item)) (λ d. short.IsTrueAt d (short.point_of t)) (λ c d r'. true_to (variables p) c d _ _ r' (value_at_point (variables p) c.item.row s.item d.row t r'.row r)) p.constraints q.constraints m.constraints f.meets,
+        grind (arith, contains-from_list_nat q.integers j, list_any-from_Any, eq-eqb j j))
+        q.integers (All-contains_itself q.integers),
+    all_to (AreOneConstraint (variables p))
+        (λ c. IsTrueAt (variables p) (condition c.item) (at s.item))
+        (λ d. short.IsTrueAt d (short.point_of t))
+        (λ c d r'. true_to (variables p) c d _ _ r'
+        (value_at_point (variables p) c.item.row s.item d.row t r'.row r)) p.constraints
+        q.constraints m.constraints f.meets,
   )
 
   -- ---- the claim
 
   abbrev Dual : Bool → Option ℚ → Option ℚ → Type 0
-  Dual b lower upper = IfSome (if b then lower else upper) (λ v. (x : Point) → short.IsFeasible q x → short.IsAsGood b v (short.value q.objective x))
+  Dual b lower upper = IfSome (if b then lower else upper) (λ v. (x : Point) → short.IsFeasible q x
+      → short.IsAsGood b v (short.value q.objective x))
 
   abbrev Primal : Bool → Option ℚ → Option ℚ → Type 0
-  Primal b lower upper = IfSome (if b then upper else lower) (λ v. Any (λ s. short.IsFeasible q (short.point_of s) × short.IsAsGood b (short.value q.objective (short.point_of s)) v) qs)
+  Primal b lower upper = IfSome (if b then upper else lower)
+      (λ v. Any (λ s. short.IsFeasible q (short.point_of s)
+      × short.IsAsGood b (short.value q.objective (short.point_of s)) v) qs)
 
   as_good : (d : Direction) (v w : ℚ) → IsAsGood d v w → short.IsAsGood (is_min d) v w
   as_good d v w h = grind arith
@@ -98,22 +116,28 @@ module _ (p : Problem) (ss : List (Named Row)) (q : short.Problem) (qs : List sh
   dual d e None h = tt
   dual d e (Some v) h = λ x f.
       as_good d v (short.value q.objective x)
-      (subst (λ d. IsAsGood d v (short.value q.objective x)) e (subst (IsAsGood p.direction v) (m.objective.value x) (h x (feasible_from x f))))
+      (subst (λ d. IsAsGood d v (short.value q.objective x)) e
+      (subst (IsAsGood p.direction v) (m.objective.value x) (h x (feasible_from x f))))
 
   primal : (d : Direction) → p.direction ≡ d → (o : Option ℚ) → IfSome o (IsAttained p ss)
-      → IfSome o (λ v. Any (λ s. short.IsFeasible q (short.point_of s) × short.IsAsGood (is_min d) (short.value q.objective (short.point_of s)) v) qs)
+      → IfSome o (λ v. Any (λ s. short.IsFeasible q (short.point_of s) × short.IsAsGood (is_min d)
+      (short.value q.objective (short.point_of s)) v) qs)
   primal d e None h = tt
   primal d e (Some v) h =
-      any_to (AreOneSolution (variables p)) (λ s. short.IsFeasible q (short.point_of s) × short.IsAsGood (is_min d) (short.value q.objective (short.point_of s)) v) h.0
+      any_to (AreOneSolution (variables p)) (λ s. short.IsFeasible q (short.point_of s)
+      × short.IsAsGood (is_min d) (short.value q.objective (short.point_of s)) v) h.0
       (λ t r. (
         feasible_at h.0 t r h.2,
         as_good d (short.value q.objective (short.point_of t)) v
             (subst (λ d. IsAsGood d (short.value q.objective (short.point_of t)) v) e
-            (subst (λ w. IsAsGood p.direction w v) (value_at_point (variables p) p.objective h.0.item q.objective t m.objective r) h.3)),
+            (subst (λ w. IsAsGood p.direction w v)
+            (value_at_point (variables p) p.objective h.0.item q.objective t m.objective r)
+            h.3)),
       )) ss qs m.solutions h.1.0 h.1.1 h.1.2
 
   bounds : (d : Direction) → p.direction ≡ d → (lower upper : Option ℚ)
-      → IfSome (dual_bound d lower upper) (λ v. (x : Point) → IsFeasible p x → IsAsGood p.direction v (objective_at p x))
+      → IfSome (dual_bound d lower upper) (λ v. (x : Point) → IsFeasible p x
+      → IsAsGood p.direction v (objective_at p x))
       → IfSome (primal_bound d lower upper) (IsAttained p ss)
       → Dual (is_min d) lower upper × Primal (is_min d) lower upper
   bounds minimum e lower upper h k = (dual minimum e lower h, primal minimum e upper k)
@@ -121,10 +145,16 @@ module _ (p : Problem) (ss : List (Named Row)) (q : short.Problem) (qs : List sh
 
   holds : (k : Claim) → IsTrueClaim p ss k → short.Holds q qs (bounds_of k)
   holds infeasible h = λ x f. h x (feasible_from x f)
-  holds (range lower upper) h = subst (λ b. Dual b lower upper × Primal b lower upper) (sym m.is_min) (bounds p.direction refl lower upper h.0 h.1)
+  holds (range lower upper) h = subst (λ b. Dual b lower upper × Primal b lower upper)
+      (sym m.is_min) (bounds p.direction refl lower upper h.0 h.1)
 
 pub proofs_mean : (P : Profile) (bytes : List ℕ) (c : Certificate) → Spells bytes c → IsProof P c
     → short.Means bytes
 proofs_mean P bytes c s h =
-    let t = states bytes c.problem c.solutions (spelled_states bytes c s) in
-    (t.0, t.1, t.2, subst (short.Holds t.0 t.1) (sym t.3.bounds) (holds c.problem c.solutions t.0 t.1 t.3 c.problem.claim (claim_true P c h)))
+    let t = states bytes c.problem c.solutions (spelled_states bytes c s) in (
+      t.0,
+      t.1,
+      t.2,
+      subst (short.Holds t.0 t.1) (sym t.3.bounds)
+          (holds c.problem c.solutions t.0 t.1 t.3 c.problem.claim (claim_true P c h)),
+    )

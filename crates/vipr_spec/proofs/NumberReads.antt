@@ -24,8 +24,16 @@ pub record Signed (bs : List ℕ) : Type 0 where
   pub joined : bs ≡ sign ++ without_leading_sign bs
 
 signed_by : (b : ℕ) (bs : List ℕ) (m p : Bool) → (b == 45) ≡ m → (b == 43) ≡ p → Signed (b ∷ bs)
-signed_by b bs true p e f = record { sign = 45 ∷ []; is_sign = inr (inr (refl, e)); joined = rw e (ap (λ c. c ∷ bs) (eqb-true b 45 e)) }
-signed_by b bs false true e f = record { sign = 43 ∷ []; is_sign = inr (inl (refl, e)); joined = rw (e, f) (ap (λ c. c ∷ bs) (eqb-true b 43 f)) }
+signed_by b bs true p e f = record {
+  sign = 45 ∷ [];
+  is_sign = inr (inr (refl, e));
+  joined = rw e (ap (λ c. c ∷ bs) (eqb-true b 45 e));
+}
+signed_by b bs false true e f = record {
+  sign = 43 ∷ [];
+  is_sign = inr (inl (refl, e));
+  joined = rw (e, f) (ap (λ c. c ∷ bs) (eqb-true b 43 f));
+}
 signed_by b bs false false e f = record { sign = []; is_sign = inl (refl, e); joined = rw (e, f) }
 
 pub sign_split : (bs : List ℕ) → Signed bs
@@ -61,10 +69,15 @@ module _ (b : ℕ) (bs : List ℕ) (e : is_slash b ≡ true) where
   some_length n = grind (arith, nat_tests)
 
   bottom_here : bottom_of (b ∷ bs) ≡ bs
-  bottom_here = ap (λ n. if nat_lt n (suc (length bs)) then drop (n + 1) (b ∷ bs) else 49 ∷ []) place_here ∙ ap (λ t. if t then bs else 49 ∷ []) (some_length (length bs))
+  bottom_here = ap (λ n. if nat_lt n (suc (length bs)) then drop (n + 1) (b ∷ bs) else 49 ∷ [])
+      place_here ∙ ap (λ t. if t then bs else 49 ∷ []) (some_length (length bs))
 
 slashed_by : (b : ℕ) (bs : List ℕ) (s : Bool) → is_slash b ≡ s → Slashed bs → Slashed (b ∷ bs)
-slashed_by b bs true e h = record { bottom = Some bs; joined = grind (arith, common_steps); is_bottom = bottom_here b bs e }
+slashed_by b bs true e h = record {
+  bottom = Some bs;
+  joined = grind (arith, common_steps);
+  is_bottom = bottom_here b bs e;
+}
 slashed_by b bs false e h = record {
   bottom = h.bottom;
   joined = ap (λ cs. b ∷ cs) h.joined ∙ ap (λ cs. cs ++ under h.bottom) (sym (top_next b bs e));
@@ -112,7 +125,13 @@ fits_by : (is_negative : Bool) (p q : ℕ) (x : ℚ) (large wide none : Bool) �
 fits_by is_negative p q x true w n e f g h = absurd (cc)
 fits_by is_negative p q x false true n e f g h = absurd (cc)
 fits_by is_negative p q x false false true e f g h = absurd (cc)
-fits_by is_negative p q x false false false e f g h = record { top = grind (arith, nat_tests); bottom = grind (arith, nat_tests); divides = grind (arith, nat_tests); value = cc }
+fits_by is_negative p q x false false false e f g h =
+    record {
+      top = grind (arith, nat_tests);
+      bottom = grind (arith, nat_tests);
+      divides = grind (arith, nat_tests);
+      value = cc;
+    }
 
 written_sound : (is_negative : Bool) (p q : ℕ) (x : ℚ) → written_fraction is_negative p q ≡ Ok x
     → Fits is_negative p q x
@@ -142,7 +161,8 @@ number_complete bs x s =
     ∙ ap (λ cs. of_parts s.is_negative (natural_of (top_of cs)) (natural_of (bottom_of cs))) sign.1
     ∙ ap (λ n. of_parts s.is_negative n (natural_of (bottom_of plain))) top
     ∙ ap (of_parts s.is_negative (Some (digits_value 10 s.top))) bottom
-    ∙ (written_complete s.is_negative (digits_value 10 s.top) (denominator s.bottom) s.top_fits s.bottom_fits s.divides ∙ ap Ok (sym s.value))
+    ∙ (written_complete s.is_negative (digits_value 10 s.top) (denominator s.bottom) s.top_fits
+    s.bottom_fits s.divides ∙ ap Ok (sym s.value))
 
 bottom_sound : (bottom : Option (List ℕ)) (q : ℕ) → natural_of (bottom_digits bottom) ≡ Some q
     → IfSome bottom (IsNumeral 10) × (denominator bottom ≡ q)
@@ -163,7 +183,8 @@ parts_sound bs x g k (Some p) (Some q) e f h =
       is_negative = starts_with_minus bs;
       top = top_of (without_leading_sign bs);
       bottom = k.bottom;
-      joined = g.joined ∙ ap (λ cs. g.sign ++ cs) k.joined ∙ sym (append_assoc g.sign (top_of (without_leading_sign bs)) (under k.bottom));
+      joined = g.joined ∙ ap (λ cs. g.sign ++ cs) k.joined
+          ∙ sym (append_assoc g.sign (top_of (without_leading_sign bs)) (under k.bottom));
       is_sign = g.is_sign;
       top_digits = top.0;
       bottom_digits = bottom.0;
@@ -212,14 +233,17 @@ text_by : (x : ℚ) (p : ℤ) (t : Bool) → IsBounded x → p ≡ x.numer → (
     → SpellsNumber (if t then signed_decimal p else signed_decimal p ++ 47 ∷ decimal x.denom) x
 text_by x (pos n) true b e f =
     let small : n ≤ most = rw (← e) at b.0 in
-    subst (λ cs. SpellsNumber cs x) (append-nil (decimal n)) (text_of x [] false n None (inl (refl, refl)) small e tt (sym (eqb-true x.denom 1 f)) b.1)
+    subst (λ cs. SpellsNumber cs x) (append-nil (decimal n))
+    (text_of x [] false n None (inl (refl, refl)) small e tt (sym (eqb-true x.denom 1 f)) b.1)
 text_by x (pos n) false b e f =
     let small : n ≤ most = rw (← e) at b.0 in
     let bottom = digits_of x.denom b.1 in
     text_of x [] false n (Some (decimal x.denom)) (inl (refl, refl)) small e bottom.0 bottom.1 b.1
 text_by x (negsuc n) true b e f =
     let small : suc n ≤ most = rw (← e) at b.0 in
-    subst (λ cs. SpellsNumber cs x) (ap (λ cs. 45 ∷ cs) (append-nil (decimal (suc n)))) (text_of x (45 ∷ []) true (suc n) None (inr (inr (refl, refl))) small e tt (sym (eqb-true x.denom 1 f)) b.1)
+    subst (λ cs. SpellsNumber cs x) (ap (λ cs. 45 ∷ cs) (append-nil (decimal (suc n))))
+    (text_of x (45 ∷ []) true (suc n) None (inr (inr (refl, refl))) small e tt
+    (sym (eqb-true x.denom 1 f)) b.1)
 text_by x (negsuc n) false b e f =
     let small : suc n ≤ most = rw (← e) at b.0 in
     let bottom = digits_of x.denom b.1 in

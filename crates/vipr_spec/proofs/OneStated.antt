@@ -75,16 +75,16 @@ from_con p q ss others a b back other l m o e h k =
     let natural = one_unique Natural natural_unique in
     let rest = behind_word (codes "CON") l m e h k in
     let many = step (one Natural) natural (length p.constraints) (length q.constraints)
-        rest.0 rest.1 rest.2 rest.3 rest.4 in
+    rest.0 rest.1 rest.2 rest.3 rest.4 in
     let then_bounds = many.1 in
     let listed = (step (one Natural) natural a b then_bounds.0 then_bounds.1 then_bounds.2
-        then_bounds.3 then_bounds.4).1 in
+    then_bounds.3 then_bounds.4).1 in
     let first = listed.3 in
     let second = listed.4 in
     let by_q = subst (λ row. each (constraint row) p.constraints first.0) o first.3 in
     let constraints = each_unique (constraint q.objective) (constraint_unique q.objective)
-        p.constraints q.constraints many.0 first.0 second.0 first.1 second.1
-        (sym first.2 ∙ listed.2 ∙ second.2) by_q second.3 in
+    p.constraints q.constraints many.0 first.0 second.0 first.1 second.1
+    (sym first.2 ∙ listed.2 ∙ second.2) by_q second.3 in
     let claimed = from_rtp p q ss others back other first.1 second.1 constraints.1 first.4 second.4 in
     (constraints.0, claimed.0, claimed.1)
 
@@ -95,7 +95,7 @@ from_obj : (p q : Problem) (ss others : List Row) (a b : ℕ) (back other l m : 
 from_obj p q ss others a b back other l m e h k =
     let rest = behind_word (codes "OBJ") l m e h k in
     let direction = step word word_unique (if p.is_min then codes "min" else codes "max")
-        (if q.is_min then codes "min" else codes "max") rest.0 rest.1 rest.2 rest.3 rest.4 in
+    (if q.is_min then codes "min" else codes "max") rest.0 rest.1 rest.2 rest.3 rest.4 in
     let at = direction.1 in
     let objective = step vector vector_unique p.objective q.objective at.0 at.1 at.2 at.3 at.4 in
     let con = objective.1 in
@@ -108,10 +108,9 @@ from_int p q ss others a b back other l m e h k =
     let rest = behind_word (codes "INT") l m e h k in
     let unique = counted_unique (one Natural) (one_unique Natural natural_unique) in
     let integers = step (counted (one Natural)) unique p.integers q.integers
-        rest.0 rest.1 rest.2 rest.3 rest.4 in
+    rest.0 rest.1 rest.2 rest.3 rest.4 in
     let obj = integers.1 in
-    let same = from_obj p q ss others a b back other obj.0 obj.1 obj.2 obj.3 obj.4 in
-    (
+    let same = from_obj p q ss others a b back other obj.0 obj.1 obj.2 obj.3 obj.4 in (
       λ i. record {
         integers = integers.0 i;
         is_min = same.0 i;
@@ -129,7 +128,7 @@ states_one bytes p q ss others h k =
     let version = behind_word (codes "1.0") ver.0 ver.1 ver.2 ver.3 ver.4 in
     let var = behind_word (codes "VAR") version.0 version.1 version.2 version.3 version.4 in
     let names = (step (counted word) (counted_unique word word_unique) h.0 k.0
-        var.0 var.1 var.2 var.3 var.4).1 in
+    var.0 var.1 var.2 var.3 var.4).1 in
     from_int p q ss others h.1 k.1 h.2 k.2 names.0 names.1 names.2 names.3 names.4
 
 -- if a text means what it claims, the claim holds of whatever problem it states
@@ -138,5 +137,5 @@ pub holds_of_any : (bytes : List ℕ) → Means bytes → (p : Problem) (ss : Li
 holds_of_any bytes means p ss states =
     let same = states_one bytes means.0 p means.1 ss means.2 states in
     let pairs : ◌≡◌ {A = Problem × List Row} (means.0, means.1) (p, ss) =
-        λ i. (same.0 i, same.1 i) in
+    λ i. (same.0 i, same.1 i) in
     subst (λ (z : Problem × List Row). Holds z.0 z.1 z.0.bounds) pairs means.3

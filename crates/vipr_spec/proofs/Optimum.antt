@@ -25,7 +25,8 @@ use Rattle.vipr_spec.proofs.{Goals.proof_two, Rests.rests_out, Soundness.as_good
 
 at_is : (q : ℚ) (j : ℕ)
     → at (insert {R = nat_cmp} empty 0 q) j ≡ unwrap_or (cond (j == 0) (Some q) None) zero_ℚ
-at_is q j = ap (λ o. unwrap_or o zero_ℚ) (get-insert nat_cmp_total empty 0 q j ∙ ap₂ (λ b o. cond b (Some q) o) (unsigned_tied j 0) (get-empty nat_cmp j))
+at_is q j = ap (λ o. unwrap_or o zero_ℚ) (get-insert nat_cmp_total empty 0 q j
+    ∙ ap₂ (λ b o. cond b (Some q) o) (unsigned_tied j 0) (get-empty nat_cmp j))
 
 later : (j : ℕ) → (suc j == 0) ≡ false
 later j = grind (arith, nat_tests)
@@ -55,7 +56,8 @@ whole_at (suc j) = subst IsWhole (sym (row_past j)) IsWhole-zero
 
 is_integer : IsInteger first_variable 0
 unfolding first_variable
-is_integer = contains-insert nat_cmp_total set.empty 0 0 ∙ ap (λ b. b || set.contains (set.empty {R = nat_cmp}) 0) (unsigned_tied 0 0)
+is_integer = contains-insert nat_cmp_total set.empty 0 0
+    ∙ ap (λ b. b || set.contains (set.empty {R = nat_cmp}) 0) (unsigned_tied 0 0)
 
 pub whole_row : IsWholeRow first_variable (at row)
 whole_row zero n = (whole_at 0, is_integer)
@@ -90,7 +92,12 @@ value_fits : (f : ℕ → ℚ) (a : ℚ) → f 0 ≡ a → FitsAtOne a → Value
 value_fits f a e h k l = grind (arith, row_first)
 
 solution_fits : SolutionFits optimum.problem (at row)
-solution_fits = (All-cons (λ c. ValueFits 1 (at c.item.row) (at row)) doubled [] (value_fits (at twice) (whole (pos 2)) twice_first two_fits) (All-nil (λ c. ValueFits 1 (at c.item.row) (at row))), value_fits (at row) (whole (pos 1)) row_first one_fits)
+solution_fits = (
+  All-cons (λ c. ValueFits 1 (at c.item.row) (at row)) doubled []
+      (value_fits (at twice) (whole (pos 2)) twice_first two_fits)
+      (All-nil (λ c. ValueFits 1 (at c.item.row) (at row))),
+  value_fits (at row) (whole (pos 1)) row_first one_fits,
+)
 
 -- ---- half of 2 x ≤ 3, rounded
 
@@ -115,13 +122,19 @@ sum_is : sum_of (entry ∷ []) at_most
 sum_is = λ i. record { row = λ j. sum_row j i; sense = at_most; bound = sum_bound i }
 
 pull_below : neg_ℚ half ≤ℚ zero_ℚ
-pull_below = le_in _ _ _ _ _ _ (is_neg _ _ _ (is_over (pos 1) 2 (lit< tt))) (is_zero 1 (zero-lt-suc 0)) (omega (arith, ints))
+pull_below = le_in _ _ _ _ _ _ (is_neg _ _ _ (is_over (pos 1) 2 (lit< tt)))
+    (is_zero 1 (zero-lt-suc 0)) (omega (arith, ints))
 
 pull_not_above : ¬ (zero_ℚ ≤ℚ neg_ℚ half)
-pull_not_above h = let l = le_out _ _ _ _ _ _ (is_zero 1 (zero-lt-suc 0)) (is_neg _ _ _ (is_over (pos 1) 2 (lit< tt))) h in omega (arith, ints)
+pull_not_above h =
+    let l = le_out _ _ _ _ _ _ (is_zero 1 (zero-lt-suc 0)) (is_neg _ _ _ (is_over (pos 1) 2 (lit< tt))) h in
+    omega (arith, ints)
 
 has_sense : HasSense (entry ∷ []) at_most
-has_sense = (All-cons (λ e. pull e ≤ℚ zero_ℚ) entry [] pull_below (All-nil (λ e. pull e ≤ℚ zero_ℚ)), (0, entry, lit< tt, refl, pull_not_above))
+has_sense = (
+  All-cons (λ e. pull e ≤ℚ zero_ℚ) entry [] pull_below (All-nil (λ e. pull e ≤ℚ zero_ℚ)),
+  (0, entry, lit< tt, refl, pull_not_above),
+)
 
 rounds : RoundsTo at_most (over (pos 3) 2) (pos 1)
 rounds = grind (arith, over-le)
@@ -134,12 +147,14 @@ combines = (
   at_most,
   has_sense,
   subst (λ (x : Condition). IsWholeRow first_variable x.row) (sym sum_is) whole_row,
-  subst (λ (x : Condition). Rattle.vipr_spec.specs.Constraint.DominatesRounded x at_most_one) (sym sum_is) (inr (pos 1, rounds, inr (λ j. refl, inl refl, le_refl_ℚ _))),
+  subst (λ (x : Condition). Rattle.vipr_spec.specs.Constraint.DominatesRounded x at_most_one)
+      (sym sum_is) (inr (pos 1, rounds, inr (λ j. refl, inl refl, le_refl_ℚ _))),
 )
 
 one_product : (a : ℚ) → ProductFits half a
     → All (λ (t : ℚ × ℚ). ProductFits t.0 t.1) ((half, a) ∷ [])
-one_product a h = All-cons (λ (t : ℚ × ℚ). ProductFits t.0 t.1) (half, a) [] h (All-nil (λ (t : ℚ × ℚ). ProductFits t.0 t.1))
+one_product a h = All-cons (λ (t : ℚ × ℚ). ProductFits t.0 t.1) (half, a) [] h
+    (All-nil (λ (t : ℚ × ℚ). ProductFits t.0 t.1))
 
 abbrev HalfFits : ℚ → Type 0
 HalfFits a = TermsFit ((half, a) ∷ [])
@@ -191,14 +206,28 @@ step_joined = record {
     ),
   );
   fits = tt;
-  references = λ i h. elim h [ inl e ↦ live 4 i 2 e refl | inr h ↦ elim h [ inl e ↦ live 4 i 2 e refl | inr h ↦ elim h [ inl e ↦ live 4 i 1 e refl | inr e ↦ live 4 i 3 e refl ] ] ];
+  references =
+      λ i h. elim h [
+        | inl e ↦ live 4 i 2 e refl
+        | inr h ↦
+            elim h [
+              | inl e ↦ live 4 i 2 e refl
+              | inr h ↦
+                  elim h [ inl e ↦ live 4 i 1 e refl | inr e ↦ live 4 i 3 e refl ]
+            ]
+      ];
 }
 
 abbrev listed : Named Row
 listed = record { name = []; item = row }
 
 best : IsBest optimum listed
-best = ((0, lit< tt, refl), All-cons (λ t. IsAsGoodAt optimum.problem (at row) (at t.item)) listed [] (as_good_refl maximum (objective_at optimum.problem (at row))) (All-nil (λ t. IsAsGoodAt optimum.problem (at row) (at t.item))))
+best = (
+  (0, lit< tt, refl),
+  All-cons (λ t. IsAsGoodAt optimum.problem (at row) (at t.item)) listed
+      [] (as_good_refl maximum (objective_at optimum.problem (at row)))
+      (All-nil (λ t. IsAsGoodAt optimum.problem (at row) (at t.item))),
+)
 
 step_cut_off : IsGoodStep one optimum 5 sol
     (record { row = at row; sense = at_least; bound = whole (pos 1) })
@@ -214,7 +243,9 @@ step_assumed k d = record { earlier = tt; follows = tt; fits = tt; references = 
 
 by_reason : (k : ℕ) (q r : Reason) → IsGoodStep one optimum k q (constraint_at optimum k)
     → Some q ≡ Some r → IsGoodStep one optimum k r (constraint_at optimum k)
-by_reason k q r g e = let same : q ≡ r = ap (λ o. unwrap_or o r) e in subst (λ r. IsGoodStep one optimum k r (constraint_at optimum k)) same g
+by_reason k q r g e =
+    let same : q ≡ r = ap (λ o. unwrap_or o r) e in
+    subst (λ r. IsGoodStep one optimum k r (constraint_at optimum k)) same g
 
 steps : HasGoodSteps one optimum
 steps zero r e = absurd (cc)
@@ -232,8 +263,10 @@ nothing a r = grind (arith, rests_out)
 
 proof : IsProof one optimum
 proof = record {
-  solutions = All-cons (λ s. IsFeasible optimum.problem (at s.item)) listed [] feasible (All-nil (λ s. IsFeasible optimum.problem (at s.item)));
-  solutions_fit = All-cons (λ s. SolutionFits optimum.problem (at s.item)) listed [] solution_fits (All-nil (λ s. SolutionFits optimum.problem (at s.item)));
+  solutions = All-cons (λ s. IsFeasible optimum.problem (at s.item)) listed [] feasible
+      (All-nil (λ s. IsFeasible optimum.problem (at s.item)));
+  solutions_fit = All-cons (λ s. SolutionFits optimum.problem (at s.item)) listed [] solution_fits
+      (All-nil (λ s. SolutionFits optimum.problem (at s.item)));
   steps = steps;
   primal = (listed, (0, lit< tt, refl), le_of_eq_ℚ _ _ (sym row_value));
   dual = λ _. (4, (lit< tt, nothing, inr (λ j. refl, inl refl, le_refl_ℚ _)));

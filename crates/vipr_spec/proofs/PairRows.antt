@@ -16,11 +16,17 @@ not_found : (n j : ℕ) → n ≤ j → (ps : List (ℕ × ℚ)) → All (λ p. 
     → find nat_cmp j (filter is_nonzero ps) ≡ None
 not_found n j h [] a = refl
 not_found n j h (p ∷ ps) a =
-    grind (arith, All-head (λ (p : ℕ × ℚ). p.0 < n) p ps a, not_found n j h ps (All-tail (λ (p : ℕ × ℚ). p.0 < n) p ps a))
+    grind (
+      arith,
+      All-head (λ (p : ℕ × ℚ). p.0 < n) p ps a,
+      not_found n j h ps (All-tail (λ (p : ℕ × ℚ). p.0 < n) p ps a),
+    )
 
 -- the row of pairs of variables below n names no other
 pub row_below : (n : ℕ) (ps : List (ℕ × ℚ)) → All (λ p. p.0 < n) ps → NamesBelow n (at (row_of ps))
-row_below n ps a j h = ap (λ o. unwrap_or o zero_ℚ) (get-from_entries nat_cmp_total (filter is_nonzero ps) j ∙ not_found n j h ps a)
+row_below n ps a j h =
+    ap (λ o. unwrap_or o zero_ℚ) (get-from_entries nat_cmp_total (filter is_nonzero ps) j
+    ∙ not_found n j h ps a)
 
 same_number : (x j n : ℕ) → nat_eq x j ≡ true → x < n → j < n
 same_number x j n e h = grind (arith, nat_tests)

@@ -22,7 +22,8 @@ use Rattle.vipr_spec.proofs.{PairRows.not_zero, Placed.at_place, Placed.reason_p
 
 pub entry_new : (new : ℕ → ℕ) (es : List (ℕ × ℚ)) (e : ℕ × ℚ) → Contains es e → e.1 ≢ zero_ℚ
     → Contains (renumbered_entries new es) (new e.0, e.1)
-entry_new new es e h n = Contains-map (λ (e : ℕ × ℚ). (new e.0, e.1)) (filter is_nonzero es) e (Contains-filter is_nonzero es e h (not_zero_is e.1 n))
+entry_new new es e h n = Contains-map (λ (e : ℕ × ℚ). (new e.0, e.1)) (filter is_nonzero es) e
+    (Contains-filter is_nonzero es e h (not_zero_is e.1 n))
 
 pub entry_old : (new : ℕ → ℕ) (es : List (ℕ × ℚ)) (f : ℕ × ℚ)
     → Contains (renumbered_entries new es) f
@@ -47,7 +48,9 @@ refers_new new (Some sol) i h = h
 refers_entry : (new : ℕ → ℕ) (es : List (ℕ × ℚ)) (p : ℕ)
     → (m : ℚ) × Contains (renumbered_entries new es) (p, m) × (m ≢ zero_ℚ)
     → (i : ℕ) × ((m : ℚ) × Contains es (i, m) × (m ≢ zero_ℚ)) × (new i ≡ p)
-refers_entry new es p h = let r = entry_old new es (p, h.0) h.1 in (r.0.0, (r.0.1, r.1, r.2), ap (λ (e : ℕ × ℚ). e.0) r.3)
+refers_entry new es p h =
+    let r = entry_old new es (p, h.0) h.1 in
+    (r.0.0, (r.0.1, r.1, r.2), ap (λ (e : ℕ × ℚ). e.0) r.3)
 
 pub refers_old : (new : ℕ → ℕ) (r : Option Reason) (p : ℕ) → RefersTo (renumbered_at new r) p
     → (i : ℕ) × RefersTo r i × (new i ≡ p)
@@ -71,7 +74,8 @@ at_new keep f d cs ys zs given e i k = ⊎_elim
     (λ (l : i < length cs).
     let same : new_index keep i ≡ i = index_same keep (length cs) given i (omega arith) in
     let small : i < length (map f cs) = simp length-map l in
-    ap (λ n. slice_index_or (map f cs ++ ys) n d) same ∙ get_or_append_left (map f cs) ys d i small ∙ sym (get_or_append_left (map f cs) zs d i small))
+    ap (λ n. slice_index_or (map f cs ++ ys) n d) same ∙ get_or_append_left (map f cs) ys d i small
+    ∙ sym (get_or_append_left (map f cs) zs d i small))
     (λ (l : length cs ≤ i).
     let m = length cs in
     let first : new_index keep m ≡ m = index_same keep m given m (omega arith) in
@@ -110,7 +114,9 @@ given_none (x ∷ cs) ys (suc i) h = given_none cs ys i (omega arith)
 -- ---- the certificate with what is kept alone
 
 module _ (c : Certificate) (keep : ℕ → Bool) (given : (i : ℕ) → i < length c.problem.constraints → keep i ≡ true) where
-  pub kept_values : {X : Type 0} (g h : Derivation → X) → ((d : Derivation) (l : Option ℕ) → h (record d { last = l }) ≡ h d) → ((d : Derivation) → h (with_new_indices (new_index keep) d) ≡ g d)
+  pub kept_values : {X : Type 0} (g h : Derivation → X)
+      → ((d : Derivation) (l : Option ℕ) → h (record d { last = l }) ≡ h d)
+      → ((d : Derivation) → h (with_new_indices (new_index keep) d) ≡ g d)
       → map h (with_kept c keep).derivations ≡ kept_of keep (length c.problem.constraints) (map g c.derivations)
   kept_values g h same new = grind (arith, map_with, map_map, kept_map)
 
@@ -118,16 +124,31 @@ module _ (c : Certificate) (keep : ℕ → Bool) (given : (i : ℕ) → i < leng
   new_given i h = index_same keep (length c.problem.constraints) given i h
 
   pub new_derived : (i : ℕ) → length c.problem.constraints ≤ i → length c.problem.constraints ≤ new_index keep i
-  new_derived i h = let e = new_given (length c.problem.constraints) (omega arith) in let l = index_mono keep (length c.problem.constraints) i h in omega arith
+  new_derived i h =
+      let e = new_given (length c.problem.constraints) (omega arith) in
+      let l = index_mono keep (length c.problem.constraints) i h in
+      omega arith
 
   pub old_derived : (i : ℕ) → length c.problem.constraints ≤ new_index keep i → length c.problem.constraints ≤ i
-  old_derived i h = ⊎_elim (λ (l : i < length c.problem.constraints). absurd (let e = new_given i (omega arith) in omega arith)) (λ (l : length c.problem.constraints ≤ i). l) (cases_lt i (length c.problem.constraints))
+  old_derived i h =
+      ⊎_elim (λ (l : i < length c.problem.constraints). absurd (let e = new_given i (omega arith) in
+      omega arith)) (λ (l : length c.problem.constraints ≤ i). l)
+      (cases_lt i (length c.problem.constraints))
 
   pub constraint_new : (i : ℕ) → keep i ≡ true → constraint_at (with_kept c keep) (new_index keep i) ≡ constraint_at c i
   constraint_new i k = search (rules, constraints_listed, at_new, kept_values)
 
-  pub reason_new : (i : ℕ) → keep i ≡ true → reason_at (with_kept c keep) (new_index keep i) ≡ renumbered_at (new_index keep) (reason_at c i)
-  reason_new i k = grind (arith, reasons_listed (with_kept c keep) (new_index keep i), at_new, kept_values, option_out (new_index keep), reasons_listed c i)
+  pub reason_new : (i : ℕ) → keep i ≡ true
+      → reason_at (with_kept c keep) (new_index keep i) ≡ renumbered_at (new_index keep)
+      (reason_at c i)
+  reason_new i k = grind (
+    arith,
+    reasons_listed (with_kept c keep) (new_index keep i),
+    at_new,
+    kept_values,
+    option_out (new_index keep),
+    reasons_listed c i,
+  )
 
   pub length_new : length (with_kept c keep).derivations + length c.problem.constraints ≡ new_index keep (count c)
   length_new = grind (arith, length_with, length-map, length_kept, new_given)
@@ -135,30 +156,45 @@ module _ (c : Certificate) (keep : ℕ → Bool) (given : (i : ℕ) → i < leng
   pub count_new : count (with_kept c keep) ≡ new_index keep (count c)
   count_new = let e = length_new in omega arith
 
-  pub old_of : (p : ℕ) → p < count (with_kept c keep) → (i : ℕ) × (i < count c) × (keep i ≡ true) × (new_index keep i ≡ p)
+  pub old_of : (p : ℕ) → p < count (with_kept c keep) → (i : ℕ) × (i < count c) × (keep i ≡ true)
+      × (new_index keep i ≡ p)
   old_of p h = let e = count_new in old_index keep (count c) p (omega arith)
 
   -- ---- last references
-  pub last_of : (p : ℕ) → last_at (with_kept c keep) (length c.problem.constraints + p) ≡ last_in (with_kept c keep).derivations p
-  last_of p = lasts_listed (with_kept c keep) (length c.problem.constraints + p) ∙ at_place (λ a. None) c.problem.constraints (map (λ d. d.last) (with_kept c keep).derivations) p None
+  pub last_of : (p : ℕ) → last_at (with_kept c keep) (length c.problem.constraints + p) ≡ last_in
+      (with_kept c keep).derivations p
+  last_of p = lasts_listed (with_kept c keep) (length c.problem.constraints + p)
+      ∙ at_place (λ a. None) c.problem.constraints
+      (map (λ d. d.last) (with_kept c keep).derivations) p None
 
-  reasons_in : (j : ℕ) → reason_in (with_kept c keep).derivations j ≡ reason_in (map (with_new_indices (new_index keep)) (kept_of keep (length c.problem.constraints) c.derivations)) j
-  reasons_in j = ap (λ l. slice_index_or l j None) (map_with (λ d. Some d.reason) (λ d l. refl) (length c.problem.constraints) (map (with_new_indices (new_index keep)) (kept_of keep (length c.problem.constraints) c.derivations)))
+  reasons_in : (j : ℕ) → reason_in (with_kept c keep).derivations j ≡ reason_in
+      (map (with_new_indices (new_index keep))
+      (kept_of keep (length c.problem.constraints) c.derivations)) j
+  reasons_in j = ap (λ l. slice_index_or l j None)
+      (map_with (λ d. Some d.reason) (λ d l. refl) (length c.problem.constraints)
+      (map (with_new_indices (new_index keep))
+      (kept_of keep (length c.problem.constraints) c.derivations)))
 
   -- a later one that refers to a derivation is no later than its last reference
-  pub last_then_new : (k i : ℕ) → length c.problem.constraints ≤ i → i < k → RefersTo (reason_at (with_kept c keep) k) i → (l : ℕ) × (last_at (with_kept c keep) i ≡ Some l) × (k ≤ l)
+  pub last_then_new : (k i : ℕ) → length c.problem.constraints ≤ i → i < k
+      → RefersTo (reason_at (with_kept c keep) k) i
+      → (l : ℕ) × (last_at (with_kept c keep) i ≡ Some l) × (k ≤ l)
   last_then_new k i h lt r =
       let m = length c.problem.constraints in
       let t = with_kept c keep in
       let ds = map (with_new_indices (new_index keep)) (kept_of keep m c.derivations) in
       let pi : i ≡ m + (i - m) = omega arith in
       let pk : k ≡ m + (k - m) = omega arith in
-      let same : reason_at t k ≡ reason_in ds (k - m) = ap (reason_at t) pk ∙ reason_placed t (k - m) ∙ reasons_in (k - m) in
-      let found = last_then m ds (i - m) (k - m) (omega arith) (subst (RefersTo (reason_in ds (k - m))) pi (subst (λ q. RefersTo q i) same r)) in
+      let same : reason_at t k ≡ reason_in ds (k - m) = ap (reason_at t) pk
+      ∙ reason_placed t (k - m) ∙ reasons_in (k - m) in
+      let found = last_then m ds (i - m) (k - m) (omega arith)
+      (subst (RefersTo (reason_in ds (k - m))) pi (subst (λ q. RefersTo q i) same r)) in
       (found.0, ap (last_at t) pi ∙ last_of (i - m) ∙ found.1, let q = found.2 in omega arith)
 
   -- the last reference is one
-  pub last_is_new : (i l : ℕ) → length c.problem.constraints ≤ i → last_at (with_kept c keep) i ≡ Some l → (i < l) × (l < count (with_kept c keep)) × RefersTo (reason_at (with_kept c keep) l) i
+  pub last_is_new : (i l : ℕ) → length c.problem.constraints ≤ i
+      → last_at (with_kept c keep) i ≡ Some l → (i < l) × (l < count (with_kept c keep))
+      × RefersTo (reason_at (with_kept c keep) l) i
   last_is_new i l h e =
       let m = length c.problem.constraints in
       let t = with_kept c keep in
@@ -166,7 +202,8 @@ module _ (c : Certificate) (keep : ℕ → Bool) (given : (i : ℕ) → i < leng
       let pi : i ≡ m + (i - m) = omega arith in
       let found = last_names m ds (i - m) l (sym (last_of (i - m)) ∙ ap (last_at t) (sym pi) ∙ e) in
       let size : length t.derivations ≡ length ds = length_with m ds in
-      let same : reason_at t l ≡ reason_in ds found.0 = ap (reason_at t) found.1 ∙ reason_placed t found.0 ∙ reasons_in found.0 in (
+      let same : reason_at t l ≡ reason_in ds found.0 = ap (reason_at t) found.1
+      ∙ reason_placed t found.0 ∙ reasons_in found.0 in (
         let a = found.1 in let b = found.2 in omega arith,
         let a = found.1 in let b = found.3 in omega arith,
         subst (λ q. RefersTo q i) (sym same) (subst (RefersTo (reason_in ds found.0)) (sym pi) found.4),
@@ -176,6 +213,9 @@ module _ (c : Certificate) (keep : ℕ → Bool) (given : (i : ℕ) → i < leng
   live_new k i lt r =
       let t = with_kept c keep in
       and_from (nat_lt i k) _ (lt-ltb i k lt) (or_right (is_assumption (reason_at t i)) _ (⊎_elim
-      (λ (l : i < length c.problem.constraints). ap (lasts_to k) (lasts_listed t i ∙ given_none c.problem.constraints (map (λ d. d.last) t.derivations) i l))
-      (λ (l : length c.problem.constraints ≤ i). let found = last_then_new k i l lt r in ap (lasts_to k) found.1 ∙ le-leb k found.0 found.2)
+      (λ (l : i < length c.problem.constraints). ap (lasts_to k)
+      (lasts_listed t i ∙ given_none c.problem.constraints (map (λ d. d.last) t.derivations) i
+      l))
+      (λ (l : length c.problem.constraints ≤ i). let found = last_then_new k i l lt r in
+      ap (lasts_to k) found.1 ∙ le-leb k found.0 found.2)
       (cases_lt i (length c.problem.constraints))))

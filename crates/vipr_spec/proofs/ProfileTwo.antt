@@ -41,7 +41,11 @@ bound_nothing : RestsOnNothing rounded_bound 0
 bound_nothing a r = rests_given rounded_bound 0 a refl r
 
 pub bound_two : IsProof two rounded_bound
-bound_two = proof_by_steps two _ _ 0 no_steps tt (lit< tt, bound_nothing, inr (whole_row, λ j. refl, inr (pos 1, half_up, inr (λ j. refl, inl refl, le_refl_ℚ _))))
+bound_two = proof_by_steps two _ _ 0 no_steps tt (
+  lit< tt,
+  bound_nothing,
+  inr (whole_row, λ j. refl, inr (pos 1, half_up, inr (λ j. refl, inl refl, le_refl_ℚ _))),
+)
   where
     no_steps : HasGoodSteps two rounded_bound
     no_steps zero r e = absurd (cc)
@@ -55,7 +59,9 @@ pub bound_one : ¬ IsProof one rounded_bound
 bound_one p =
     let d = p.dual refl in
     let e : d.0 ≡ 0 = omega (arith, d.1.0) in
-    not_dominated (subst (λ k. MeetsBound one rounded_bound.problem (constraint_at rounded_bound k) (whole (pos 1))) e d.1.2)
+    not_dominated
+    (subst (λ k. MeetsBound one rounded_bound.problem (constraint_at rounded_bound k)
+    (whole (pos 1))) e d.1.2)
 
 -- ---- the split
 
@@ -63,7 +69,13 @@ absurdity : IsAbsurd (constraint_at split_at_half 0)
 absurdity = (λ j. ap (λ o. unwrap_or o zero_ℚ) (get-empty nat_cmp j), not_one)
 
 splits : IsSplit two first_variable (constraint_at split_at_half 1) (constraint_at split_at_half 2)
-splits = inl (record { row = λ j. refl; whole_row = whole_row; senses = (refl, refl); bounds = (pos 0, pos 1, half_down, half_up, whole_bounds) })
+splits = inl
+    (record {
+      row = λ j. refl;
+      whole_row = whole_row;
+      senses = (refl, refl);
+      bounds = (pos 0, pos 1, half_down, half_up, whole_bounds);
+    })
   where
     whole_bounds : pos 1 ≤ℤ (pos 0 +ℤ pos 1)
     whole_bounds = omega (arith, ints)
@@ -80,7 +92,9 @@ assumes k d = record { earlier = tt; follows = tt; fits = tt; references = λ i 
 by_reason : (k : ℕ) (q r : Reason)
     → IsGoodStep two split_at_half k q (constraint_at split_at_half k) → Some q ≡ Some r
     → IsGoodStep two split_at_half k r (constraint_at split_at_half k)
-by_reason k q r g e = let same : q ≡ r = ap (λ o. unwrap_or o r) e in subst (λ r. IsGoodStep two split_at_half k r (constraint_at split_at_half k)) same g
+by_reason k q r g e =
+    let same : q ≡ r = ap (λ o. unwrap_or o r) e in
+    subst (λ r. IsGoodStep two split_at_half k r (constraint_at split_at_half k)) same g
 
 steps : HasGoodSteps two split_at_half
 steps zero r e = absurd (cc)

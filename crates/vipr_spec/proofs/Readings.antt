@@ -25,13 +25,20 @@ token kind P law = record { reads = reads_one kind P law; remains = remains_toke
 -- so many
 pub many : {A : Type 0} {read : Rest → Read A} {S : Shape A} → IsReading read S → (n : ℕ)
     → IsReading (read_each read n) (λ xs ts. (length xs ≡ n) × each S xs ts)
-many {read = read} {S = S} k n = grind (arith, reads_repeated read S k.reads k.remains n, remains_repeated read S k.reads k.remains n)
+many {read = read} {S = S} k n =
+    grind (
+      arith,
+      reads_repeated read S k.reads k.remains n,
+      remains_repeated read S k.reads k.remains n,
+    )
 
 -- one, and then what follows it
 abbrev pub Chain : {A B : Type 0} → Shape A → (A → Shape B) → Shape B
 Chain {A} S T y ts = (x : A) × (S x then T x y) ts
 
-module _ {A B : Type 0} {read : Rest → Read A} {S : Shape A} {T : A → Shape B} (first : IsReading read S) (f : A × Rest → Read B) (rest : (x : A) → IsReading (λ s. f (x, s)) (T x)) where
+module _ {A B : Type 0} {read : Rest → Read A} {S : Shape A} {T : A → Shape B}
+    (first : IsReading read S) (f : A × Rest → Read B)
+    (rest : (x : A) → IsReading (λ s. f (x, s)) (T x)) where
   chain_sound : (r s : Rest) (y : B) → (read r >>= f) ≡ Ok (y, s) → ReadsFront (Chain S T y) r s
   chain_sound r s y e =
       let x = bind_ok e in
@@ -64,7 +71,8 @@ module _ {A B : Type 0} {read : Rest → Read A} {S : Shape A} (only : IsReading
   last_complete : (r s : Rest) (y : B) → ReadsFront (Last S g y) r s → (read r >>= λ x. answer (g x.0) x.1) ≡ Ok (y, s)
   last_complete r s y t =
       let x = t.shape.0 in
-      ok_then (λ x. answer (g x.0) x.1) ((only.reads r s x).1 (read_as (S x) t t.shape.2)) (ap (λ z. answer z s) (sym t.shape.1))
+      ok_then (λ x. answer (g x.0) x.1) ((only.reads r s x).1 (read_as (S x) t t.shape.2))
+      (ap (λ z. answer z s) (sym t.shape.1))
 
   pub last : IsReading (λ r. read r >>= λ x. answer (g x.0) x.1) (Last S g)
   last = record {
@@ -90,8 +98,10 @@ Done x y ts = (y ≡ x) × (ts ≡ [])
 pub done : {A : Type 0} (x : A) → IsReading (λ r. answer x r) (Done x)
 done {A} x = record {
   reads = λ r s y. (
-    λ e. let t = read_nothing r in is_answer (λ z q. ReadsFront (Done x z) r q) e (read_as (Done x x) t (refl, t.shape)),
-    λ t. ap (λ q. answer x q) (nothing_read (read_as (λ ts. ts ≡ []) t t.shape.1)) ∙ ap (λ z. answer z s) (sym t.shape.0),
+    λ e. let t = read_nothing r in
+        is_answer (λ z q. ReadsFront (Done x z) r q) e (read_as (Done x x) t (refl, t.shape)),
+    λ t. ap (λ q. answer x q) (nothing_read (read_as (λ ts. ts ≡ []) t t.shape.1))
+        ∙ ap (λ z. answer z s) (sym t.shape.0),
   );
   remains = remains_ok x;
 }
@@ -99,8 +109,21 @@ done {A} x = record {
 -- three shapes, the first two or the last two together
 pub regroup : {P Q R : List (List ℕ) → Type 0} {ts : List (List ℕ)} → (P then Q then R) ts
     → ((P then Q) then R) ts
-regroup h = (h.0 ++ h.4.0, h.4.1, h.2 ∙ ap (λ l. h.0 ++ l) h.4.2 ∙ sym (append_assoc h.0 h.4.0 h.4.1), (h.0, h.4.0, refl, h.3, h.4.3), h.4.4)
+regroup h = (
+  h.0 ++ h.4.0,
+  h.4.1,
+  h.2 ∙ ap (λ l. h.0 ++ l) h.4.2
+      ∙ sym (append_assoc h.0 h.4.0 h.4.1),
+  (h.0, h.4.0, refl, h.3, h.4.3),
+  h.4.4,
+)
 
 pub degroup : {P Q R : List (List ℕ) → Type 0} {ts : List (List ℕ)} → ((P then Q) then R) ts
     → (P then Q then R) ts
-degroup h = (h.3.0, h.3.1 ++ h.1, h.2 ∙ ap (λ l. l ++ h.1) h.3.2 ∙ append_assoc h.3.0 h.3.1 h.1, h.3.3, (h.3.1, h.1, refl, h.3.4, h.4))
+degroup h = (
+  h.3.0,
+  h.3.1 ++ h.1,
+  h.2 ∙ ap (λ l. l ++ h.1) h.3.2 ∙ append_assoc h.3.0 h.3.1 h.1,
+  h.3.3,
+  (h.3.1, h.1, refl, h.3.4, h.4),
+)

@@ -18,7 +18,8 @@ use Rattle.vipr_spec.proofs.{Kept.map_with, PairRows.not_zero}
 entry_true : (es : List (ℕ × ℚ)) (i : ℕ) → list_any (λ e. nat_eq i e.0 && is_nonzero e) es ≡ true
     → (m : ℚ) × Contains es (i, m) × (m ≢ zero_ℚ)
 entry_true es i t =
-    let r = Any-contains (λ (e : ℕ × ℚ). (nat_eq i e.0 && is_nonzero e) ≡ true) es (Any-from_list_any (λ (e : ℕ × ℚ). nat_eq i e.0 && is_nonzero e) es t) in
+    let r = Any-contains (λ (e : ℕ × ℚ). (nat_eq i e.0 && is_nonzero e) ≡ true) es
+    (Any-from_list_any (λ (e : ℕ × ℚ). nat_eq i e.0 && is_nonzero e) es t) in
     let both = and_parts (nat_eq i r.0.0) (is_nonzero r.0) r.2 in
     let same : (r.0.0, r.0.1) ≡ (i, r.0.1) = ap (λ n. (n, r.0.1)) (sym (eqb-true i r.0.0 both.0)) in
     (r.0.1, subst (Contains es) same r.1, not_zero r.0.1 both.1)
@@ -36,8 +37,10 @@ refers_from (lin es) i h = entry_from es i h.0 h.1 h.2
 refers_from (rnd es) i h = entry_from es i h.0 h.1 h.2
 refers_from (uns i1 l1 i2 l2) i (inl e) = or_left (nat_eq i i1) _ (eq-eqb i i1 e)
 refers_from (uns i1 l1 i2 l2) i (inr (inl e)) = or_right (nat_eq i i1) _ (or_left (nat_eq i l1) _ (eq-eqb i l1 e))
-refers_from (uns i1 l1 i2 l2) i (inr (inr (inl e))) = or_right (nat_eq i i1) _ (or_right (nat_eq i l1) _ (or_left (nat_eq i i2) _ (eq-eqb i i2 e)))
-refers_from (uns i1 l1 i2 l2) i (inr (inr (inr e))) = or_right (nat_eq i i1) _ (or_right (nat_eq i l1) _ (or_right (nat_eq i i2) _ (eq-eqb i l2 e)))
+refers_from (uns i1 l1 i2 l2) i (inr (inr (inl e))) =
+    or_right (nat_eq i i1) _ (or_right (nat_eq i l1) _ (or_left (nat_eq i i2) _ (eq-eqb i i2 e)))
+refers_from (uns i1 l1 i2 l2) i (inr (inr (inr e))) =
+    or_right (nat_eq i i1) _ (or_right (nat_eq i l1) _ (or_right (nat_eq i i2) _ (eq-eqb i l2 e)))
 refers_from sol i h = absurd h
 
 -- ---- what is referred to is earlier
@@ -57,14 +60,20 @@ last_in ds j = slice_index_or (map (λ d. d.last) ds) j None
 pub last_is : (k : ℕ) (ds : List Derivation) (i l : ℕ) → last_reference k ds i ≡ Some l
     → (j : ℕ) × (l ≡ k + j) × (j < length ds) × RefersTo (reason_in ds j) i
 last_is k [] i l e = absurd (cc)
-last_is k (d ∷ ds) i l e = by (λ l. last_is (suc k) ds i l) (last_reference (suc k) ds i) refl (refers_to d.reason i) refl e
+last_is k (d ∷ ds) i l e = by (λ l. last_is (suc k) ds i l) (last_reference (suc k) ds i) refl
+    (refers_to d.reason i) refl e
   where
-    by : ((l : ℕ) → last_reference (suc k) ds i ≡ Some l → (j : ℕ) × (l ≡ suc k + j) × (j < length ds) × RefersTo (reason_in ds j) i)
-        → (o : Option ℕ) → last_reference (suc k) ds i ≡ o → (b : Bool) → refers_to d.reason i ≡ b → or_else o (cond b (Some k) None) ≡ Some l
+    by : ((l : ℕ) → last_reference (suc k) ds i ≡ Some l → (j : ℕ) × (l ≡ suc k + j)
+        × (j < length ds) × RefersTo (reason_in ds j) i)
+        → (o : Option ℕ) → last_reference (suc k) ds i ≡ o → (b : Bool) → refers_to d.reason i ≡ b
+        → or_else o (cond b (Some k) None) ≡ Some l
         → (j : ℕ) × (l ≡ k + j) × (j < length (d ∷ ds)) × RefersTo (reason_in (d ∷ ds) j) i
     by rest None f true t e = let same : k ≡ l = cc in (0, omega arith, omega arith, refers_true d.reason i t)
     by rest None f false t e = absurd (cc)
-    by rest (Some n) f b t e = let same : n ≡ l = cc in let r = rest n f in (suc r.0, let q = r.1 in omega arith, let q = r.2 in omega arith, r.3)
+    by rest (Some n) f b t e =
+        let same : n ≡ l = cc in
+        let r = rest n f in
+        (suc r.0, let q = r.1 in omega arith, let q = r.2 in omega arith, r.3)
 
 -- none refers to i after the last reference
 last_after : (k : ℕ) (ds : List Derivation) (i j : ℕ) → RefersTo (reason_in ds j) i
@@ -72,10 +81,16 @@ last_after : (k : ℕ) (ds : List Derivation) (i j : ℕ) → RefersTo (reason_i
 last_after k [] i j h = absurd h
 last_after k (d ∷ ds) i zero h = by (last_reference (suc k) ds i) refl
   where
-    by : (o : Option ℕ) → last_reference (suc k) ds i ≡ o → (l : ℕ) × (or_else (last_reference (suc k) ds i) (cond (refers_to d.reason i) (Some k) None) ≡ Some l) × (k + 0 ≤ l)
+    by : (o : Option ℕ) → last_reference (suc k) ds i ≡ o
+        → (l : ℕ) × (or_else (last_reference (suc k) ds i)
+        (cond (refers_to d.reason i) (Some k) None) ≡ Some l) × (k + 0 ≤ l)
     by None f = (k, ap₂ (λ o b. or_else o (cond b (Some k) None)) f (refers_from d.reason i h), omega arith)
-    by (Some n) f = let r = last_is (suc k) ds i n f in (n, ap (λ o. or_else o (cond (refers_to d.reason i) (Some k) None)) f, let q = r.1 in omega arith)
-last_after k (d ∷ ds) i (suc j) h = let r = last_after (suc k) ds i j h in (r.0, ap (λ o. or_else o (cond (refers_to d.reason i) (Some k) None)) r.1, let q = r.2 in omega arith)
+    by (Some n) f =
+        let r = last_is (suc k) ds i n f in
+        (n, ap (λ o. or_else o (cond (refers_to d.reason i) (Some k) None)) f, let q = r.1 in omega arith)
+last_after k (d ∷ ds) i (suc j) h =
+    let r = last_after (suc k) ds i j h in
+    (r.0, ap (λ o. or_else o (cond (refers_to d.reason i) (Some k) None)) r.1, let q = r.2 in omega arith)
 
 -- ---- derivations with their last references
 
@@ -83,7 +98,10 @@ pub last_then : (k : ℕ) (ds : List Derivation) (i j : ℕ) → i < j → Refer
     → (l : ℕ) × (last_in (with_last_references k ds) i ≡ Some l) × (k + j ≤ l)
 last_then k [] i j h r = absurd r
 last_then k (d ∷ ds) i zero h r = absurd (omega arith)
-last_then k (d ∷ ds) zero (suc j) h r = let same : k + 0 ≡ k = omega arith in let a = last_after (suc k) ds k j (subst (RefersTo (reason_in ds j)) same r) in (a.0, a.1, let q = a.2 in omega arith)
+last_then k (d ∷ ds) zero (suc j) h r =
+    let same : k + 0 ≡ k = omega arith in
+    let a = last_after (suc k) ds k j (subst (RefersTo (reason_in ds j)) same r) in
+    (a.0, a.1, let q = a.2 in omega arith)
 last_then k (d ∷ ds) (suc i) (suc j) h r =
     let same : k + suc i ≡ suc k + i = omega arith in
     let a = last_then (suc k) ds i j (omega arith) (subst (RefersTo (reason_in ds j)) same r) in
@@ -95,12 +113,24 @@ pub last_names : (k : ℕ) (ds : List Derivation) (i l : ℕ)
 last_names k [] i l e = absurd (cc)
 last_names k (d ∷ ds) zero l e =
     let same : k ≡ k + 0 = omega arith in
-    let r = last_is (suc k) ds k l e in
-    (suc r.0, let q = r.1 in omega arith, omega arith, let q = r.2 in omega arith, subst (RefersTo (reason_in ds r.0)) same r.3)
+    let r = last_is (suc k) ds k l e in (
+      suc r.0,
+      let q = r.1 in omega arith,
+      omega arith,
+      let q = r.2 in
+          omega arith,
+      subst (RefersTo (reason_in ds r.0)) same r.3,
+    )
 last_names k (d ∷ ds) (suc i) l e =
     let same : suc k + i ≡ k + suc i = omega arith in
-    let r = last_names (suc k) ds i l e in
-    (suc r.0, let q = r.1 in omega arith, let q = r.2 in omega arith, let q = r.3 in omega arith, subst (RefersTo (reason_in ds r.0)) same r.4)
+    let r = last_names (suc k) ds i l e in (
+      suc r.0,
+      let q = r.1 in omega arith,
+      let q = r.2 in omega arith,
+      let q = r.3 in
+          omega arith,
+      subst (RefersTo (reason_in ds r.0)) same r.4,
+    )
 
 -- they depend on the reasons alone
 same_reference : (k : ℕ) (ds es : List Derivation) (i : ℕ)

@@ -16,7 +16,9 @@ unfolding over gcd ◌*ℚ◌
 product h = omega arith
 
 pub not_bounded : (P : Profile) → ¬ IsProof P too_large
-not_bounded P p = product (All-head (λ (t : ℚ × ℚ). ProductFits t.0 t.1) (whole (pos 2), whole (pos (2 ^ 126))) [] (p.steps 1 _ refl).fits.1.0)
+not_bounded P p =
+    product (All-head (λ (t : ℚ × ℚ). ProductFits t.0 t.1) (whole (pos 2), whole (pos (2 ^ 126))) []
+    (p.steps 1 _ refl).fits.1.0)
 
 pub largest : IsBounded (whole (pos (2 ^ 127 - 1)))
 unfolding over gcd

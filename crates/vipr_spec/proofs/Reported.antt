@@ -30,7 +30,9 @@ one_report P c x y p q = grind arith
 
 pub one_answer_found : (P : Profile) (f : Found) (a b : Answer) → Answers P f a → Answers P f b
     → a ≡ b
-one_answer_found P f a b p q = by p.0 p.2 (subst (λ t. IsAnswerOfTest P f.certificate t b) (failing_unique (Passes P f.certificate) f.tests q.0 p.0 q.1 p.1) q.2)
+one_answer_found P f a b p q =
+    by p.0 p.2 (subst (λ t. IsAnswerOfTest P f.certificate t b)
+    (failing_unique (Passes P f.certificate) f.tests q.0 p.0 q.1 p.1) q.2)
   where
     by : (t : Option Test) → IsAnswerOfTest P f.certificate t a → IsAnswerOfTest P f.certificate t b → a ≡ b
     by None h k = h.2 ∙ ap verified (one_report P f.certificate h.0 k.0 h.1 k.1) ∙ sym k.2
@@ -50,7 +52,8 @@ pub answer_explained : (P : Profile) (f : Found) (a : Answer) (x : Detail) → E
     → Answers P f a
 answer_explained P f a x h = by h.0 h.1 h.2
   where
-    by : (t : Option Test) → FirstFailing (Passes P f.certificate) f.tests t → IsExplainedBy P f.certificate t a x → Answers P f a
+    by : (t : Option Test) → FirstFailing (Passes P f.certificate) f.tests t
+        → IsExplainedBy P f.certificate t a x → Answers P f a
     by None p q = (None, p, q.0)
     by (Some t) p q = (Some t, p, q.0)
 
@@ -58,10 +61,12 @@ pub one_detail : (P : Profile) (r : Rest) (a b : Answer) (x y : Detail) → IsEx
     → IsExplained P r b y → (a ≡ b) × (x ≡ y)
 one_detail P r a b x y p q = (
   one_answer P r a b (answer_explained P (found_in r) a x p) (answer_explained P (found_in r) b y q),
-  by p.0 p.2 (subst (λ t. IsExplainedBy P (found_in r).certificate t b y) (failing_unique (Passes P (found_in r).certificate) (found_in r).tests q.0 p.0 q.1 p.1) q.2),
+  by p.0 p.2 (subst (λ t. IsExplainedBy P (found_in r).certificate t b y)
+      (failing_unique (Passes P (found_in r).certificate) (found_in r).tests q.0 p.0 q.1 p.1) q.2),
 )
   where
-    by : (t : Option Test) → IsExplainedBy P (found_in r).certificate t a x → IsExplainedBy P (found_in r).certificate t b y → x ≡ y
+    by : (t : Option Test) → IsExplainedBy P (found_in r).certificate t a x
+        → IsExplainedBy P (found_in r).certificate t b y → x ≡ y
     by None h k = h.1 ∙ sym k.1
     by (Some t) h k = explains_once (found_in r).certificate t x y h.1 k.1
 

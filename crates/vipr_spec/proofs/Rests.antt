@@ -9,7 +9,12 @@ brings_out c i j a None b r = absurd b
 brings_out c i j a (Some asm) b r = absurd b
 brings_out c i j a (Some (lin es)) b r = ((j, b.0), b.1, b.2, r)
 brings_out c i j a (Some (rnd es)) b r = ((j, b.0), b.1, b.2, r)
-brings_out c i j a (Some (uns i1 l1 i2 l2)) b r = elim b [ inl h ↦ inl (subst (λ n. RestsOn c n a) h.0 r, h.1) | inr h ↦ inr (subst (λ n. RestsOn c n a) h.0 r, h.1) ]
+brings_out c i j a (Some (uns i1 l1 i2 l2)) b r =
+    elim b [
+      | inl h ↦ inl (subst (λ n. RestsOn c n a) h.0 r, h.1)
+      | inr h ↦
+          inr (subst (λ n. RestsOn c n a) h.0 r, h.1)
+    ]
 brings_out c i j a (Some sol) b r = absurd b
 
 pub rests_out : (c : Certificate) (i a : ℕ) → RestsOn c i a → RestsBy c i (reason_at c i) a

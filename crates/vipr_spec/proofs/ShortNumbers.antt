@@ -102,8 +102,7 @@ Written t top bottom q = (t ≡ top ++ 47 ∷ bottom) ⊎ ((t ≡ top) × (q ≡
 parts_unique : (t a b c d : List ℕ) (k l : ℤ) (p q : ℕ) → Integer a k → Natural b p → Integer c l
     → Natural d q → Written t a b p → Written t c d q → (k ≡ l) × (p ≡ q)
 parts_unique t a b c d k l p q ia nb ic nd (inl e) (inl f) =
-    let parts = split_unique a b c d (integer_has_none a k ia) (integer_has_none c l ic) (sym e ∙ f) in
-    (
+    let parts = split_unique a b c d (integer_has_none a k ia) (integer_has_none c l ic) (sym e ∙ f) in (
       integer_unique c k l (subst (λ u. Integer u k) parts.0 ia) ic,
       same_value b d p q parts.1 nb nd,
     )
@@ -141,7 +140,7 @@ digit_behind_minus : (top r : List ℕ) (k : ℤ) (ds : List ℕ) (n c : ℕ) (c
     → top ++ r ≡ 45 ∷ c ∷ cs → Signed top k ds n → digit_value c < 10
 digit_behind_minus top r k ds n c cs h e (inl (inl a, b)) =
     let minus : digit_value 45 < 10 =
-        front_digit ds r 45 (c ∷ cs) h.0 (ap (λ l. l ++ r) (sym a) ∙ e) in
+    front_digit ds r 45 (c ∷ cs) h.0 (ap (λ l. l ++ r) (sym a) ∙ e) in
     absurd (omega (arith, minus))
 digit_behind_minus top r k ds n c cs h e (inl (inr a, b)) =
     absurd (omega (arith, (cons_same 43 45 (ds ++ r) (c ∷ cs) (ap (λ l. l ++ r) (sym a) ∙ e)).0))
@@ -158,15 +157,15 @@ pub inf_is_no_number : (x : ℚ) → Number (codes "inf") x → ⊥
 inf_is_no_number x h =
     let rest = behind_numerator (codes "inf") h.0 h.1 h.3 h.8 in
     let digit : digit_value 105 < 10 =
-        first_digit h.0 rest.0 h.2 h.4.0 h.4.1 105 _ h.4.2 rest.1 (λ e. omega (arith, e))
-        (λ e. omega (arith, e)) h.4.3 in
+    first_digit h.0 rest.0 h.2 h.4.0 h.4.1 105 _ h.4.2 rest.1 (λ e. omega (arith, e))
+    (λ e. omega (arith, e)) h.4.3 in
     omega (arith, digit)
 
 pub minus_inf_is_no_number : (x : ℚ) → Number (codes "-inf") x → ⊥
 minus_inf_is_no_number x h =
     let rest = behind_numerator (codes "-inf") h.0 h.1 h.3 h.8 in
     let digit : digit_value 105 < 10 =
-        digit_behind_minus h.0 rest.0 h.2 h.4.0 h.4.1 105 _ h.4.2 rest.1 h.4.3 in
+    digit_behind_minus h.0 rest.0 h.2 h.4.0 h.4.1 105 _ h.4.2 rest.1 h.4.3 in
     omega (arith, digit)
 
 pub bound_unique : (w : List ℕ) → ((x : ℚ) → Number w x → ⊥) → (t : List ℕ) (x y : Option ℚ)

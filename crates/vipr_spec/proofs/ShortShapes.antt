@@ -85,7 +85,7 @@ pub counted_unique : {A : Type 0} (P : A → Tokens → Type 0) → Unique P →
 counted_unique P p xs ys ts us vs ws e h k =
     let grouped = regrouped h.0 h.1 k.0 k.1 vs ws ts us h.2 k.2 e in
     let count = one_unique Natural natural_unique (length xs) (length ys) h.0 k.0 (h.1 ++ vs)
-        (k.1 ++ ws) grouped h.3 k.3 in
+    (k.1 ++ ws) grouped h.3 k.3 in
     each_unique P p xs ys count.0 h.1 k.1 vs ws count.1 h.4 k.4
 
 pub vector_unique : Unique vector
@@ -123,8 +123,8 @@ vector_is_no_obj : (row : Row) (ts us vs ws : Tokens) → ts ++ vs ≡ us ++ ws 
 vector_is_no_obj row ts us vs ws e h k =
     let count = h.3 in
     let grouped : count.0 ∷ [] ++ (h.1 ++ vs) ≡ us ++ ws =
-        ap (λ l. l ++ (h.1 ++ vs)) (sym count.1) ∙ sym (append_assoc h.0 h.1 vs)
-        ∙ ap (λ l. l ++ vs) (sym h.2) ∙ e in
+    ap (λ l. l ++ (h.1 ++ vs)) (sym count.1) ∙ sym (append_assoc h.0 h.1 vs)
+    ∙ ap (λ l. l ++ vs) (sym h.2) ∙ e in
     let same = cons_same count.0 (codes "OBJ") (h.1 ++ vs) ws (grouped ∙ ap (λ l. l ++ ws) k) in
     let numeral : IsNumeral 10 (codes "OBJ") = subst (IsNumeral 10) same.0 count.2.0 in
     let digit : digit_value 79 < 10 = numeral.1.0 in
@@ -158,7 +158,7 @@ written_unique objective =
 pub constraint_unique : (objective : Row) → Unique (constraint objective)
 constraint_unique objective c d ts us vs ws e h k =
     let same = written_unique objective (c.sense, (c.bound, c.row)) (d.sense, (d.bound, d.row))
-        ts us vs ws e h k in
+    ts us vs ws e h k in
     (λ i. record { row = (same.0 i).1.1; sense = (same.0 i).0; bound = (same.0 i).1.0 }, same.1)
 
 -- ---- the claim
@@ -179,9 +179,9 @@ not_both : (b : Ends) (ts us vs ws : Tokens) → ts ++ vs ≡ us ++ ws → word 
     → (word (codes "range") then range b) us → ⊥
 not_both b ts us vs ws e h k =
     let grouped : us ++ ws ≡ codes "range" ∷ [] ++ (k.1 ++ ws) =
-        ap (λ l. l ++ ws) k.2 ∙ append_assoc k.0 k.1 ws ∙ ap (λ l. l ++ (k.1 ++ ws)) k.3 in
+    ap (λ l. l ++ ws) k.2 ∙ append_assoc k.0 k.1 ws ∙ ap (λ l. l ++ (k.1 ++ ws)) k.3 in
     let words = cons_same (codes "infeas") (codes "range") vs (k.1 ++ ws)
-        (ap (λ l. l ++ vs) (sym h) ∙ e ∙ grouped) in
+    (ap (λ l. l ++ vs) (sym h) ∙ e ∙ grouped) in
     omega (arith, (cons_same 105 114 _ _ words.0).0)
 
 pub claim_unique : Unique claim

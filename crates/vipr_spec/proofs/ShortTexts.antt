@@ -144,7 +144,19 @@ constraint n objective os o c ts t =
     let r = coefficients n objective c.item.row os o b.1 b.4 in (
       record { row = r.0; sense = sense_of c.item.sense; bound = c.item.bound },
       record { row = r.1; sense = refl; bound = refl },
-      (t.0, t.1, t.2, (c.name, t.3), (s.0, s.1, s.2, sense c.item.sense s.0 s.3, (b.0, b.1, b.2, fraction c.item.bound b.0 b.3, r.2))),
+      (
+        t.0,
+        t.1,
+        t.2,
+        (c.name, t.3),
+        (
+          s.0,
+          s.1,
+          s.2,
+          sense c.item.sense s.0 s.3,
+          (b.0, b.1, b.2, fraction c.item.bound b.0 b.3, r.2),
+        ),
+      ),
     )
 
 -- ---- the sections
@@ -195,8 +207,10 @@ constraints : (n : ℕ) (row : Row) (os : short.Row) → AreOne n row os → (b 
     → (ds : List short.Constraint) × AllZip (AreOneConstraint n) cs ds × short_constraints os b ds ts
 constraints n row os o b cs ts t =
     let m = t.4 in let k = m.4 in
-    let all = each_as (λ (c : Named Constraint). long.constraint n row c.name c.item) (short.constraint os) (AreOneConstraint n) (constraint n row os o) cs k.1 k.4 in
-    let many : short.one short.Natural (length all.0) m.0 = subst (λ l. short.one short.Natural l m.0) (sym all.2) (count (length cs) m.0 m.3) in
+    let all = each_as (λ (c : Named Constraint). long.constraint n row c.name c.item)
+    (short.constraint os) (AreOneConstraint n) (constraint n row os o) cs k.1 k.4 in
+    let many : short.one short.Natural (length all.0) m.0 =
+    subst (λ l. short.one short.Natural l m.0) (sym all.2) (count (length cs) m.0 m.3) in
     (all.0, all.1, (t.0, t.1, t.2, t.3, (m.0, m.1, m.2, many, (k.0, k.1, k.2, count b k.0 k.3, all.3))))
 
 abbrev pub bounds_of : Claim → Option (Option ℚ × Option ℚ)
@@ -211,7 +225,10 @@ bound infinite (Some x) ts t = fraction x ts t
 claim : (q : Claim) (ts : List (List ℕ)) → long.claim q ts
     → (short.word (codes "RTP") then short.claim (bounds_of q)) ts
 claim infeasible ts t = each_of (λ ts h. h) (λ ts h. h) t
-claim (range lower upper) ts t = each_of (λ ts h. h) (λ ts. each_of (λ ts h. h) (λ ts. each_of (bound (codes "-inf") lower) (bound (codes "inf") upper))) t
+claim (range lower upper) ts t =
+    each_of (λ ts h. h)
+    (λ ts. each_of (λ ts h. h)
+    (λ ts. each_of (bound (codes "-inf") lower) (bound (codes "inf") upper))) t
 
 abbrev pub AreOneSolution : ℕ → Named Row → short.Row → Type 0
 AreOneSolution n s qs = AreOne n s.item qs
@@ -221,8 +238,11 @@ solutions : (n : ℕ) (ss : List (Named Row)) (ts : List (List ℕ)) → long.so
     × (short.word (codes "SOL") then short.counted (λ s. short.any then short.vector s) qs) ts
 solutions n ss ts t =
     let k = t.4 in
-    let all = each_as (long.solution n) (λ (s : short.Row). short.any then short.vector s) (AreOneSolution n) (λ s ts u. let v = vector n s.item u.1 u.4 in (v.0, v.1, (u.0, u.1, u.2, (s.name, u.3), v.2))) ss k.1 k.4 in
-    let many : short.one short.Natural (length all.0) k.0 = subst (λ l. short.one short.Natural l k.0) (sym all.2) (count (length ss) k.0 k.3) in
+    let all = each_as (long.solution n) (λ (s : short.Row). short.any then short.vector s)
+    (AreOneSolution n) (λ s ts u. let v = vector n s.item u.1 u.4 in
+    (v.0, v.1, (u.0, u.1, u.2, (s.name, u.3), v.2))) ss k.1 k.4 in
+    let many : short.one short.Natural (length all.0) k.0 =
+    subst (λ l. short.one short.Natural l k.0) (sym all.2) (count (length ss) k.0 k.3) in
     (all.0, all.1, (t.0, t.1, t.2, t.3, (k.0, k.1, k.2, many, all.3)))
 
 -- ---- the whole
@@ -284,6 +304,25 @@ states bytes p ss t =
     let all = moved two.0 two.1 back two.2 (moved v.0 v.1 x v.2 (front_two (v.1 ++ x) v.3 after_version)) in (
       problem_of p ints.0 obj.0 cons.0,
       sols.0,
-      (p.names, p.bound_count, back, (all.0, all.1, sym (same_tokens bytes) ∙ ap bytes_of t.2 ∙ map-append _ t.0 t.1 ∙ all.2, all.3, all.4)),
-      record { integers = ints.1; is_min = refl; objective = obj.1; constraints = cons.1; bounds = refl; solutions = sols.1 },
+      (
+        p.names,
+        p.bound_count,
+        back,
+        (
+          all.0,
+          all.1,
+          sym (same_tokens bytes) ∙ ap bytes_of t.2
+              ∙ map-append _ t.0 t.1 ∙ all.2,
+          all.3,
+          all.4,
+        ),
+      ),
+      record {
+        integers = ints.1;
+        is_min = refl;
+        objective = obj.1;
+        constraints = cons.1;
+        bounds = refl;
+        solutions = sols.1;
+      },
     )

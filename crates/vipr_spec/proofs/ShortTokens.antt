@@ -28,16 +28,22 @@ Within bs = (o a : ℕ) (w : List ℕ)
 outside_next : (b : ℕ) (bs : List ℕ) → Outside bs → Within bs → Outside (b ∷ bs)
 unfolding is_white tokens_from token_here is_cut
 outside_next b bs h k o =
-    chosen (is_white b) bytes_of (tokens_from false false (o + 1) bs) (record { bytes = run (b ∷ bs); offset = o } ∷ tokens_from false true (o + 1) bs) (short.tokens [] bs) (short.tokens (b ∷ []) bs)
+    chosen (is_white b) bytes_of (tokens_from false false (o + 1) bs)
+    (record { bytes = run (b ∷ bs); offset = o } ∷ tokens_from false true (o + 1) bs)
+    (short.tokens [] bs) (short.tokens (b ∷ []) bs)
     (λ e. h (o + 1))
     (λ e. ap (λ r. r ∷ bytes_of (tokens_from false true (o + 1) bs)) (run_solid b bs e) ∙ k (o + 1) b [])
 
 within_next : (b : ℕ) (bs : List ℕ) → Outside bs → Within bs → Within (b ∷ bs)
 unfolding is_white tokens_from
 within_next b bs h k o a w =
-    chosen (is_white b) (λ ts. (a ∷ (w ++ run (b ∷ bs))) ∷ bytes_of ts) (tokens_from false false (o + 1) bs) (tokens_from false true (o + 1) bs) ((a ∷ w) ∷ short.tokens [] bs) (short.tokens (a ∷ (w ++ b ∷ [])) bs)
+    chosen (is_white b) (λ ts. (a ∷ (w ++ run (b ∷ bs))) ∷ bytes_of ts)
+    (tokens_from false false (o + 1) bs) (tokens_from false true (o + 1) bs)
+    ((a ∷ w) ∷ short.tokens [] bs) (short.tokens (a ∷ (w ++ b ∷ [])) bs)
     (λ e. ap₂ (λ v ts. (a ∷ v) ∷ ts) (ap (λ r. w ++ r) (run_white b bs e) ∙ append-nil w) (h (o + 1)))
-    (λ e. ap (λ v. (a ∷ v) ∷ bytes_of (tokens_from false true (o + 1) bs)) (ap (λ r. w ++ r) (run_solid b bs e) ∙ sym (append_assoc w (b ∷ []) (run bs))) ∙ k (o + 1) a (w ++ b ∷ []))
+    (λ e. ap (λ v. (a ∷ v) ∷ bytes_of (tokens_from false true (o + 1) bs))
+    (ap (λ r. w ++ r) (run_solid b bs e) ∙ sym (append_assoc w (b ∷ []) (run bs)))
+    ∙ k (o + 1) a (w ++ b ∷ []))
 
 both : (bs : List ℕ) → Outside bs × Within bs
 unfolding tokens_from
@@ -56,8 +62,11 @@ unfolding is_white tokens_after_front
 same_front commented o [] = refl
 same_front true o (b ∷ bs) = same_front (not (b == 10)) (o + 1) bs
 same_front false o (b ∷ bs) =
-    front_alike (b == 37) (tokens_after_front false true (o + 1) bs) _ (short.without_front true bs) _ (same_front true (o + 1) bs)
-    (front_alike (is_white b) (tokens_after_front false false (o + 1) bs) (tokens_from false false o (b ∷ bs)) (short.without_front false bs) (b ∷ bs) (same_front false (o + 1) bs) ((both (b ∷ bs)).0 o))
+    front_alike (b == 37) (tokens_after_front false true (o + 1) bs) _ (short.without_front true bs)
+    _ (same_front true (o + 1) bs)
+    (front_alike (is_white b) (tokens_after_front false false (o + 1) bs)
+    (tokens_from false false o (b ∷ bs)) (short.without_front false bs) (b ∷ bs)
+    (same_front false (o + 1) bs) ((both (b ∷ bs)).0 o))
 
 pub same_tokens : (bytes : List ℕ)
     → bytes_of (text_tokens bytes) ≡ short.tokens [] (short.without_front false bytes)

@@ -48,12 +48,15 @@ pub good_more : (P : Profile) (c : Certificate) (ds : List Derivation) (k : ℕ)
     → k < count c
     → IsGoodStep P (with_more c ds) k r (constraint_at (with_more c ds) k)
     ↔ IsGoodStep P c k r (constraint_at c k)
-good_more P c ds k r h = good_same P c (c.derivations ++ ds) c.derivations k r _ _ (λ i l. known_before c ds i (omega arith)) (ap (λ (x : Known). x.stated) (known_before c ds k h))
+good_more P c ds k r h = good_same P c (c.derivations ++ ds) c.derivations k r _ _
+    (λ i l. known_before c ds i (omega arith))
+    (ap (λ (x : Known). x.stated) (known_before c ds k h))
 
 pub good_next : (P : Profile) (c : Certificate) (d : Derivation) (r : Reason)
     → IsGoodStep P (with_next c d) (count c) r (constraint_at (with_next c d) (count c))
     ↔ IsGoodStep P c (count c) r (condition d.stated)
-good_next P c d r = good_same P c (c.derivations ++ d ∷ []) c.derivations (count c) r _ _ (known_before c (d ∷ [])) (ap (λ (x : Known). x.stated) (known_next c d []))
+good_next P c d r = good_same P c (c.derivations ++ d ∷ []) c.derivations (count c) r _ _
+    (known_before c (d ∷ [])) (ap (λ (x : Known). x.stated) (known_next c d []))
 
 pub good_before : (P : Profile) (c : Certificate) (k : ℕ) (r : Reason) → reason_at c k ≡ Some r
     → FirstFailing (PassesStep P (before c k) (constraint_at c k)) (step_tests r) None
@@ -62,7 +65,8 @@ good_before P c k r e =
     let h = is_derived c k r e in
     let n : count (before c k) ≡ k = before_count c k h.0 (omega arith) in
     let t = no_test_fails P (before c k) (constraint_at c k) r in
-    let g = good_same P c (before c k).derivations c.derivations k r (constraint_at c k) (constraint_at c k) (known_in c k h.0 (omega arith)) refl in (
+    let g = good_same P c (before c k).derivations c.derivations k r (constraint_at c k)
+    (constraint_at c k) (known_in c k h.0 (omega arith)) refl in (
       λ f. g.0 (subst (λ n. IsGoodStep P (before c k) n r (constraint_at c k)) n (t.0 f)),
       λ f. t.1 (subst (λ n. IsGoodStep P (before c k) n r (constraint_at c k)) (sym n) (g.1 f)),
     )
@@ -91,12 +95,20 @@ good_steps_next P c d = (λ g. (sooner g, (good_next P c d d.reason).0 (g (count
         let n = (is_derived (with_next c d) k r e).1 in
         let m = count_next c d in
         let at : count c ≡ k = omega arith in
-        subst (λ n. (r : Reason) → reason_at (with_next c d) n ≡ Some r → IsGoodStep P (with_next c d) n r (constraint_at (with_next c d) n)) at
-        (λ r e. (good_next P c d r).1 (subst (λ q. IsGoodStep P c (count c) q (condition d.stated)) (ap (λ o. unwrap_or o r) (sym last ∙ e)) g.1)) r e)
+        subst (λ n. (r : Reason) → reason_at (with_next c d) n ≡ Some r
+        → IsGoodStep P (with_next c d) n r (constraint_at (with_next c d) n)) at
+        (λ r e. (good_next P c d r).1
+        (subst (λ q. IsGoodStep P c (count c) q (condition d.stated))
+        (ap (λ o. unwrap_or o r) (sym last ∙ e)) g.1)) r e)
         (cases_lt k (count c))
 
 pub good_without : (P : Profile) (c : Certificate) → c.derivations ≡ [] → HasGoodSteps P c
-good_without P c e k r q = let h = is_derived c k r q in let l = h.0 in let n = h.1 in let z : length c.derivations ≡ 0 = ap length e in absurd (omega arith)
+good_without P c e k r q =
+    let h = is_derived c k r q in
+    let l = h.0 in
+    let n = h.1 in
+    let z : length c.derivations ≡ 0 = ap length e in
+    absurd (omega arith)
 
 back_by : (P : Profile) (c : Certificate) → HasGoodSteps P c → (k : ℕ) (o : Option Reason)
     → reason_at c k ≡ o → NamesEarlier k o
@@ -127,7 +139,8 @@ rests_next_by c d a r back n = by r n
       λ h. (h.0, h.1, h.2, (m h.0.0 (All-contains (λ (e : ℕ × ℚ). e.0 < count c) es h.0 n h.1)).1 h.3),
     )
 
-    by : (r : Reason) → NamesEarlier (count c) (Some r) → RestsBy (with_next c d) (count c) (Some r) a ↔ RestsBy c (count c) (Some r) a
+    by : (r : Reason) → NamesEarlier (count c) (Some r)
+        → RestsBy (with_next c d) (count c) (Some r) a ↔ RestsBy c (count c) (Some r) a
     by asm n = (λ h. h, λ h. h)
     by (lin es) n = some es n
     by (rnd es) n = some es n
@@ -145,7 +158,10 @@ rests_next c d a back n = grind (arith, rests_next_by, rests_by, reason_next, re
 -- ---- soundness
 rests_below : (c : Certificate) → RefersBack c → (i a : ℕ) → RestsOn c i a → a ≤ i
 rests_below c back i a (itself e) = omega arith
-rests_below c back i a (brought {j = j} b r) = let l = brings_earlier i j a (reason_at c i) (back i) b in let h = rests_below c back j a r in omega arith
+rests_below c back i a (brought {j = j} b r) =
+    let l = brings_earlier i j a (reason_at c i) (back i) b in
+    let h = rests_below c back j a r in
+    omega arith
 
 pub sound_given : (c : Certificate) (i : ℕ) → i < length c.problem.constraints → IsSound c i
 sound_given c i h = sound_none c i (reason_given c i h)
@@ -161,5 +177,7 @@ pub sound_next : (P : Profile) (c : Certificate) (d : Derivation) → RefersBack
 sound_next P c d back n f s =
     let q = known_next c d [] in
     step_sound P (with_next c d) (count c) d.reason (ap (λ (x : Known). x.reason) q)
-    (subst (λ (x : Known). FollowsBy P (with_next c d) d.reason x.stated) (sym q) (follows_alike c c.derivations (with_next c d).derivations (count c) (λ i h. sym (known_before c (d ∷ []) i h)) P d.reason (condition d.stated) n f))
+    (subst (λ (x : Known). FollowsBy P (with_next c d) d.reason x.stated) (sym q)
+    (follows_alike c c.derivations (with_next c d).derivations (count c)
+    (λ i h. sym (known_before c (d ∷ []) i h)) P d.reason (condition d.stated) n f))
     (λ i r. sound_before c (d ∷ []) i back (refers_earlier (count c) d.reason n i r) (s i r))

@@ -46,18 +46,22 @@ goal_there P c (Some g) p is n = (g, goal_kept c g, is.0)
 
 pub tight_proof : (P : Profile) (c : Certificate) (goal : Option ℕ) → IsProof P c → GoalIs P c goal
     → IsProof P (tightened_certificate c goal)
-tight_proof P c goal p is = smaller_proof c (is_kept c goal) (kept_given c goal) (kept_closed c goal (back_of_proof P c p)) P p (goal_there P c goal p is)
+tight_proof P c goal p is = smaller_proof c (is_kept c goal) (kept_given c goal)
+    (kept_closed c goal (back_of_proof P c p)) P p (goal_there P c goal p is)
 
 pub tight_goal : (P : Profile) (c : Certificate) (goal : Option ℕ) → RefersBack c → GoalIs P c goal
     → GoalIs P (tightened_certificate c goal) (new_goal c goal)
 tight_goal P c None back is = λ p d.
     let o = old_of c (is_kept c None) (kept_given c None) p d.0 in
-    is o.0 (proves_old c (is_kept c None) (kept_given c None) (kept_closed c None back) P o.0 o.1 o.2 (subst (ProvesDual P (tightened_certificate c None)) (sym o.3) d))
+    is o.0 (proves_old c (is_kept c None) (kept_given c None) (kept_closed c None back) P o.0 o.1
+    o.2 (subst (ProvesDual P (tightened_certificate c None)) (sym o.3) d))
 tight_goal P c (Some g) back is = (
   proves_new c (is_kept c (Some g)) (kept_given c (Some g)) (kept_closed c (Some g) back) P g (goal_kept c g) is.0,
   λ p d.
       let o = old_of c (is_kept c (Some g)) (kept_given c (Some g)) p d.0 in
-      let old = proves_old c (is_kept c (Some g)) (kept_given c (Some g)) (kept_closed c (Some g) back) P o.0 o.1 o.2 (subst (ProvesDual P (tightened_certificate c (Some g))) (sym o.3) d) in
+      let old = proves_old c (is_kept c (Some g)) (kept_given c (Some g))
+      (kept_closed c (Some g) back) P o.0 o.1 o.2
+      (subst (ProvesDual P (tightened_certificate c (Some g))) (sym o.3) d) in
       let l = index_mono (is_kept c (Some g)) g o.0 (is.1 o.0 old) in
       let e = o.3 in omega arith,
 )
@@ -70,7 +74,8 @@ needed_new : (c : Certificate) (g : ℕ) → RefersBack c → (i : ℕ) → IsNe
 needed_new c g back i (the_goal h) = the_goal (new_derived c (is_kept c (Some g)) (kept_given c (Some g)) g h)
 needed_new c g back i (referred_to {k = k} n r h) =
     referred_to (needed_new c g back k n)
-    (refers_at_new c (is_kept c (Some g)) (kept_given c (Some g)) (kept_closed c (Some g) back) k i (needed_kept c g k back n) r)
+    (refers_at_new c (is_kept c (Some g)) (kept_given c (Some g)) (kept_closed c (Some g) back) k i
+    (needed_kept c g k back n) r)
     (new_derived c (is_kept c (Some g)) (kept_given c (Some g)) i h)
 
 pub tight_needed : (c : Certificate) (goal : Option ℕ) → RefersBack c → (p : ℕ)
@@ -81,12 +86,16 @@ tight_needed c (Some g) back p h l =
     let o = old_of c (is_kept c (Some g)) (kept_given c (Some g)) p l in
     let e = o.3 in
     let low = old_derived c (is_kept c (Some g)) (kept_given c (Some g)) o.0 (omega arith) in
-    subst (IsNeeded (tightened_certificate c (Some g)) (new_index (is_kept c (Some g)) g)) e (needed_new c g back o.0 (kept_needed c g o.0 low o.2))
+    subst (IsNeeded (tightened_certificate c (Some g)) (new_index (is_kept c (Some g)) g)) e
+    (needed_new c g back o.0 (kept_needed c g o.0 low o.2))
 
 no_more : (c : Certificate) (goal : Option ℕ)
     → ¬ (length c.problem.constraints < count (tightened_certificate c goal))
     → (tightened_certificate c goal).derivations ≡ []
-no_more c goal n = nil_from_length (tightened_certificate c goal).derivations (⊎_elim (λ (l : 0 < length (tightened_certificate c goal).derivations). absurd (n (omega arith))) (λ (l : length (tightened_certificate c goal).derivations ≤ 0). omega arith) (cases_lt 0 (length (tightened_certificate c goal).derivations)))
+no_more c goal n = nil_from_length (tightened_certificate c goal).derivations
+    (⊎_elim (λ (l : 0 < length (tightened_certificate c goal).derivations).
+    absurd (n (omega arith))) (λ (l : length (tightened_certificate c goal).derivations ≤ 0).
+    omega arith) (cases_lt 0 (length (tightened_certificate c goal).derivations)))
 
 -- nothing is derived where there is no goal, and where the goal is given
 pub tight_none : (c : Certificate) → RefersBack c → (tightened_certificate c None).derivations ≡ []
@@ -96,7 +105,8 @@ pub tight_given : (c : Certificate) (g : ℕ) → RefersBack c → g < length c.
     → (tightened_certificate c (Some g)).derivations ≡ []
 tight_given c g back h = no_more c (Some g) (λ l.
     let m = length c.problem.constraints in
-    let n = needed_derived (tightened_certificate c (Some g)) (new_index (is_kept c (Some g)) g) m (tight_needed c (Some g) back m (omega arith) l) in
+    let n = needed_derived (tightened_certificate c (Some g)) (new_index (is_kept c (Some g)) g) m
+    (tight_needed c (Some g) back m (omega arith) l) in
     let e = new_given c (is_kept c (Some g)) (kept_given c (Some g)) g (omega arith) in
     let low : m ≤ new_index (is_kept c (Some g)) g = n.1 in
     absurd (omega arith))
@@ -116,13 +126,18 @@ all_count : (new : ℕ → ℕ) (es : List (ℕ × ℚ))
 all_count new [] = refl
 all_count new (e ∷ es) = by (all_count new es) (cases_Bool (is_nonzero e))
   where
-    by : filter is_nonzero (renumbered_entries new es) ≡ renumbered_entries new es → (is_nonzero e ≡ true) ⊎ (is_nonzero e ≡ false) → filter is_nonzero (renumbered_entries new (e ∷ es)) ≡ renumbered_entries new (e ∷ es)
+    by : filter is_nonzero (renumbered_entries new es) ≡ renumbered_entries new es
+        → (is_nonzero e ≡ true) ⊎ (is_nonzero e ≡ false)
+        → filter is_nonzero (renumbered_entries new (e ∷ es)) ≡ renumbered_entries new (e ∷ es)
     by rest (inl t) =
         let f : ℕ × ℚ = (new e.0, e.1) in
-        let same : renumbered_entries new (e ∷ es) ≡ f ∷ renumbered_entries new es = ap (map (λ (e : ℕ × ℚ). (new e.0, e.1))) (filter_yes is_nonzero e es t) in
-        subst (λ l. filter is_nonzero l ≡ l) (sym same) (filter_yes is_nonzero f (renumbered_entries new es) t ∙ ap (λ l. f ∷ l) rest)
+        let same : renumbered_entries new (e ∷ es) ≡ f ∷ renumbered_entries new es =
+        ap (map (λ (e : ℕ × ℚ). (new e.0, e.1))) (filter_yes is_nonzero e es t) in
+        subst (λ l. filter is_nonzero l ≡ l) (sym same)
+        (filter_yes is_nonzero f (renumbered_entries new es) t ∙ ap (λ l. f ∷ l) rest)
     by rest (inr n) =
-        let same : renumbered_entries new (e ∷ es) ≡ renumbered_entries new es = ap (map (λ (e : ℕ × ℚ). (new e.0, e.1))) (filter_no is_nonzero e es n) in
+        let same : renumbered_entries new (e ∷ es) ≡ renumbered_entries new es =
+        ap (map (λ (e : ℕ × ℚ). (new e.0, e.1))) (filter_no is_nonzero e es n) in
         subst (λ l. filter is_nonzero l ≡ l) (sym same) rest
 
 full_new : (new : ℕ → ℕ) (r : Reason) → IsFull (renumbered_reason new r)
@@ -141,25 +156,35 @@ pairs_same : (new : ℕ → ℕ) (n : ℕ) → ((i : ℕ) → i < n → new i �
     → All (λ e. e.0 < n) es → map (λ e. (new e.0, e.1)) es ≡ es
 pairs_same new n same [] a = refl
 pairs_same new n same (e ∷ es) a =
-    ap₂ (λ i l. (i, e.1) ∷ l) (same e.0 (All-head (λ (e : ℕ × ℚ). e.0 < n) e es a)) (pairs_same new n same es (All-tail (λ (e : ℕ × ℚ). e.0 < n) e es a))
+    ap₂ (λ i l. (i, e.1) ∷ l) (same e.0 (All-head (λ (e : ℕ × ℚ). e.0 < n) e es a))
+    (pairs_same new n same es (All-tail (λ (e : ℕ × ℚ). e.0 < n) e es a))
 
 same_reason : (new : ℕ → ℕ) (n : ℕ) → ((i : ℕ) → i < n → new i ≡ i) → (r : Reason)
     → NamesEarlier n (Some r) → IsFull r → renumbered_reason new r ≡ r
 unfolding IsFull
 same_reason new n same asm h f = refl
-same_reason new n same (lin es) h f = ap (λ l. lin (map (λ (e : ℕ × ℚ). (new e.0, e.1)) l)) f ∙ ap lin (pairs_same new n same es h)
-same_reason new n same (rnd es) h f = ap (λ l. rnd (map (λ (e : ℕ × ℚ). (new e.0, e.1)) l)) f ∙ ap rnd (pairs_same new n same es h)
-same_reason new n same (uns i1 l1 i2 l2) h f = ap₂ (λ a b. uns a b (new i2) (new l2)) (same i1 h.0) (same l1 h.1) ∙ ap₂ (λ a b. uns i1 l1 a b) (same i2 h.2) (same l2 h.3)
+same_reason new n same (lin es) h f = ap (λ l. lin (map (λ (e : ℕ × ℚ). (new e.0, e.1)) l)) f
+    ∙ ap lin (pairs_same new n same es h)
+same_reason new n same (rnd es) h f = ap (λ l. rnd (map (λ (e : ℕ × ℚ). (new e.0, e.1)) l)) f
+    ∙ ap rnd (pairs_same new n same es h)
+same_reason new n same (uns i1 l1 i2 l2) h f = ap₂ (λ a b. uns a b (new i2) (new l2)) (same i1 h.0)
+    (same l1 h.1) ∙ ap₂ (λ a b. uns i1 l1 a b) (same i2 h.2) (same l2 h.3)
 same_reason new n same sol h f = refl
 
 same_derivations : (new : ℕ → ℕ) (ds : List Derivation)
     → ((j : ℕ) (r : Reason) → j < length ds → reason_in ds j ≡ Some r → renumbered_reason new r ≡ r)
     → map (with_new_indices new) ds ≡ ds
 same_derivations new [] h = refl
-same_derivations new (d ∷ ds) h = ap₂ (λ r xs. record d { reason = r } ∷ xs) (h 0 d.reason (omega arith) refl) (same_derivations new ds (λ j r l e. h (suc j) r (omega arith) e))
+same_derivations new (d ∷ ds) h = ap₂ (λ r xs. record d { reason = r } ∷ xs)
+    (h 0 d.reason (omega arith) refl)
+    (same_derivations new ds (λ j r l e. h (suc j) r (omega arith) e))
 
-module _ (c : Certificate) (goal : Option ℕ) (back : RefersBack c) (again : RefersBack (tightened_certificate c goal)) where
-  all_kept : (o : Option ℕ) → ((p : ℕ) → length c.problem.constraints ≤ p → p < count (tightened_certificate c goal) → IsNeededFor (tightened_certificate c goal) o p) → (i : ℕ) → i < count (tightened_certificate c goal) → is_kept (tightened_certificate c goal) o i ≡ true
+module _ (c : Certificate) (goal : Option ℕ) (back : RefersBack c)
+    (again : RefersBack (tightened_certificate c goal)) where
+  all_kept : (o : Option ℕ)
+      → ((p : ℕ) → length c.problem.constraints ≤ p → p < count (tightened_certificate c goal)
+      → IsNeededFor (tightened_certificate c goal) o p) → (i : ℕ)
+      → i < count (tightened_certificate c goal) → is_kept (tightened_certificate c goal) o i ≡ true
   all_kept None needed i h = ⊎_elim
       (λ (l : i < length c.problem.constraints). kept_given (tightened_certificate c goal) None i l)
       (λ (l : length c.problem.constraints ≤ i). absurd (needed i l h))
@@ -169,26 +194,42 @@ module _ (c : Certificate) (goal : Option ℕ) (back : RefersBack c) (again : Re
       (λ (l : length c.problem.constraints ≤ i). needed_kept (tightened_certificate c goal) g i again (needed i l h))
       (cases_lt i (length c.problem.constraints))
 
-  all_stay : (i : ℕ) → i < count (tightened_certificate c goal) → is_kept (tightened_certificate c goal) (new_goal c goal) i ≡ true
+  all_stay : (i : ℕ) → i < count (tightened_certificate c goal)
+      → is_kept (tightened_certificate c goal) (new_goal c goal) i ≡ true
   all_stay = all_kept (new_goal c goal) (tight_needed c goal back)
 
-  stays : (i : ℕ) → i < count (tightened_certificate c goal) → new_index (is_kept (tightened_certificate c goal) (new_goal c goal)) i ≡ i
-  stays i h = index_same (is_kept (tightened_certificate c goal) (new_goal c goal)) (count (tightened_certificate c goal)) all_stay i (omega arith)
+  stays : (i : ℕ) → i < count (tightened_certificate c goal)
+      → new_index (is_kept (tightened_certificate c goal) (new_goal c goal)) i ≡ i
+  stays i h = index_same (is_kept (tightened_certificate c goal) (new_goal c goal))
+      (count (tightened_certificate c goal)) all_stay i (omega arith)
 
-  reason_full : (j : ℕ) (r : Reason) → j < length (tightened_certificate c goal).derivations → reason_in (tightened_certificate c goal).derivations j ≡ Some r → IsFull r
+  reason_full : (j : ℕ) (r : Reason) → j < length (tightened_certificate c goal).derivations
+      → reason_in (tightened_certificate c goal).derivations j ≡ Some r → IsFull r
   reason_full j r h e =
       let o = old_of c (is_kept c goal) (kept_given c goal) (length c.problem.constraints + j) (omega arith) in
       full_at (new_index (is_kept c goal)) (reason_at c o.0) r
-      (sym (reason_new c (is_kept c goal) (kept_given c goal) o.0 o.2) ∙ ap (reason_at (tightened_certificate c goal)) o.3 ∙ reason_placed (tightened_certificate c goal) j ∙ e)
+      (sym (reason_new c (is_kept c goal) (kept_given c goal) o.0 o.2)
+      ∙ ap (reason_at (tightened_certificate c goal)) o.3
+      ∙ reason_placed (tightened_certificate c goal) j ∙ e)
 
-  reason_early : (j : ℕ) (r : Reason) → reason_in (tightened_certificate c goal).derivations j ≡ Some r → NamesEarlier (length c.problem.constraints + j) (Some r)
-  reason_early j r e = subst (NamesEarlier (length c.problem.constraints + j)) (reason_placed (tightened_certificate c goal) j ∙ e) (again (length c.problem.constraints + j))
+  reason_early : (j : ℕ) (r : Reason)
+      → reason_in (tightened_certificate c goal).derivations j ≡ Some r
+      → NamesEarlier (length c.problem.constraints + j) (Some r)
+  reason_early j r e = subst (NamesEarlier (length c.problem.constraints + j))
+      (reason_placed (tightened_certificate c goal) j ∙ e)
+      (again (length c.problem.constraints + j))
 
-  reason_stays : (j : ℕ) (r : Reason) → j < length (tightened_certificate c goal).derivations → reason_in (tightened_certificate c goal).derivations j ≡ Some r → renumbered_reason (new_index (is_kept (tightened_certificate c goal) (new_goal c goal))) r ≡ r
+  reason_stays : (j : ℕ) (r : Reason) → j < length (tightened_certificate c goal).derivations
+      → reason_in (tightened_certificate c goal).derivations j ≡ Some r
+      → renumbered_reason (new_index (is_kept (tightened_certificate c goal) (new_goal c goal)))
+      r ≡ r
   reason_stays j r h e =
-      same_reason (new_index (is_kept (tightened_certificate c goal) (new_goal c goal))) (length c.problem.constraints + j) (λ i l. stays i (omega arith)) r (reason_early j r e) (reason_full j r h e)
+      same_reason (new_index (is_kept (tightened_certificate c goal) (new_goal c goal)))
+      (length c.problem.constraints + j) (λ i l. stays i (omega arith)) r (reason_early j r e)
+      (reason_full j r h e)
 
-  pub tight_again : tightened_certificate (tightened_certificate c goal) (new_goal c goal) ≡ tightened_certificate c goal
+  pub tight_again : tightened_certificate (tightened_certificate c goal)
+      (new_goal c goal) ≡ tightened_certificate c goal
   tight_again = grind (arith, kept_all, all_stay, same_derivations, reason_stays, with_again)
 
 pub tight_back : (c : Certificate) (goal : Option ℕ) → RefersBack c

@@ -122,6 +122,8 @@ can_write c goal w =
         problem = w.fits.problem;
         solutions = w.fits.solutions;
         derivations =
-            limits_stay c goal DerivationFits (λ d new l low b s. grind (arith, reason_fits, count, le_trans, le_of_lt)) w.fits.derivations;
+            limits_stay c goal DerivationFits
+            (λ d new l low b s. grind (arith, reason_fits, count, le_trans, le_of_lt))
+            w.fits.derivations;
       };
     }

@@ -22,7 +22,8 @@ inside_run fails offset (x ∷ xs) zero within solid white = grind (arith, add-z
 inside_run fails offset (x ∷ xs) (suc n) within solid white =
     let s : is_white x ≡ false = solid 0 (omega arith) in
     let e : offset + suc n ≡ offset + 1 + n = omega arith in
-    rw (s, e) (inside_run fails (offset + 1) xs n (omega arith) (λ k h. solid (suc k) (omega arith)) (λ h. white (omega arith)))
+    rw (s, e) (inside_run fails (offset + 1) xs n (omega arith) (λ k h. solid (suc k) (omega arith))
+    (λ h. white (omega arith)))
 
 -- the run at the front, by its length
 pub run_is : (xs : List ℕ) (n : ℕ) → n ≤ length xs →
@@ -40,7 +41,8 @@ run_from xs n within solid =
     let short : p ≤ length xs = prefix_len-le-length (λ b. not (is_white b)) xs in
     let long : n ≤ p = elim (cases_lt p n) [
       | inl h ↦
-          let stops : not (is_white (get_or xs p 0)) ≡ false = prefix_len_stops (λ b. not (is_white b)) xs 0 (omega arith) in
+          let stops : not (is_white (get_or xs p 0)) ≡ false =
+          prefix_len_stops (λ b. not (is_white b)) xs 0 (omega arith) in
           let goes : not (is_white (get_or xs p 0)) ≡ true = ap not (solid p h) in
           absurd (false≢true (sym stops ∙ goes))
       | inr h ↦ h
@@ -69,11 +71,16 @@ token_whole fails offset xs n some within solid white ends =
     let l : length (take n xs) ≡ n = length-take-le n xs within in
     let no : is_cut fails (run xs) xs ≡ false = rw (r, l) (not_cut fails n (length xs) ends) in
     let w : token_here fails offset xs ≡ record { bytes = take n xs; offset = offset } ∷ [] = rw (no, r) refl in
-    token_first fails offset xs n some within solid white ∙ ap (λ (ws : List Token). ws ++ tokens_from fails false (offset + n) (drop n xs)) w
+    token_first fails offset xs n some within solid white
+    ∙ ap (λ (ws : List Token). ws ++ tokens_from fails false (offset + n) (drop n xs)) w
   where
     not_cut : (f : Bool) (a b : ℕ) → (a ≡ b → f ≡ false) → f && (a == b) && nat_le a 65535 ≡ false
     not_cut false a b e = refl
-    not_cut true a b e = elim (cases_eq a b) [ inl h ↦ absurd (false≢true (sym (e h))) | inr h ↦ rw (ne_eqb a b h) refl ]
+    not_cut true a b e = elim (cases_eq a b) [
+      | inl h ↦ absurd (false≢true (sym (e h)))
+      | inr h ↦
+          rw (ne_eqb a b h) refl
+    ]
 
 -- a run that is too long
 pub token_long : (fails : Bool) (offset : ℕ) (xs : List ℕ) → 65536 ≤ length xs →
@@ -85,9 +92,13 @@ token_long fails offset [] within solid = absurd (omega arith)
 token_long fails offset (x ∷ xs) within solid =
     let s : is_white x ≡ false = solid 0 (omega arith) in
     let more : 65536 ≤ length (run (x ∷ xs)) = (run_from (x ∷ xs) 65536 within solid).0 in
-    let long : nat_le (length (run (x ∷ xs))) 65535 ≡ false = false_from_ne_true _ (λ e. let h : length (run (x ∷ xs)) ≤ 65535 = leb-true _ _ e in omega arith) in
-    let no : is_cut fails (run (x ∷ xs)) (x ∷ xs) ≡ false = rw long (uncut fails (length (run (x ∷ xs)) == length (x ∷ xs))) in
-    let first : tokens_from fails false offset (x ∷ xs) ≡ token_here fails offset (x ∷ xs) ++ tokens_from fails true (offset + 1) xs = rw s refl in
+    let long : nat_le (length (run (x ∷ xs))) 65535 ≡ false =
+    false_from_ne_true _ (λ e. let h : length (run (x ∷ xs)) ≤ 65535 = leb-true _ _ e in
+    omega arith) in
+    let no : is_cut fails (run (x ∷ xs)) (x ∷ xs) ≡ false =
+    rw long (uncut fails (length (run (x ∷ xs)) == length (x ∷ xs))) in
+    let first : tokens_from fails false offset (x ∷ xs) ≡ token_here fails offset (x ∷ xs)
+    ++ tokens_from fails true (offset + 1) xs = rw s refl in
     let w : token_here fails offset (x ∷ xs) ≡ record { bytes = run (x ∷ xs); offset = offset } ∷ [] = rw no refl in
     first ∙ ap (λ (ws : List Token). ws ++ tokens_from fails true (offset + 1) xs) w
   where
@@ -102,7 +113,10 @@ pub token_cut : (offset : ℕ) (xs : List ℕ) → 0 < length xs → length xs �
     → tokens_from true false offset xs ≡ []
 unfolding tokens_from token_here is_cut
 token_cut offset xs some short solid =
-    let r : run xs ≡ xs = run_is xs (length xs) (omega arith) solid (λ h. absurd (omega arith)) ∙ take_all (length xs) xs (omega arith) in
-    let yes : is_cut true (run xs) xs ≡ true = rw (r, eq-eqb (length xs) (length xs) refl, le-leb (length xs) 65535 short) refl in
+    let r : run xs ≡ xs = run_is xs (length xs) (omega arith) solid (λ h. absurd (omega arith))
+    ∙ take_all (length xs) xs (omega arith) in
+    let yes : is_cut true (run xs) xs ≡ true =
+    rw (r, eq-eqb (length xs) (length xs) refl, le-leb (length xs) 65535 short) refl in
     let w : token_here true offset xs ≡ [] = rw yes refl in
-    token_first true offset xs (length xs) some (omega arith) solid (λ h. absurd (omega arith)) ∙ rw (w, drop_all (length xs) xs (omega arith)) refl
+    token_first true offset xs (length xs) some (omega arith) solid (λ h. absurd (omega arith))
+    ∙ rw (w, drop_all (length xs) xs (omega arith)) refl

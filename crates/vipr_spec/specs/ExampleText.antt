@@ -5,7 +5,8 @@ use Rattle.vipr_spec.specs.Certificate.{minimum, infeasible, lin, Certificate}
 use Rattle.vipr_spec.specs.{Constraint.at_most, Constraint.at_least, Fraction.over, Reading.row_of}
 
 abbrev pub example_text : List ℕ
-example_text = codes "% made by hand\nVER 1.0\nVAR 1\nx\nINT 0\nOBJ min\n0\nCON 2 0\na G 1 1 0 1\nb L 0 1 0 1\nRTP infeas\nSOL 0\nDER 1\nf G 1 0 { lin 2 0 1 1 -1 } -1\n"
+example_text =
+    codes "% made by hand\nVER 1.0\nVAR 1\nx\nINT 0\nOBJ min\n0\nCON 2 0\na G 1 1 0 1\nb L 0 1 0 1\nRTP infeas\nSOL 0\nDER 1\nf G 1 0 { lin 2 0 1 1 -1 } -1\n"
 
 abbrev pub example_certificate : Certificate
 example_certificate = record {

@@ -27,7 +27,8 @@ module _ (m : FinMap nat_cmp Entry) (i : ℕ) where
   left_over j e h = grind (arith, eq_cases, get-remove_at, cond, get)
 
 module _ (m : FinMap nat_cmp Entry) (next : ℕ) (new : Entry) where
-  put_cases : (j : ℕ) (e : Entry) → get (insert m next new) j ≡ Some e → ((j ≡ next) × (e ≡ new)) ⊎ ((j ≡ next → ⊥) × (get m j ≡ Some e))
+  put_cases : (j : ℕ) (e : Entry) → get (insert m next new) j ≡ Some e → ((j ≡ next) × (e ≡ new))
+      ⊎ ((j ≡ next → ⊥) × (get m j ≡ Some e))
   put_cases j e h = grind (arith, eq_cases, get-insert_at, cond, get)
 
 -- the pair is taken out of the order, and its index out of the map
@@ -35,9 +36,12 @@ pub IsTied-removed : (next : ℕ) (m : FinMap nat_cmp Entry) (ds es : List (ℕ 
     → IsTied next m ds → IsPermutation ds ((last, i) ∷ es) → IsTied next (remove m i) es
 IsTied-removed next m ds es last i t p = record {
   below = All-tail (λ d. d.1 < next) (last, i) es (All-permutation (λ d. d.1 < next) ds _ p t.below);
-  right = All-weaker (λ d. (e : Entry) → get m d.1 ≡ Some e → expiry e ≡ Some d.0) (λ d. (e : Entry) → get (remove m i) d.1 ≡ Some e → expiry e ≡ Some d.0)
+  right = All-weaker (λ d. (e : Entry) → get m d.1 ≡ Some e → expiry e ≡ Some d.0)
+      (λ d. (e : Entry) → get (remove m i) d.1 ≡ Some e → expiry e ≡ Some d.0)
       (λ d h e is. h e (left_over m i d.1 e is).0) es
-      (All-tail (λ d. (e : Entry) → get m d.1 ≡ Some e → expiry e ≡ Some d.0) (last, i) es (All-permutation (λ d. (e : Entry) → get m d.1 ≡ Some e → expiry e ≡ Some d.0) ds _ p t.right));
+      (All-tail (λ d. (e : Entry) → get m d.1 ≡ Some e → expiry e ≡ Some d.0) (last, i) es
+      (All-permutation (λ d. (e : Entry) → get m d.1 ≡ Some e → expiry e ≡ Some d.0) ds _ p
+      t.right));
   listed = λ j l e is expires.
       let was = left_over m i j e is in
       elim (ahead_cases (last, i) (l, j) es (Contains-permutation ds _ (l, j) p (t.listed j l e was.0 expires))) [
@@ -51,7 +55,9 @@ live_part-removed : (next now : ℕ) (m : FinMap nat_cmp Entry) (ds es : List (�
     (last i : ℕ)
     → IsTied next m ds → IsPermutation ds ((last, i) ∷ es) → last ≤ now
     → live_part (now + 1) (remove m i) ≡ live_part (now + 1) m
-live_part-removed next now m ds es last i t p due = same_numbers _ _ (λ q. get-live_part (now + 1) (remove m i) q ∙ at q ∙ sym (get-live_part (now + 1) m q))
+live_part-removed next now m ds es last i t p due =
+    same_numbers _ _ (λ q. get-live_part (now + 1) (remove m i) q ∙ at q
+    ∙ sym (get-live_part (now + 1) m q))
   where
     expired : (e : Entry) → get m i ≡ Some e → if_live (now + 1) (Some e) ≡ None
     expired e is =
@@ -90,8 +96,10 @@ pub record AdvancesTo (t : Table) (first next : ℕ) (m : FinMap nat_cmp Entry) 
   pub next_stays : next ≡ t.next
   pub live : live_part (t.next + 1) m ≡ live_part (t.next + 1) t.entries
 
-module _ (t : Table) (first next : ℕ) (m : FinMap nat_cmp Entry) (ds : List (ℕ × ℕ)) (a : AdvancesTo t first next m ds) where
-  pub AdvancesTo-removed : (es : List (ℕ × ℕ)) (last i : ℕ) → IsPermutation ds ((last, i) ∷ es) → last ≤ next → AdvancesTo t first next (remove m i) es
+module _ (t : Table) (first next : ℕ) (m : FinMap nat_cmp Entry) (ds : List (ℕ × ℕ))
+    (a : AdvancesTo t first next m ds) where
+  pub AdvancesTo-removed : (es : List (ℕ × ℕ)) (last i : ℕ) → IsPermutation ds ((last, i) ∷ es)
+      → last ≤ next → AdvancesTo t first next (remove m i) es
   AdvancesTo-removed es last i p due = record {
     tied = IsTied-removed next m ds es last i a.tied p;
     first_stays = a.first_stays;
@@ -99,10 +107,12 @@ module _ (t : Table) (first next : ℕ) (m : FinMap nat_cmp Entry) (ds : List (�
     live = live_part-removed next t.next m ds es last i a.tied p (let e = a.next_stays in omega (arith, due)) ∙ a.live;
   }
 
-  pub advanced : All (λ (d : ℕ × ℕ). next < d.0) ds → ◌≡◌ {A = Table} (record { first = first; next = next; entries = m }) (advance_table t)
+  pub advanced : All (λ (d : ℕ × ℕ). next < d.0) ds
+      → ◌≡◌ {A = Table} (record { first = first; next = next; entries = m }) (advance_table t)
   advanced none =
       same_table _ _ a.first_stays a.next_stays
-      (sym (live_part-none_due next t.next m ds a.tied (subst (λ n. All (λ (d : ℕ × ℕ). n < d.0) ds) a.next_stays none)) ∙ a.live)
+      (sym (live_part-none_due next t.next m ds a.tied
+      (subst (λ n. All (λ (d : ℕ × ℕ). n < d.0) ds) a.next_stays none)) ∙ a.live)
 
 still_right : (next : ℕ) (m : FinMap nat_cmp Entry) (ds : List (ℕ × ℕ)) (e : Entry)
     → IsTied next m ds → All
@@ -123,10 +133,16 @@ IsTied-added : (next : ℕ) (m : FinMap nat_cmp Entry) (ds es : List (ℕ × ℕ
     → IsTied (next + 1) (insert m next e) es
 IsTied-added next m ds es e last t expires p = record {
   below = All-permutation (λ d. d.1 < next + 1) ((last, next) ∷ ds) es p
-      (All-cons (λ d. d.1 < next + 1) (last, next) ds (omega arith) (All-weaker (λ d. d.1 < next) (λ d. d.1 < next + 1) (λ d h. omega arith) ds t.below));
-  right = All-permutation (λ d. (f : Entry) → get (insert m next e) d.1 ≡ Some f → expiry f ≡ Some d.0) ((last, next) ∷ ds) es p
+      (All-cons (λ d. d.1 < next + 1) (last, next) ds (omega arith)
+      (All-weaker (λ d. d.1 < next) (λ d. d.1 < next + 1) (λ d h. omega arith) ds t.below));
+  right = All-permutation (λ d. (f : Entry) → get (insert m next e) d.1 ≡ Some f
+      → expiry f ≡ Some d.0) ((last, next) ∷ ds) es p
       (All-cons (λ d. (f : Entry) → get (insert m next e) d.1 ≡ Some f → expiry f ≡ Some d.0) (last, next) ds
-      (λ f is. elim (put_cases m next e next f is) [ inl new ↦ ap expiry new.1 ∙ expires | inr old ↦ absurd (old.0 refl) ])
+      (λ f is. elim (put_cases m next e next f is) [
+        | inl new ↦ ap expiry new.1 ∙ expires
+        | inr old ↦
+            absurd (old.0 refl)
+      ])
       (still_right next m ds e t));
   listed = λ j l f is says.
       Contains-permutation ((last, next) ∷ ds) es (l, j) p

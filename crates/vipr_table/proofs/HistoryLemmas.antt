@@ -119,16 +119,22 @@ module _ (c : Certificate) (d : Derivation) (e : Entry) (t : Table)
   one_more : count after ≡ count c + 1
   one_more = let l = length-append c.derivations (d ∷ []) in omega (arith, l)
 
-  get-step : (q : ℕ) → get (step t e).entries q ≡ cond (nat_eq q (count c)) (Some e) (if_live (count c + 1) (get t.entries q))
+  get-step : (q : ℕ) → get (step t e).entries q ≡ cond (nat_eq q (count c)) (Some e)
+      (if_live (count c + 1) (get t.entries q))
   get-step q = grind (arith, get-insert_at, get-live_part)
 
-  held_after : (q : ℕ) → is_held after q ≡ (nat_le given q && (nat_eq (q + 1) (count c + 1) || (nat_lt q (count c + 1) && lasts after (count c + 1) q)))
+  held_after : (q : ℕ)
+      → is_held after
+      q ≡ (nat_le given q &&
+      (nat_eq (q + 1) (count c + 1) || (nat_lt q (count c + 1) && lasts after (count c + 1) q)))
   held_after q = ap (λ n. nat_le given q && (nat_eq (q + 1) n || is_live after n q)) one_more
 
   same_lasts : (q : ℕ) → q < count c → lasts after (count c + 1) q ≡ lasts c (count c + 1) q
-  same_lasts q h = ap₂ (λ r l. is_assumption r || lasts_to (count c + 1) l) (reason_before c (d ∷ []) q h) (last_before c (d ∷ []) q h)
+  same_lasts q h = ap₂ (λ r l. is_assumption r || lasts_to (count c + 1) l)
+      (reason_before c (d ∷ []) q h) (last_before c (d ∷ []) q h)
 
-  held_other : (q : ℕ) → (q ≡ count c → ⊥) → (o : Option Entry) → get t.entries q ≡ o → is_some (if_live (count c + 1) o) ≡ is_held after q
+  held_other : (q : ℕ) → (q ≡ count c → ⊥) → (o : Option Entry) → get t.entries q ≡ o
+      → is_some (if_live (count c + 1) o) ≡ is_held after q
   held_other q apart o at = grind (arith, held_range, entry_lasts, same_lasts, before_next, held_after, not_next)
 
   pub IsTableOf-step : IsTableOf after (step t e)
@@ -139,20 +145,29 @@ module _ (c : Certificate) (d : Derivation) (e : Entry) (t : Table)
     entry = λ q x h. entry_at_step q x (eq_cases q (count c)) (sym (get-step q) ∙ h);
   }
     where
-      held_at : (q : ℕ) → ((q ≡ count c) × (nat_eq q (count c) ≡ true)) ⊎ ((q ≡ count c → ⊥) × (nat_eq q (count c) ≡ false))
+      held_at : (q : ℕ) → ((q ≡ count c) × (nat_eq q (count c) ≡ true))
+          ⊎ ((q ≡ count c → ⊥) × (nat_eq q (count c) ≡ false))
           → is_some (cond (nat_eq q (count c)) (Some e) (if_live (count c + 1) (get t.entries q))) ≡ is_held after q
       held_at q (inl here) =
           ap (λ b. is_some (cond b (Some e) (if_live (count c + 1) (get t.entries q)))) here.1
-          ∙ sym (held_after q ∙ ap (λ n. nat_le given n && (nat_eq (n + 1) (count c + 1) || (nat_lt n (count c + 1) && lasts after (count c + 1) n))) here.0 ∙ last_is_held given (count c) (nat_lt (count c) (count c + 1) && lasts after (count c + 1) (count c)) (omega arith))
+          ∙ sym (held_after q
+          ∙ ap (λ n. nat_le given n &&
+          (nat_eq (n + 1) (count c + 1) ||
+          (nat_lt n (count c + 1) && lasts after (count c + 1) n))) here.0
+          ∙ last_is_held given (count c)
+          (nat_lt (count c) (count c + 1) && lasts after (count c + 1) (count c)) (omega arith))
       held_at q (inr apart) =
           ap (λ b. is_some (cond b (Some e) (if_live (count c + 1) (get t.entries q)))) apart.1
           ∙ held_other q apart.0 (get t.entries q) refl
 
-      entry_at_step : (q : ℕ) (x : Entry) → ((q ≡ count c) × (nat_eq q (count c) ≡ true)) ⊎ ((q ≡ count c → ⊥) × (nat_eq q (count c) ≡ false))
+      entry_at_step : (q : ℕ) (x : Entry) → ((q ≡ count c) × (nat_eq q (count c) ≡ true))
+          ⊎ ((q ≡ count c → ⊥) × (nat_eq q (count c) ≡ false))
           → cond (nat_eq q (count c)) (Some e) (if_live (count c + 1) (get t.entries q)) ≡ Some x → IsEntryOf after q x
       entry_at_step q x (inl here) h = grind arith
       entry_at_step q x (inr apart) h =
-          let was : get t.entries q ≡ Some x = if_live_of (count c + 1) (get t.entries q) x (ap (λ b. cond b (Some e) (if_live (count c + 1) (get t.entries q))) (sym apart.1) ∙ h) in
+          let was : get t.entries q ≡ Some x = if_live_of (count c + 1) (get t.entries q) x
+          (ap (λ b. cond b (Some e) (if_live (count c + 1) (get t.entries q))) (sym apart.1)
+          ∙ h) in
           let r = held_range c q (sym (is.held q) ∙ ap is_some was) in
           entry_later c (d ∷ []) q x back r.1 (is.entry q x was)
 
@@ -164,12 +179,16 @@ module _ (c : Certificate) (t : Table) (is : IsTableOf c t) where
     entry = λ e h. is.entry i e (if_live_of t.next (get t.entries i) e h);
   }
     where
-      at : (o : Option Entry) → get t.entries i ≡ o → is_some (if_live (count c) o) ≡ (is_derived c i && is_live c (count c) i)
+      at : (o : Option Entry) → get t.entries i ≡ o
+          → is_some (if_live (count c) o) ≡ (is_derived c i && is_live c (count c) i)
       at (Some x) there =
           let h : is_held c i ≡ true = sym (is.held i) ∙ ap is_some there in
           let r = held_range c i h in
-          is_some_live (count c) x ∙ entry_lasts c i x (count c) (is.entry i x there) ∙ live_within (length c.problem.constraints) (count c) i (lasts c (count c) i) r.0 r.1
-      at None there = sym (not_live (length c.problem.constraints) (count c) i (lasts c (count c) i) (sym (is.held i) ∙ ap is_some there))
+          is_some_live (count c) x ∙ entry_lasts c i x (count c) (is.entry i x there)
+          ∙ live_within (length c.problem.constraints) (count c) i (lasts c (count c) i) r.0 r.1
+      at None there =
+          sym (not_live (length c.problem.constraints) (count c) i (lasts c (count c) i)
+          (sym (is.held i) ∙ ap is_some there))
 
   -- as many are held as the certificate says
   pub IsTableOf-held : (k : ℕ) → k + 1 ≡ count c → length c.problem.constraints ≤ k → held_count t ≡ spec.count_held c k
@@ -177,14 +196,22 @@ module _ (c : Certificate) (t : Table) (is : IsTableOf c t) where
       let m = length c.problem.constraints in
       let n = k - m in
       let here : m + n ≡ k = omega arith in
-      len_counts t.entries m (suc n) (λ q h. let r = held_range c q (sym (is.held q) ∙ h) in (r.0, let b = r.1 in omega (arith, b, here, last)))
+      len_counts t.entries m (suc n) (λ q h. let r = held_range c q (sym (is.held q) ∙ h) in
+      (r.0, let b = r.1 in omega (arith, b, here, last)))
       ∙ count_same (contains_key t.entries) (is_held c) m (suc n) (λ q le lt. is.held q)
       ∙ count_more (is_held c) m n
-      ∙ ap₂ (λ a b. a + cond b 1 0) (count_same (is_held c) (is_live c (k + 1)) m n (λ q le lt. earlier q le (omega arith))) (ap (is_held c) here ∙ itself)
-      ∙ (let e : count_by (is_live c (k + 1)) (range_with_len m n) + 1 ≡ 1 + count_by (is_live c (k + 1)) (range_with_len m n) = omega arith in e)
+      ∙ ap₂ (λ a b. a + cond b 1 0)
+      (count_same (is_held c) (is_live c (k + 1)) m n (λ q le lt. earlier q le (omega arith)))
+      (ap (is_held c) here ∙ itself)
+      ∙ (let e : count_by (is_live c (k + 1)) (range_with_len m n) + 1 ≡ 1 + count_by
+      (is_live c (k + 1)) (range_with_len m n) = omega arith in e)
     where
       itself : is_held c k ≡ true
-      itself = ap (λ n. nat_le (length c.problem.constraints) k && (nat_eq (k + 1) n || is_live c n k)) (sym last) ∙ last_is_held (length c.problem.constraints) k (is_live c (k + 1) k) derived
+      itself = ap (λ n. nat_le (length c.problem.constraints) k &&
+          (nat_eq (k + 1) n || is_live c n k)) (sym last)
+          ∙ last_is_held (length c.problem.constraints) k (is_live c (k + 1) k) derived
 
       earlier : (q : ℕ) → length c.problem.constraints ≤ q → q < k → is_held c q ≡ is_live c (k + 1) q
-      earlier q le lt = ap (λ n. nat_le (length c.problem.constraints) q && (nat_eq (q + 1) n || is_live c n q)) (sym last) ∙ not_last (length c.problem.constraints) k q (is_live c (k + 1) q) le lt
+      earlier q le lt =
+          ap (λ n. nat_le (length c.problem.constraints) q && (nat_eq (q + 1) n || is_live c n q))
+          (sym last) ∙ not_last (length c.problem.constraints) k q (is_live c (k + 1) q) le lt

@@ -62,7 +62,8 @@ remove_union s t k = same_set nat_cmp_total nat_cmp-IsAntisymmetric _ _ (λ q.
 -- nothing is added by indices that a set has already
 pub union_with_part : (s t : FinSet nat_cmp) (ys : List ℕ) → from_list ys ≡ t
     → ((q : ℕ) → has ys q ≡ true → contains s q ≡ true) → s ≡ union s t
-union_with_part s t ys is within = grind (arith, same_set nat_cmp_total nat_cmp-IsAntisymmetric, contains-from_list_nat, has_of)
+union_with_part s t ys is within =
+    grind (arith, same_set nat_cmp_total nat_cmp-IsAntisymmetric, contains-from_list_nat, has_of)
 
 -- ---- one of several sets
 

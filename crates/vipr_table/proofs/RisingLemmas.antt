@@ -17,14 +17,16 @@ rises_from low low' high (x ∷ xs) le r = (omega arith, r.1, r.2)
 rises_append : (low mark high : ℕ) (xs ys : List ℕ) → low ≤ mark → mark ≤ high
     → RisesWithin low mark xs → RisesWithin mark high ys → RisesWithin low high (xs ++ ys)
 rises_append low mark high [] ys le le' r s = rises_from mark low high ys le s
-rises_append low mark high (x ∷ xs) ys le le' r s = (r.0, omega arith, rises_append (x + 1) mark high xs ys (omega arith) le' r.2 s)
+rises_append low mark high (x ∷ xs) ys le le' r s =
+    (r.0, omega arith, rises_append (x + 1) mark high xs ys (omega arith) le' r.2 s)
 
 pub rises_filter : (p : ℕ → Bool) (low high : ℕ) (xs : List ℕ) → RisesWithin low high xs
     → RisesWithin low high (filter p xs)
 rises_filter p low high [] r = tt
 rises_filter p low high (x ∷ xs) r = by (p x) (rises_filter p (x + 1) high xs r.2)
   where
-    by : (b : Bool) → RisesWithin (x + 1) high (filter p xs) → RisesWithin low high (cond b (x ∷ filter p xs) (filter p xs))
+    by : (b : Bool) → RisesWithin (x + 1) high (filter p xs)
+        → RisesWithin low high (cond b (x ∷ filter p xs) (filter p xs))
     by true rest = (r.0, r.1, rest)
     by false rest = rises_from (x + 1) low high (filter p xs) (let le : low ≤ x = r.0 in omega arith) rest
 
@@ -103,7 +105,8 @@ none_left i xs h = no_items (drop i xs) (omega (arith, length-drop i xs))
 pub merge_end : (xs ys : List ℕ) (i j : ℕ) (out zs : List ℕ) → Merging xs ys i j out
     → (i < length xs → length ys ≤ j) → zs ≡ (out ++ drop i xs) ++ drop j ys → IsUnion xs ys zs
 merge_end xs ys i j out zs m over is = record {
-  rising = subst IsRising (sym is) (rises_all m.mark out (drop i xs) (drop j ys) m.done m.mark_fits m.left m.right spent);
+  rising = subst IsRising (sym is)
+      (rises_all m.mark out (drop i xs) (drop j ys) m.done m.mark_fits m.left m.right spent);
   members = λ q.
       ap (λ ws. has ws q) is
       ∙ list_any-append (λ n. nat_eq n q) (out ++ drop i xs) (drop j ys)
@@ -113,19 +116,28 @@ merge_end xs ys i j out zs m over is = record {
 }
   where
     spent : (drop i xs ≡ []) ⊎ (drop j ys ≡ [])
-    spent = elim (cases_lt i (length xs)) [ inl more ↦ inr (none_left j ys (over more)) | inr past ↦ inl (none_left i xs past) ]
+    spent = elim (cases_lt i (length xs)) [
+      | inl more ↦ inr (none_left j ys (over more))
+      | inr past ↦
+          inl (none_left i xs past)
+    ]
 
 -- a list that rises is in order
 pub rises_order : (low high : ℕ) (xs : List ℕ) → RisesWithin low high xs → (i j : ℕ) → i ≤ j
     → j < length xs → get_or xs i 0 ≤ get_or xs j 0
 rises_order low high [] r i j le lt = absurd (omega arith)
 rises_order low high (x ∷ xs) r zero zero le lt = omega arith
-rises_order low high (x ∷ xs) r zero (suc j) le lt = let h = above (x + 1) high xs r.2 j (omega arith) in omega (arith, h)
+rises_order low high (x ∷ xs) r zero (suc j) le lt =
+    let h = above (x + 1) high xs r.2 j (omega arith) in
+    omega (arith, h)
   where
     above : (low high : ℕ) (xs : List ℕ) → RisesWithin low high xs → (j : ℕ) → j < length xs → low ≤ get_or xs j 0
     above low high [] r j lt = absurd (omega arith)
     above low high (x ∷ xs) r zero lt = r.0
-    above low high (x ∷ xs) r (suc j) lt = let h = above (x + 1) high xs r.2 j (omega arith) in let le : low ≤ x = r.0 in omega (arith, h)
+    above low high (x ∷ xs) r (suc j) lt =
+        let h = above (x + 1) high xs r.2 j (omega arith) in
+        let le : low ≤ x = r.0 in
+        omega (arith, h)
 rises_order low high (x ∷ xs) r (suc i) zero le lt = absurd (omega arith)
 rises_order low high (x ∷ xs) r (suc i) (suc j) le lt = rises_order (x + 1) high xs r.2 i j (omega arith) (omega arith)
 
@@ -160,7 +172,12 @@ last_above low high k (x ∷ rest) r = grind (arith, last_above (x + 1) high k r
 last_out : (low high k : ℕ) (rest : List ℕ) → RisesWithin low high (rest ++ k ∷ [])
     → rest ≡ filter (λ x. not (nat_eq x k)) (rest ++ k ∷ [])
 last_out low high k [] r = sym (but_cond (nat_eq k k) k [] (is_eq k k refl))
-last_out low high k (x ∷ rest) r = grind (arith, last_out (x + 1) high k rest r.2, is_under x k (omega (arith, (last_above (x + 1) high k rest r.2))))
+last_out low high k (x ∷ rest) r =
+    grind (
+      arith,
+      last_out (x + 1) high k rest r.2,
+      is_under x k (omega (arith, (last_above (x + 1) high k rest r.2))),
+    )
 
 pub without_last : (k : ℕ) (xs rest : List ℕ) → IsRising xs → xs ≡ rest ++ k ∷ []
     → rest ≡ filter (λ x. not (nat_eq x k)) xs

@@ -45,15 +45,19 @@ pub found : (xs : List ℕ) (q : ℕ) (r : Result ℕ ℕ) → IsRising xs
     → is_ok r ≡ contains (from_list {R = nat_cmp} xs) q
 found xs q r rising s = by r (searched xs q r s (rises_order 0 (2 ^ 32) xs rising)) ∙ sym (contains-from_list_nat xs q)
   where
-    by : (r : Result ℕ ℕ) → MatchResult r (λ i. (i < length xs) × (get_or xs i 0 ≡ q)) (λ i. (i ≤ length xs) × ((k : ℕ) → k < i → get_or xs k 0 < q) × ((k : ℕ) → i ≤ k → k < length xs → q < get_or xs k 0)) → is_ok r ≡ has xs q
+    by : (r : Result ℕ ℕ) → MatchResult r (λ i. (i < length xs) × (get_or xs i 0 ≡ q))
+        (λ i. (i ≤ length xs) × ((k : ℕ) → k < i → get_or xs k 0 < q)
+        × ((k : ℕ) → i ≤ k → k < length xs → q < get_or xs k 0)) → is_ok r ≡ has xs q
     by (Ok i) h = sym (list_any_at (λ x. nat_eq x q) xs i 0 h.0 (at (get_or xs i 0) h.1))
       where
         at : (x : ℕ) → x ≡ q → nat_eq x q ≡ true
         at x e = grind (arith, nat_tests)
-    by (Err i) h = sym (list_any_none (λ x. nat_eq x q) xs (All-from_get_or (λ x. nat_eq x q ≡ false) xs 0 (λ k lt. elim (cases_lt k i) [
-      | inl before ↦ other (get_or xs k 0) (inl (h.1 k before))
-      | inr after ↦ other (get_or xs k 0) (inr (h.2 k after lt))
-    ])))
+    by (Err i) h =
+        sym (list_any_none (λ x. nat_eq x q) xs
+        (All-from_get_or (λ x. nat_eq x q ≡ false) xs 0 (λ k lt. elim (cases_lt k i) [
+          | inl before ↦ other (get_or xs k 0) (inl (h.1 k before))
+          | inr after ↦ other (get_or xs k 0) (inr (h.2 k after lt))
+        ])))
       where
         other : (x : ℕ) → (x < q) ⊎ (q < x) → nat_eq x q ≡ false
         other x e = grind (arith, nat_tests)
@@ -86,7 +90,9 @@ and_false : (b : Bool) → (b && false) ≡ false
 and_false b = grind arith
 
 pub union_none : (s : FinSet nat_cmp) → s ≡ union s empty
-union_none s = sym (same_numbers _ _ (λ q. contains-union nat_cmp_total s empty q ∙ ap (λ b. contains s q || b) (contains-empty nat_cmp q) ∙ or_false (contains s q)))
+union_none s =
+    sym (same_numbers _ _ (λ q. contains-union nat_cmp_total s empty q
+    ∙ ap (λ b. contains s q || b) (contains-empty nat_cmp q) ∙ or_false (contains s q)))
 
 or_same : (b : Bool) → (b || b) ≡ b
 or_same b = grind arith
@@ -96,11 +102,16 @@ pub union_same : (s : FinSet nat_cmp) → s ≡ union s s
 union_same s = sym (same_numbers _ _ (λ q. contains-union nat_cmp_total s s q ∙ or_same (contains s q)))
 
 pub remove_none : (k : ℕ) → empty ≡ remove {R = nat_cmp} empty k
-remove_none k = sym (same_numbers _ _ (λ q. contains-remove nat_cmp_total empty k q ∙ ap (λ b. not (eq_by_cmp nat_cmp q k) && b) (contains-empty nat_cmp q) ∙ and_false _ ∙ sym (contains-empty nat_cmp q)))
+remove_none k =
+    sym (same_numbers _ _ (λ q. contains-remove nat_cmp_total empty k q
+    ∙ ap (λ b. not (eq_by_cmp nat_cmp q k) && b) (contains-empty nat_cmp q) ∙ and_false _
+    ∙ sym (contains-empty nat_cmp q)))
 
 -- nothing is taken out by what a set doesn't have
 pub remove_absent : (s : FinSet nat_cmp) (k : ℕ) → contains s k ≡ false → s ≡ remove s k
-remove_absent s k absent = sym (same_numbers _ _ (λ q. contains-remove nat_cmp_total s k q ∙ ap (λ b. not b && contains s q) (sym (tied_numbers q k)) ∙ by q (nat_eq q k) refl))
+remove_absent s k absent =
+    sym (same_numbers _ _ (λ q. contains-remove nat_cmp_total s k q
+    ∙ ap (λ b. not b && contains s q) (sym (tied_numbers q k)) ∙ by q (nat_eq q k) refl))
   where
     same : (q : ℕ) → nat_eq q k ≡ true → q ≡ k
     same q e = grind (arith, nat_tests)
@@ -123,7 +134,13 @@ pub deduped_set : (xs ys zs : List ℕ) → IsPermutation xs ys
 deduped_set xs ys zs p f = same_numbers _ _ (λ q.
     whether zs q
     ∙ ap (list_any (nat_eq q)) (dedup_is nat_eq ys zs f)
-    ∙ same_from_decides _ _ (is_member-Decides Decides-eqb (dedup nat_eq ys) q) (λ t. Contains-dedup_nat ys q (Contains-permutation xs ys q p ((is_member-Decides Decides-eqb xs q).0 t)), λ h. (is_member-Decides Decides-eqb xs q).1 (Contains-permutation ys xs q (IsPermutation-sym xs ys p) (Contains-from_dedup nat_eq ys q h)))
+    ∙ same_from_decides _ _ (is_member-Decides Decides-eqb (dedup nat_eq ys) q) (
+      λ t. Contains-dedup_nat ys q
+          (Contains-permutation xs ys q p ((is_member-Decides Decides-eqb xs q).0 t)),
+      λ h. (is_member-Decides Decides-eqb xs q).1
+          (Contains-permutation ys xs q (IsPermutation-sym xs ys p)
+          (Contains-from_dedup nat_eq ys q h)),
+    )
     ∙ sym (whether xs q))
 
 rises_at : (low : ℕ) (xs : List ℕ)
@@ -131,11 +148,19 @@ rises_at : (low : ℕ) (xs : List ℕ)
     → ((k : ℕ) → k < length xs → low ≤ get_or xs k 0)
     → ((k : ℕ) → k < length xs → get_or xs k 0 < 2 ^ 32) → RisesWithin low (2 ^ 32) xs
 rises_at low [] s l b = tt
-rises_at low (x ∷ xs) s l b = (l 0 (omega arith), b 0 (omega arith), rises_at (x + 1) xs (λ i j lt h. s (suc i) (suc j) (omega (arith, lt)) (omega (arith, h))) (λ k h. let r = s 0 (suc k) (omega arith) (omega (arith, h)) in omega (arith, r)) (λ k h. b (suc k) (omega (arith, h))))
+rises_at low (x ∷ xs) s l b = (
+  l 0 (omega arith),
+  b 0 (omega arith),
+  rises_at (x + 1) xs (λ i j lt h. s (suc i) (suc j) (omega (arith, lt)) (omega (arith, h)))
+      (λ k h. let r = s 0 (suc k) (omega arith) (omega (arith, h)) in omega (arith, r))
+      (λ k h. b (suc k) (omega (arith, h))),
+)
 
 -- and it rises
 pub deduped_rising : (ys zs : List ℕ) → IsSorted nat_cmp ys
     → IsFiltered (DiffersFromLast nat_eq) [] ys zs → All (λ x. x < 2 ^ 32) zs → IsRising zs
 deduped_rising ys zs s f b =
     let rises : IsStrictlyIncreasing zs = rw (dedup_is nat_eq ys zs f) (IsStrictlyIncreasing-dedup ys s) in
-    rises_at 0 zs (λ i j lt h. below_from_sorted zs i j 0 (sorted_from_strictly_increasing zs rises) lt h) (λ k h. omega arith) (λ k h. b k 0 h)
+    rises_at 0 zs
+    (λ i j lt h. below_from_sorted zs i j 0 (sorted_from_strictly_increasing zs rises) lt h)
+    (λ k h. omega arith) (λ k h. b k 0 h)

@@ -13,7 +13,8 @@ pub union_assoc : (s t u : FinSet nat_cmp) → union (union s t) u ≡ union s (
 union_assoc s t u = same_set nat_cmp_total nat_cmp-IsAntisymmetric _ _ (λ q. grind (arith, has_of, union))
 
 pub none_union : (s : FinSet nat_cmp) → union empty s ≡ s
-none_union s = same_set nat_cmp_total nat_cmp-IsAntisymmetric _ _ (λ q. has_of empty s q ∙ ap (λ b. b || contains s q) (contains-empty nat_cmp q))
+none_union s = same_set nat_cmp_total nat_cmp-IsAntisymmetric _ _ (λ q. has_of empty s q
+    ∙ ap (λ b. b || contains s q) (contains-empty nat_cmp q))
 
 pub nothing_gathered : empty {R = nat_cmp} ≡ union (union empty empty) empty
 nothing_gathered = union_none empty ∙ ap (λ s. union s empty) (union_none empty)

@@ -30,7 +30,8 @@ nones {A} {X} (x ∷ xs) (y ∷ ys) e = ap (λ (l : List (Option X)). None ∷ l
 -- as many constraints of the problem, and derivations of the same reasons and last references
 pub record AreAlike (c d : Certificate) : Type 0 where
   pub given : length c.problem.constraints ≡ length d.problem.constraints
-  pub reasons : map (λ (x : Derivation). Some x.reason) c.derivations ≡ map (λ (x : Derivation). Some x.reason) d.derivations
+  pub reasons : map (λ (x : Derivation). Some x.reason) c.derivations ≡ map
+      (λ (x : Derivation). Some x.reason) d.derivations
   pub lasts : map (λ (x : Derivation). x.last) c.derivations ≡ map (λ (x : Derivation). x.last) d.derivations
 
 module _ (c d : Certificate) (alike : AreAlike c d) where

@@ -39,7 +39,8 @@ pub record EntriesSoFar (first : ℕ) (table : List ℕ) (old : List (ℕ × ℚ
   pub those : now ≡ part (under first table) i old
 
 module _ (first : ℕ) (table : List ℕ) (old : List (ℕ × ℚ)) where
-  module _ (i : ℕ) (now : List (ℕ × ℚ)) (h : i < length old) (so_far : EntriesSoFar first table old i now) (x : ℕ × ℚ) (is : x ≡ get_or now i x) where
+  module _ (i : ℕ) (now : List (ℕ × ℚ)) (h : i < length old)
+      (so_far : EntriesSoFar first table old i now) (x : ℕ × ℚ) (is : x ≡ get_or now i x) where
     old_one : x ≡ get_or old i x
     old_one = is ∙ ap (λ l. get_or l i x) so_far.those ∙ at_part (under first table) old i x h
 
@@ -53,5 +54,6 @@ module _ (first : ℕ) (table : List ℕ) (old : List (ℕ × ℚ)) where
     pub next_entry : EntriesSoFar first table old (i + 1) (set now i (under first table x))
     next_entry = grind (arith, set_part (under first table) old i x h old_one)
 
-  pub all_entries : (i : ℕ) (now : List (ℕ × ℚ)) → EntriesSoFar first table old i now → length old < i + 1 → now ≡ map (under first table) old
+  pub all_entries : (i : ℕ) (now : List (ℕ × ℚ)) → EntriesSoFar first table old i now
+      → length old < i + 1 → now ≡ map (under first table) old
   all_entries i now so_far far = search (rules, take_all, drop_all)

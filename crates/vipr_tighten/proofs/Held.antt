@@ -26,14 +26,17 @@ drop_at c i = dropped_after i (reason_at c i) (last_at c i)
 
 pub count_more : (p : ℕ → Bool) (a n : ℕ)
     → count_by p (range_with_len a (n + 1)) ≡ count_by p (range_with_len a n) + cond (p (a + n)) 1 0
-count_more p a n = let same : n + 1 ≡ suc n = omega arith in ap (λ k. count_by p (range_with_len a k)) same ∙ count_from p a n (a + n) refl
+count_more p a n =
+    let same : n + 1 ≡ suc n = omega arith in
+    ap (λ k. count_by p (range_with_len a k)) same ∙ count_from p a n (a + n) refl
 
 count_alike : (p q : ℕ → Bool) (a n : ℕ) → ((i : ℕ) → a ≤ i → i < a + n → p i ≡ q i)
     → count_by p (range_with_len a n) ≡ count_by q (range_with_len a n)
 count_alike p q a zero same = refl
 count_alike p q a (suc n) same =
     let rest = count_alike p q (a + 1) n (λ i low up. same i (omega arith) (omega arith)) in
-    let here : cond {A = ℕ} (p a) 1 0 ≡ cond {A = ℕ} (q a) 1 0 = ap (λ (b : Bool). cond {A = ℕ} b 1 0) (same a (omega arith) (omega arith)) in
+    let here : cond {A = ℕ} (p a) 1 0 ≡ cond {A = ℕ} (q a) 1 0 =
+    ap (λ (b : Bool). cond {A = ℕ} b 1 0) (same a (omega arith) (omega arith)) in
     let left = count_cons p a (range_with_len (a + 1) n) in
     let right = count_cons q a (range_with_len (a + 1) n) in
     omega arith
@@ -78,27 +81,36 @@ module _ (c : Certificate) (m : ℕ) (is_first : length c.problem.constraints �
   pub held_now : (h d : ℕ) → h ≡ until_now → d ≡ dropped_now → h + 1 - d ≡ count_held c (m + p)
   held_now h d a b = let e = parts_all (drop_at c) (m + p) (range_with_len m p) in let is = held_is in omega arith
 
-  pub until_then : count_held c (m + p) ≡ count_by (λ i. is_held_until (m + (p + 1)) (drop_at c i)) (range_with_len m (p + 1))
+  pub until_then : count_held c (m + p) ≡ count_by (λ i. is_held_until (m + (p + 1)) (drop_at c i))
+      (range_with_len m (p + 1))
   until_then = grind (arith, count_more, count_alike)
 
-  pub most_then : max (count_held c (m + p)) (fold max 0 (map (count_held c) (range_with_len m p))) ≡ fold max 0 (map (count_held c) (range_with_len m (p + 1)))
+  pub most_then : max (count_held c (m + p)) (fold max 0 (map (count_held c) (range_with_len m p)))
+      ≡ fold max 0 (map (count_held c) (range_with_len m (p + 1)))
   most_then =
       let before = fold max 0 (map (count_held c) (range_with_len m p)) in
       let turned : max (count_held c (m + p)) before ≡ max before (count_held c (m + p)) = omega arith in
-      turned ∙ sym (ap (fold max 0) (map-range_with_len_more (count_held c) m p (m + p) refl) ∙ fold-append max 0 (map (count_held c) (range_with_len m p)) (count_held c (m + p) ∷ []))
+      turned ∙ sym (ap (fold max 0) (map-range_with_len_more (count_held c) m p (m + p) refl)
+      ∙ fold-append max 0 (map (count_held c) (range_with_len m p)) (count_held c (m + p) ∷ []))
 
   -- where the derivation at this place is dropped
-  pub drop_here : (view : Statement → Named Constraint) (ss : List Step) → map (step_of view) ss ≡ c.derivations → p < length ss → (s : Step) → s ≡ slice_index_or ss p s → drop_at c (m + p) ≡ dropped_after (m + p) (Some (kept_reason_of s.reason)) s.last
+  pub drop_here : (view : Statement → Named Constraint) (ss : List Step)
+      → map (step_of view) ss ≡ c.derivations → p < length ss → (s : Step)
+      → s ≡ slice_index_or ss p s → drop_at c (m + p) ≡ dropped_after (m + p)
+      (Some (kept_reason_of s.reason)) s.last
   drop_here view ss same h s is = ap₂ (dropped_after (m + p)) reason last
     where
       there : step_of view s ≡ slice_index_or c.derivations p (step_of view s)
-      there = ap (step_of view) is ∙ sym (get_or-map (step_of view) ss p s (step_of view s) h) ∙ ap (λ l. slice_index_or l p (step_of view s)) same
+      there = ap (step_of view) is ∙ sym (get_or-map (step_of view) ss p s (step_of view s) h)
+          ∙ ap (λ l. slice_index_or l p (step_of view s)) same
 
       inside : p < length c.derivations
       inside = let e = length-map ss (step_of view) in let f = ap length same in omega arith
 
       reason : reason_at c (m + p) ≡ Some (kept_reason_of s.reason)
-      reason = ap (λ n. reason_at c (n + p)) (sym is_first) ∙ reason_placed c p ∙ get_or-map (λ (x : Derivation). Some x.reason) c.derivations p (step_of view s) None inside ∙ ap (λ (x : Derivation). Some x.reason) (sym there)
+      reason = ap (λ n. reason_at c (n + p)) (sym is_first) ∙ reason_placed c p
+          ∙ get_or-map (λ (x : Derivation). Some x.reason) c.derivations p (step_of view s) None
+          inside ∙ ap (λ (x : Derivation). Some x.reason) (sym there)
 
       last : last_at c (m + p) ≡ s.last
       last =
@@ -109,21 +121,27 @@ module _ (c : Certificate) (m : ℕ) (is_first : length c.problem.constraints �
           lasts_listed c (m + p)
           ∙ ap (λ n. slice_index_or (given ++ derived) (n + p) None) (sym size)
           ∙ get_or-append-add given derived p None
-          ∙ get_or-map (λ (x : Derivation). x.last) c.derivations p (step_of view s) None inside ∙ ap (λ (x : Derivation). x.last) (sym there)
+          ∙ get_or-map (λ (x : Derivation). x.last) c.derivations p (step_of view s) None inside
+          ∙ ap (λ (x : Derivation). x.last) (sym there)
 
   -- the counts of what is dropped, with the derivation at this place
   pub dropped_then : (k n : ℕ) → n ≡ count_by (λ i. is_dropped_after (m + k) (drop_at c i)) (range_with_len m p)
-      → n + cond (is_dropped_after (m + k) (drop_at c (m + p))) 1 0 ≡ count_by (λ i. is_dropped_after (m + k) (drop_at c i)) (range_with_len m (p + 1))
+      → n + cond (is_dropped_after (m + k) (drop_at c (m + p))) 1 0 ≡ count_by
+      (λ i. is_dropped_after (m + k) (drop_at c i)) (range_with_len m (p + 1))
   dropped_then k n e = let more = count_more (λ i. is_dropped_after (m + k) (drop_at c i)) m p in omega arith
 
   pub few_at : (k : ℕ) → count_by (λ i. is_dropped_after (m + k) (drop_at c i)) (range_with_len m p) ≤ p
   few_at k = grind (arith, count_by-le-length, length-range_with_len)
 
-  pub each_some : (k at n new : ℕ) → n ≡ count_by (λ i. is_dropped_after (m + k) (drop_at c i)) (range_with_len m p) → drop_at c (m + p) ≡ Some at → new ≡ n + cond (nat_eq at (m + k)) 1 0
+  pub each_some : (k at n new : ℕ) → n ≡ count_by (λ i. is_dropped_after (m + k) (drop_at c i))
+      (range_with_len m p) → drop_at c (m + p) ≡ Some at → new ≡ n + cond (nat_eq at (m + k)) 1 0
       → new ≡ count_by (λ i. is_dropped_after (m + k) (drop_at c i)) (range_with_len m (p + 1))
-  each_some k at n new e is w = w ∙ sym (ap (λ (o : Option ℕ). n + cond {A = ℕ} (is_dropped_after (m + k) o) 1 0) is) ∙ dropped_then k n e
+  each_some k at n new e is w = w
+      ∙ sym (ap (λ (o : Option ℕ). n + cond {A = ℕ} (is_dropped_after (m + k) o) 1 0) is)
+      ∙ dropped_then k n e
 
-  pub each_none : (k n : ℕ) → n ≡ count_by (λ i. is_dropped_after (m + k) (drop_at c i)) (range_with_len m p) → drop_at c (m + p) ≡ None
+  pub each_none : (k n : ℕ) → n ≡ count_by (λ i. is_dropped_after (m + k) (drop_at c i))
+      (range_with_len m p) → drop_at c (m + p) ≡ None
       → n ≡ count_by (λ i. is_dropped_after (m + k) (drop_at c i)) (range_with_len m (p + 1))
   each_none k n e is = grind (arith, dropped_then k n e)
 
@@ -157,9 +175,13 @@ module _ (first : ℕ) (steps : List Step) where
   pub first_of : length (certificate_of first steps).problem.constraints ≡ first
   first_of = length-replicate first (record { name = []; item = record { row = empty; sense = equal; bound = zero_ℚ } })
 
-  pub peak_of : (view : Statement → Named Constraint) (c : Certificate) → AreDerivationsOf c first (map (step_of view) steps) → peak (certificate_of first steps) ≡ peak c
+  pub peak_of : (view : Statement → Named Constraint) (c : Certificate)
+      → AreDerivationsOf c first (map (step_of view) steps)
+      → peak (certificate_of first steps) ≡ peak c
   peak_of view c stand = peak_alike (certificate_of first steps) c (record {
     given = first_of ∙ sym stand.first_is;
-    reasons = map_alike (step_of no_statement) (step_of view) (λ (x : Derivation). Some x.reason) (λ s. refl) steps ∙ ap (map (λ (x : Derivation). Some x.reason)) stand.those;
-    lasts = map_alike (step_of no_statement) (step_of view) (λ (x : Derivation). x.last) (λ s. refl) steps ∙ ap (map (λ (x : Derivation). x.last)) stand.those;
+    reasons = map_alike (step_of no_statement) (step_of view) (λ (x : Derivation). Some x.reason)
+        (λ s. refl) steps ∙ ap (map (λ (x : Derivation). Some x.reason)) stand.those;
+    lasts = map_alike (step_of no_statement) (step_of view) (λ (x : Derivation). x.last)
+        (λ s. refl) steps ∙ ap (map (λ (x : Derivation). x.last)) stand.those;
   })

@@ -35,7 +35,9 @@ below : (goal : Option ℕ) (m n : ℕ) → m ≡ n → IfSome goal (λ g. g < m
 below goal m n e h = subst (λ k. IfSome goal (λ g. g < k)) e h
 
 -- these are the constraints of the problem
-module _ (P : Profile) (F : Form) (c : Certificate) (k : KeptProof) (is : IsKeptOf P F c k) (cons : List (NamedItem ConstraintItem)) (cons_are : map (named_of constraint_of) cons ≡ k.problem.constraints) where
+module _ (P : Profile) (F : Form) (c : Certificate) (k : KeptProof) (is : IsKeptOf P F c k)
+    (cons : List (NamedItem ConstraintItem))
+    (cons_are : map (named_of constraint_of) cons ≡ k.problem.constraints) where
   -- the index of the first derivation
   abbrev first : ℕ
   first = length cons
@@ -56,7 +58,9 @@ module _ (P : Profile) (F : Form) (c : Certificate) (k : KeptProof) (is : IsKept
   stand = record { first_is = first_is; those = is.steps.those }
 
   counted : count c ≡ first + length k.steps.items
-  counted = sym (texts_count k.statements.form k.statements.objective c) ∙ count_of texts first all_steps stand ∙ ap (λ n. first + n) (length-map k.steps.items (step_of (statement_in k.statements)))
+  counted = sym (texts_count k.statements.form k.statements.objective c)
+      ∙ count_of texts first all_steps stand
+      ∙ ap (λ n. first + n) (length-map k.steps.items (step_of (statement_in k.statements)))
 
   pub few_steps : first + length k.steps.items ≤ most_count
   few_steps = grind (arith, counted)
@@ -65,11 +69,14 @@ module _ (P : Profile) (F : Form) (c : Certificate) (k : KeptProof) (is : IsKept
   can = search (rules, texts_back, back_of_proof, texts_count, goal_before)
 
   -- these steps are kept of it for the goal
-  module _ (kept : List Step) (all : (view : Statement → Named Constraint) (d : Certificate) → AreDerivationsOf d first (map (step_of view) k.steps.items) → CanTighten d k.report.goal → map (step_of view) kept ≡ (tightened_certificate d k.report.goal).derivations) where
+  module _ (kept : List Step) (all : (view : Statement → Named Constraint) (d : Certificate)
+      → AreDerivationsOf d first (map (step_of view) k.steps.items) → CanTighten d k.report.goal
+      → map (step_of view) kept ≡ (tightened_certificate d k.report.goal).derivations) where
     abbrev tightened : Certificate
     tightened = tightened_certificate c k.report.goal
 
-    tight_stand : AreDerivationsOf (tightened_certificate texts k.report.goal) first (map (step_of (statement_in k.statements)) kept)
+    tight_stand : AreDerivationsOf (tightened_certificate texts k.report.goal) first
+        (map (step_of (statement_in k.statements)) kept)
     tight_stand = record { first_is = first_is; those = all (statement_in k.statements) texts stand can }
 
     pub tight_steps : AreStepsOf tightened k.problem k.solutions.bytes.items k.statements kept
@@ -83,7 +90,11 @@ module _ (P : Profile) (F : Form) (c : Certificate) (k : KeptProof) (is : IsKept
     }
 
     tight_counted : count tightened ≡ first + length kept
-    tight_counted = sym (texts_tightened_count k.statements.form k.statements.objective c k.report.goal) ∙ count_of (tightened_certificate texts k.report.goal) first (map (step_of (statement_in k.statements)) kept) tight_stand ∙ ap (λ n. first + n) (length-map kept (step_of (statement_in k.statements)))
+    tight_counted =
+        sym (texts_tightened_count k.statements.form k.statements.objective c k.report.goal)
+        ∙ count_of (tightened_certificate texts k.report.goal) first
+        (map (step_of (statement_in k.statements)) kept) tight_stand
+        ∙ ap (λ n. first + n) (length-map kept (step_of (statement_in k.statements)))
 
     tight_size : length kept ≡ length tightened.derivations
     tight_size = grind (arith, tight_counted, first_is)
@@ -95,16 +106,27 @@ module _ (P : Profile) (F : Form) (c : Certificate) (k : KeptProof) (is : IsKept
     tight_fewer = grind (arith, tight_size, fewer_kept)
 
     module _ (spells : (G : Form) → SpellsOnly (text_in G tightened) tightened) (old new : Option Output) where
-      pub tightens_whole : (n after : ℕ) → n ≡ length kept → ((view : Statement → Named Constraint) (d : Certificate) → AreDerivationsOf d first (map (step_of view) kept) → after ≡ peak d)
-          → IfSome old (λ o. Wrote o new (text_in k.statements.form tightened) (Ok tt)) → TightensText P F (kind_of c) old new (Ok (Tightened n (k.report.derived - n) k.report.peak after))
+      pub tightens_whole : (n after : ℕ) → n ≡ length kept
+          → ((view : Statement → Named Constraint) (d : Certificate)
+          → AreDerivationsOf d first (map (step_of view) kept) → after ≡ peak d)
+          → IfSome old (λ o. Wrote o new (text_in k.statements.form tightened) (Ok tt))
+          → TightensText P F (kind_of c) old new
+          (Ok (Tightened n (k.report.derived - n) k.report.peak after))
       tightens_whole n after e is_peak w =
           let few = tight_fewer in
           let all : n + (k.report.derived - n) ≡ k.report.derived = omega arith in
-          let peak_is : after ≡ peak tightened = is_peak (statement_in k.statements) (tightened_certificate texts k.report.goal) tight_stand ∙ texts_peak k.statements.form k.statements.objective c k.report.goal in
-          subst (λ G. TightensText P G (kind_of c) old new (Ok (Tightened n (k.report.derived - n) k.report.peak after))) is.form
-          (written_whole P k.statements.form c (report_of k.report) is.proof is.reports spells old new n (k.report.derived - n) k.report.peak after (e ∙ tight_size) all refl peak_is w)
+          let peak_is : after ≡ peak tightened = is_peak (statement_in k.statements)
+          (tightened_certificate texts k.report.goal) tight_stand
+          ∙ texts_peak k.statements.form k.statements.objective c k.report.goal in
+          subst (λ G. TightensText P G (kind_of c) old new
+          (Ok (Tightened n (k.report.derived - n) k.report.peak after))) is.form
+          (written_whole P k.statements.form c (report_of k.report) is.proof is.reports spells old
+          new n (k.report.derived - n) k.report.peak after (e ∙ tight_size) all refl peak_is w)
 
-      pub tightens_part : (n : ℕ) → n < length (text_in k.statements.form tightened) → IfSome old (λ o. Wrote o new (text_in k.statements.form tightened) (Err (record { accepted = n }))) → TightensText P F (kind_of c) old new (Err (Write n))
+      pub tightens_part : (n : ℕ) → n < length (text_in k.statements.form tightened)
+          → IfSome old
+          (λ o. Wrote o new (text_in k.statements.form tightened) (Err (record { accepted = n })))
+          → TightensText P F (kind_of c) old new (Err (Write n))
       tightens_part n short w =
           subst (λ G. TightensText P G (kind_of c) old new (Err (Write n))) is.form
           (written_part P k.statements.form c (report_of k.report) is.proof is.reports spells old new n short w)

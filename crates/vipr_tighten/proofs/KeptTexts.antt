@@ -25,20 +25,26 @@ module _ (form : Form) (objective : Row) where
 
   -- ---- derivation by derivation
 
-  marked_texts : (goal : Option ℕ) (k : ℕ) (ds : List Derivation) (i : ℕ) → is_marked goal k (map text ds) i ≡ is_marked goal k ds i
+  marked_texts : (goal : Option ℕ) (k : ℕ) (ds : List Derivation) (i : ℕ)
+      → is_marked goal k (map text ds) i ≡ is_marked goal k ds i
   marked_texts goal k [] i = refl
-  marked_texts goal k (d ∷ ds) i = ap₂ (λ a b. a || (b && refers_to d.reason i)) (marked_texts goal (suc k) ds i) (marked_texts goal (suc k) ds k)
+  marked_texts goal k (d ∷ ds) i = ap₂ (λ a b. a || (b && refers_to d.reason i))
+      (marked_texts goal (suc k) ds i) (marked_texts goal (suc k) ds k)
 
-  kept_of_texts : (keep : ℕ → Bool) (k : ℕ) (ds : List Derivation) → kept_of keep k (map text ds) ≡ map text (kept_of keep k ds)
+  kept_of_texts : (keep : ℕ → Bool) (k : ℕ) (ds : List Derivation)
+      → kept_of keep k (map text ds) ≡ map text (kept_of keep k ds)
   kept_of_texts keep k [] = refl
   kept_of_texts keep k (d ∷ ds) = by (keep k) (kept_of_texts keep (suc k) ds)
     where
       by : (b : Bool) → kept_of keep (suc k) (map text ds) ≡ map text (kept_of keep (suc k) ds)
-          → cond b (text d ∷ kept_of keep (suc k) (map text ds)) (kept_of keep (suc k) (map text ds)) ≡ map text (cond b (d ∷ kept_of keep (suc k) ds) (kept_of keep (suc k) ds))
+          → cond b (text d ∷ kept_of keep (suc k) (map text ds))
+          (kept_of keep (suc k) (map text ds)) ≡ map text
+          (cond b (d ∷ kept_of keep (suc k) ds) (kept_of keep (suc k) ds))
       by true rest = ap (λ l. text d ∷ l) rest
       by false rest = rest
 
-  new_texts : (new : ℕ → ℕ) (ds : List Derivation) → map (with_new_indices new) (map text ds) ≡ map text (map (with_new_indices new) ds)
+  new_texts : (new : ℕ → ℕ) (ds : List Derivation)
+      → map (with_new_indices new) (map text ds) ≡ map text (map (with_new_indices new) ds)
   new_texts new [] = refl
   new_texts new (d ∷ ds) = ap (λ l. text (with_new_indices new d) ∷ l) (new_texts new ds)
 
@@ -46,11 +52,14 @@ module _ (form : Form) (objective : Row) where
   last_texts k [] i = refl
   last_texts k (d ∷ ds) i = ap (λ o. or_else o (cond (refers_to d.reason i) (Some k) None)) (last_texts (suc k) ds i)
 
-  lasts_texts : (k : ℕ) (ds : List Derivation) → with_last_references k (map text ds) ≡ map text (with_last_references k ds)
+  lasts_texts : (k : ℕ) (ds : List Derivation) → with_last_references k (map text ds) ≡ map text
+      (with_last_references k ds)
   lasts_texts k [] = refl
-  lasts_texts k (d ∷ ds) = ap₂ (λ o l. record (text d) { last = o } ∷ l) (last_texts (suc k) ds k) (lasts_texts (suc k) ds)
+  lasts_texts k (d ∷ ds) = ap₂ (λ o l. record (text d) { last = o } ∷ l) (last_texts (suc k) ds k)
+      (lasts_texts (suc k) ds)
 
-  kept_texts : (keep : ℕ → Bool) (m : ℕ) (ds : List Derivation) → kept_derivations keep m (map text ds) ≡ map text (kept_derivations keep m ds)
+  kept_texts : (keep : ℕ → Bool) (m : ℕ) (ds : List Derivation)
+      → kept_derivations keep m (map text ds) ≡ map text (kept_derivations keep m ds)
   kept_texts keep m ds = grind (arith, kept_of_texts, new_texts, lasts_texts)
 
   -- ---- the whole
@@ -63,24 +72,32 @@ module _ (form : Form) (objective : Row) where
       lasts = sym_kept (λ (x : Derivation). x.last) (λ x. refl);
     })
       where
-        sym_kept : {X : Type 0} (h : Derivation → X) → ((x : Derivation) → h (text x) ≡ h x) → map h c.derivations ≡ map h (map text c.derivations)
+        sym_kept : {X : Type 0} (h : Derivation → X) → ((x : Derivation) → h (text x) ≡ h x)
+            → map h c.derivations ≡ map h (map text c.derivations)
         sym_kept h same = sym (map_kept text h same c.derivations)
 
     pub texts_count : count (with_texts form objective c) ≡ count c
     texts_count = ap (λ n. length c.problem.constraints + n) (length-map c.derivations text)
 
-    pub texts_tightened : (goal : Option ℕ) → (tightened_certificate (with_texts form objective c) goal).derivations ≡ map (as_text form objective) (tightened_certificate c goal).derivations
+    pub texts_tightened : (goal : Option ℕ)
+        → (tightened_certificate (with_texts form objective c) goal).derivations ≡ map
+        (as_text form objective) (tightened_certificate c goal).derivations
     texts_tightened goal =
         let m = length c.problem.constraints in
         let same : is_kept (with_texts form objective c) goal ≡ is_kept c goal = grind (arith, marked_texts) in
         ap (λ keep. kept_derivations keep m (map text c.derivations)) same ∙ kept_texts (is_kept c goal) m c.derivations
 
-    pub texts_tightened_count : (goal : Option ℕ) → count (tightened_certificate (with_texts form objective c) goal) ≡ count (tightened_certificate c goal)
+    pub texts_tightened_count : (goal : Option ℕ)
+        → count (tightened_certificate (with_texts form objective c) goal) ≡ count
+        (tightened_certificate c goal)
     texts_tightened_count goal =
         ap (λ n. length c.problem.constraints + n)
         (ap length (texts_tightened goal) ∙ length-map (tightened_certificate c goal).derivations text)
 
-    pub texts_peak : (goal : Option ℕ) → peak (tightened_certificate (with_texts form objective c) goal) ≡ peak (tightened_certificate c goal)
+    pub texts_peak : (goal : Option ℕ)
+        → peak (tightened_certificate (with_texts form objective c) goal) ≡ peak
+        (tightened_certificate c goal)
     texts_peak goal =
         peak_alike (tightened_certificate (with_texts form objective c) goal) (tightened_certificate c goal)
-        (texts_alike form objective (tightened_certificate c goal) (tightened_certificate (with_texts form objective c) goal) refl (texts_tightened goal))
+        (texts_alike form objective (tightened_certificate c goal)
+        (tightened_certificate (with_texts form objective c) goal) refl (texts_tightened goal))

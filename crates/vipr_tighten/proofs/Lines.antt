@@ -16,10 +16,13 @@ pub lines_more : (ss : List (Named Row)) (s : Named Row) (left new : ℕ) → le
     → lines_with ss left ++ line_text (solution_words s) ≡ lines_with (ss ++ s ∷ []) new
 lines_more ss s left new fewer =
     let head = line_text (heading (codes "SOL") (length ss + left)) in
-    let count : length ss + left ≡ length (ss ++ s ∷ []) + new = (let size = length-append ss (s ∷ []) in omega arith) in
+    let count : length ss + left ≡ length (ss ++ s ∷ []) + new =
+    (let size = length-append ss (s ∷ []) in omega arith) in
     append_assoc head (lines_text (map solution_words ss)) (line_text (solution_words s))
     ∙ ap (λ t. head ++ (lines_text (map solution_words ss) ++ t)) (sym (append-nil (line_text (solution_words s))))
-    ∙ ap (λ t. head ++ t) (sym (ap lines_text (map_push solution_words ss s) ∙ flat_map-append line_text (map solution_words ss) (solution_words s ∷ [])))
+    ∙ ap (λ t. head ++ t)
+    (sym (ap lines_text (map_push solution_words ss s)
+    ∙ flat_map-append line_text (map solution_words ss) (solution_words s ∷ [])))
     ∙ ap (λ n. line_text (heading (codes "SOL") n) ++ lines_text (map solution_words (ss ++ s ∷ []))) count
 
 pub lines_whole : (ss : List (Named Row)) (left : ℕ) → left ≡ 0

@@ -22,27 +22,39 @@ also_alike first p q old new same a k h = a k h ∙ ap (λ b. has_mark old k || 
 -- a test that nothing passes
 pub also_none : (first : ℕ) (p : ℕ → Bool) (marks : List Bool) → ((i : ℕ) → p i ≡ false)
     → MarksAlso first p marks marks
-also_none first p marks none k h = sym (or-false (has_mark marks k)) ∙ ap (λ b. has_mark marks k || b) (sym (none (first + k)))
+also_none first p marks none k h = sym (or-false (has_mark marks k))
+    ∙ ap (λ b. has_mark marks k || b) (sym (none (first + k)))
 
-module _ {A : Type 0} (first : ℕ) (p : ℕ → A → Bool) (es : List A) (n : ℕ) (e : A) (h : n < length es) (old mid new : List Bool) (size : length mid ≡ length old) where
+module _ {A : Type 0} (first : ℕ) (p : ℕ → A → Bool) (es : List A) (n : ℕ) (e : A)
+    (h : n < length es) (old mid new : List Bool) (size : length mid ≡ length old) where
   -- one more element
-  pub also_more : MarksAlso first (λ i. list_any (p i) (take n es)) old mid → MarksAlso first (λ i. p i (get_or es n e)) mid new → MarksAlso first (λ i. list_any (p i) (take (n + 1) es)) old new
+  pub also_more : MarksAlso first (λ i. list_any (p i) (take n es)) old mid
+      → MarksAlso first (λ i. p i (get_or es n e)) mid new
+      → MarksAlso first (λ i. list_any (p i) (take (n + 1) es)) old new
   also_more a b = grind (arith, list_any_more)
 
-module _ (first : ℕ) (es : List (ℕ × ℚ)) (n : ℕ) (e : ℕ × ℚ) (h : n < length es) (is : e ≡ get_or es n e) (old mid : List Bool) (size : length mid ≡ length old) where
+module _ (first : ℕ) (es : List (ℕ × ℚ)) (n : ℕ) (e : ℕ × ℚ) (h : n < length es)
+    (is : e ≡ get_or es n e) (old mid : List Bool) (size : length mid ≡ length old) where
   abbrev names : ℕ → ℕ × ℚ → Bool
   names i e = nat_eq i e.0 && is_nonzero e
 
-  pub entry_marked : (new : List Bool) → is_nonzero e ≡ true → MarksAlso first (λ i. list_any (names i) (take n es)) old mid → MarksAlso first (λ i. nat_eq i e.0) mid new
+  pub entry_marked : (new : List Bool) → is_nonzero e ≡ true
+      → MarksAlso first (λ i. list_any (names i) (take n es)) old mid
+      → MarksAlso first (λ i. nat_eq i e.0) mid new
       → MarksAlso first (λ i. list_any (names i) (take (n + 1) es)) old new
   entry_marked new t a b =
       also_more first names es n e h old mid new size a
-      (also_alike first (λ i. nat_eq i e.0) (λ i. names i (get_or es n e)) mid new (λ i. sym (and-true (nat_eq i e.0)) ∙ ap (λ u. nat_eq i e.0 && u) (sym t) ∙ ap (names i) is) b)
+      (also_alike first (λ i. nat_eq i e.0) (λ i. names i (get_or es n e)) mid new
+      (λ i. sym (and-true (nat_eq i e.0)) ∙ ap (λ u. nat_eq i e.0 && u) (sym t)
+      ∙ ap (names i) is) b)
 
-  pub entry_passed : is_nonzero e ≡ false → MarksAlso first (λ i. list_any (names i) (take n es)) old mid → MarksAlso first (λ i. list_any (names i) (take (n + 1) es)) old mid
+  pub entry_passed : is_nonzero e ≡ false
+      → MarksAlso first (λ i. list_any (names i) (take n es)) old mid
+      → MarksAlso first (λ i. list_any (names i) (take (n + 1) es)) old mid
   entry_passed t a =
       also_more first names es n e h old mid mid size a
-      (also_none first (λ i. names i (get_or es n e)) mid (λ i. ap (names i) (sym is) ∙ ap (λ u. nat_eq i e.0 && u) t ∙ and-false (nat_eq i e.0)))
+      (also_none first (λ i. names i (get_or es n e)) mid (λ i. ap (names i) (sym is)
+      ∙ ap (λ u. nat_eq i e.0 && u) t ∙ and-false (nat_eq i e.0)))
 
 -- ---- derivation by derivation
 
@@ -53,20 +65,31 @@ pub record AreMarksFrom (goal : Option ℕ) (first : ℕ) (ds : List Derivation)
 
 module _ (goal : Option ℕ) (first : ℕ) (ds : List Derivation) where
   -- j is the next one towards the front
-  module _ (j : ℕ) (d : Derivation) (h : j < length ds) (marks : List Bool) (so_far : AreMarksFrom goal first ds (j + 1) marks) where
-    step : (new : List Bool) → length new ≡ length marks → ((k : ℕ) → k < length ds → has_mark new k ≡ (has_mark marks k || (has_mark marks j && refers_to (slice_index_or ds j d).reason (first + k)))) → AreMarksFrom goal first ds j new
+  module _ (j : ℕ) (d : Derivation) (h : j < length ds) (marks : List Bool)
+      (so_far : AreMarksFrom goal first ds (j + 1) marks) where
+    step : (new : List Bool) → length new ≡ length marks
+        → ((k : ℕ) → k < length ds
+        → has_mark new
+        k ≡ (has_mark marks k ||
+        (has_mark marks j && refers_to (slice_index_or ds j d).reason (first + k))))
+        → AreMarksFrom goal first ds j new
     step new size marked = grind (arith, marked_down)
 
-    pub marks_more : (new : List Bool) → length new ≡ length marks → has_mark marks j ≡ true → MarksAlso first (refers_to (slice_index_or ds j d).reason) marks new → AreMarksFrom goal first ds j new
+    pub marks_more : (new : List Bool) → length new ≡ length marks → has_mark marks j ≡ true
+        → MarksAlso first (refers_to (slice_index_or ds j d).reason) marks new
+        → AreMarksFrom goal first ds j new
     marks_more new size marked also = grind (arith, step)
 
     pub marks_stay : has_mark marks j ≡ false → AreMarksFrom goal first ds j marks
-    marks_stay unmarked = step marks refl (λ k l. sym (or-false (has_mark marks k)) ∙ ap (λ b. has_mark marks k || (b && refers_to (slice_index_or ds j d).reason (first + k))) (sym unmarked))
+    marks_stay unmarked = step marks refl (λ k l. sym (or-false (has_mark marks k))
+        ∙ ap (λ b. has_mark marks k || (b && refers_to (slice_index_or ds j d).reason (first + k)))
+        (sym unmarked))
 
 -- ---- as they are read
 
 -- at the start, with no mark but the goal's
-module _ {D : Type 0} (derived : D → Derivation) (goal : Option ℕ) (first : ℕ) (xs : List D) (clear : List Bool) (is : clear ≡ replicate (length xs) false) where
+module _ {D : Type 0} (derived : D → Derivation) (goal : Option ℕ) (first : ℕ) (xs : List D)
+    (clear : List Bool) (is : clear ≡ replicate (length xs) false) where
   count : length (map derived xs) ≡ length xs
   count = length-map xs derived
 
@@ -76,20 +99,30 @@ module _ {D : Type 0} (derived : D → Derivation) (goal : Option ℕ) (first : 
   unmarked : (k : ℕ) → k < length xs → has_mark clear k ≡ false
   unmarked k h = ap (λ l. has_mark l k) is ∙ get_or-replicate (length xs) k false false h
 
-module _ {D : Type 0} (derived : D → Derivation) (goal : Option ℕ) (first : ℕ) (xs : List D) (j : ℕ) (h : j < length xs) (marks : List Bool) (so_far : AreMarksFrom goal first (map derived xs) (j + 1) marks) where
+module _ {D : Type 0} (derived : D → Derivation) (goal : Option ℕ) (first : ℕ) (xs : List D) (j : ℕ)
+    (h : j < length xs) (marks : List Bool)
+    (so_far : AreMarksFrom goal first (map derived xs) (j + 1) marks) where
   inside : j < length (map derived xs)
   inside = let s = length-map xs derived in omega arith
 
-  pub next_marked : (x : D) → x ≡ get_or xs j x → (new : List Bool) → length new ≡ length marks → has_mark marks j ≡ true → MarksAlso first (refers_to (derived x).reason) marks new → AreMarksFrom goal first (map derived xs) j new
+  pub next_marked : (x : D) → x ≡ get_or xs j x → (new : List Bool) → length new ≡ length marks
+      → has_mark marks j ≡ true → MarksAlso first (refers_to (derived x).reason) marks new
+      → AreMarksFrom goal first (map derived xs) j new
   next_marked x is new size marked also =
       marks_more goal first (map derived xs) j (derived x) inside marks so_far new size marked
-      (subst (λ (d : Derivation). MarksAlso first (refers_to d.reason) marks new) (sym (get_or-map derived xs j x (derived x) h ∙ ap derived (sym is))) also)
+      (subst (λ (d : Derivation). MarksAlso first (refers_to d.reason) marks new)
+      (sym (get_or-map derived xs j x (derived x) h ∙ ap derived (sym is))) also)
 
   pub next_unmarked : has_mark marks j ≡ false → AreMarksFrom goal first (map derived xs) j marks
   next_unmarked unmarked = marks_stay goal first (map derived xs) j none inside marks so_far unmarked
     where
       none : Derivation
-      none = record { name = []; stated = record { row = empty; sense = equal; bound = zero_ℚ }; reason = asm; last = None }
+      none = record {
+        name = [];
+        stated = record { row = empty; sense = equal; bound = zero_ℚ };
+        reason = asm;
+        last = None;
+      }
 
 -- the marks so far, as those behind the place before i
 pub record Turn {D : Type 0} (derived : D → Derivation) (goal : Option ℕ) (first : ℕ)

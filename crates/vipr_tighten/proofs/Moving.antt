@@ -13,12 +13,15 @@ use Rattle.vipr_tighten.specs.Passes.{index_by, TakesOver}
 with_first : {A : Type 0} (moved : A) (l : List A) → 0 < length l → set l 0 moved ≡ moved ∷ drop 1 l
 with_first moved l h = grind arith
 
-module _ {A : Type 0} (old now : List A) (kept place : ℕ) (behind : kept ≤ place) (there : place < length old) (size : length now ≡ length old) (swapped : SwappedAt old now kept place) where
+module _ {A : Type 0} (old now : List A) (kept place : ℕ) (behind : kept ≤ place)
+    (there : place < length old) (size : length now ≡ length old)
+    (swapped : SwappedAt old now kept place) where
   pub front_same : take kept now ≡ take kept old
   front_same = grind (arith, length-take-le, same_lists, get_or-take)
 
   pub found : (x : A) → x ≡ get_or (drop kept now) 0 x → x ≡ get_or old place x
-  found x e = e ∙ get_or-drop kept now 0 x ∙ ap (λ n. get_or now n x) {x = kept + 0} {y = kept} (omega arith) ∙ swapped.0 x
+  found x e = e ∙ get_or-drop kept now 0 x ∙ ap (λ n. get_or now n x) {x = kept + 0} {y = kept}
+      (omega arith) ∙ swapped.0 x
 
   module _ (changed : List A) (moved : A) (as_long : length changed ≡ kept) where
     abbrev after : List A
@@ -28,10 +31,24 @@ module _ {A : Type 0} (old now : List A) (kept place : ℕ) (behind : kept ≤ p
     some = let e = length-drop kept now in omega arith
 
     pub after_front : take (kept + 1) after ≡ changed ++ moved ∷ []
-    after_front = grind (arith, with_first moved (drop kept now) some, take-append-add changed (moved ∷ drop 1 (drop kept now)) 1)
+    after_front =
+        grind (
+          arith,
+          with_first moved (drop kept now) some,
+          take-append-add changed (moved ∷ drop 1 (drop kept now)) 1,
+        )
 
     pub after_left : drop (place + 1) after ≡ drop (place + 1) old
-    after_left = grind (arith, length-drop, same_lists, get_or-drop, get_or-append_right, get_or-set_other, length-append, length-set)
+    after_left = grind (
+      arith,
+      length-drop,
+      same_lists,
+      get_or-drop,
+      get_or-append_right,
+      get_or-set_other,
+      length-append,
+      length-set,
+    )
 
 -- what is kept then
 pub taken_over : {D : Type 0} (derived : D → Derivation) (first : ℕ) (table : List ℕ)
@@ -45,7 +62,13 @@ pub taken_over : {D : Type 0} (derived : D → Derivation) (first : ℕ) (table 
     → TakesOver (with_new_indices (index_by first table) (derived x)) (first + kept) first
     (map derived (take kept old)) (map derived (take (kept + 1) (changed ++ set (drop kept now) 0 moved)))
 taken_over derived first table old now kept place behind there size swapped was moved is_was d changed as_long r x e =
-    let same : was ≡ x = found old now kept place behind there size swapped was is_was ∙ sym (get_or_read_under old place (length old) x was e there refl) in
-    let is : derived moved ≡ record (with_new_indices (index_by first table) (derived x)) { last = None } = grind arith in
-    ap (map derived) (after_front old now kept place behind there size swapped changed moved as_long) ∙ map_push derived changed moved
-    ∙ ap₂ (λ l y. l ++ y ∷ []) (r ∙ ap₂ (λ (y : Derivation) l. referred_by (refers_to y.reason) (first + kept) first (map derived l)) is (front_same old now kept place behind there size swapped)) is
+    let same : was ≡ x = found old now kept place behind there size swapped was is_was
+    ∙ sym (get_or_read_under old place (length old) x was e there refl) in
+    let is : derived moved ≡ record (with_new_indices (index_by first table) (derived x))
+    { last = None } = grind arith in
+    ap (map derived)
+    (after_front old now kept place behind there size swapped changed moved as_long)
+    ∙ map_push derived changed moved
+    ∙ ap₂ (λ l y. l ++ y ∷ [])
+    (r ∙ ap₂ (λ (y : Derivation) l. referred_by (refers_to y.reason) (first + kept) first
+    (map derived l)) is (front_same old now kept place behind there size swapped)) is

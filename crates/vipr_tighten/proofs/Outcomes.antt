@@ -47,7 +47,8 @@ is_tight P c goal p g s =
     record {
       problem = refl;
       solutions = refl;
-      proof = is_proof_for P (tightened_certificate c goal) (new_goal c goal) (tight_proof P c goal p g) (tight_goal P c goal back g);
+      proof = is_proof_for P (tightened_certificate c goal) (new_goal c goal)
+          (tight_proof P c goal p g) (tight_goal P c goal back g);
       spells = s Canonical;
       spells_compact = s Compact;
       needed = tight_needed c goal back;
@@ -69,9 +70,12 @@ fewer_kept c goal = let e = tight_counts c goal in omega arith
 
 -- ---- what is known of a text
 
-module _ (P : Profile) (F : Form) (k l : KindOfText) (of : (c : Certificate) → k.IsOf c → IsProof P c → l.IsOf c) (by : (r : Refusal) → k.IsRefusedBy r → l.IsRefusedBy r) (cut : k.IsCutShort → l.IsCutShort) (old new : Option Output) where
+module _ (P : Profile) (F : Form) (k l : KindOfText) (of : (c : Certificate) → k.IsOf c
+    → IsProof P c → l.IsOf c) (by : (r : Refusal) → k.IsRefusedBy r → l.IsRefusedBy r)
+    (cut : k.IsCutShort → l.IsCutShort) (old new : Option Output) where
   pub tightens_by : (x : Result Outcome TightenFault) → TightensText P F k old new x → TightensText P F l old new x
-  tightens_by (Ok (Tightened kept removed before after)) (c, goal, is, proof, tight, w) = (c, goal, of c is proof.proof, proof, tight, w)
+  tightens_by (Ok (Tightened kept removed before after)) (c, goal, is, proof, tight, w) =
+      (c, goal, of c is proof.proof, proof, tight, w)
   tightens_by (Ok (Refused r)) h = (by r h.0, h.1)
   tightens_by (Err Read) h = (cut h.0, h.1)
   tightens_by (Err (Memory n)) h = h
@@ -83,18 +87,27 @@ nothing_accepted o = grind arith
 pub certificate_is : (P : Profile) (r : Rest) (c : Certificate) (report : Report)
     → (found_in r).certificate ≡ c → Answers P (found_in r) (verified report)
     → certificate_read r ≡ Ok c
-certificate_is P r c report same h = grind (arith, found_read r ((verified_read P r report).0 h).0 ((verified_read P r report).0 h).1)
+certificate_is P r c report same h =
+    grind (
+      arith,
+      found_read r ((verified_read P r report).0 h).0
+          ((verified_read P r report).0 h).1,
+    )
 
 whole_is : (i : Input) → i.fails ≡ false → text_of i ≡ whole_text i.bytes
 whole_is i e = subst (λ b. text_of (record { bytes = i.bytes; fails = b }) ≡ whole_text i.bytes) (sym e) refl
 
 spelled_only : (bytes : List ℕ) (c : Certificate) → certificate_read (whole_text bytes) ≡ Ok c
     → SpellsOnly bytes c
-spelled_only bytes c e = let s = (reads_texts bytes c).0 e in record { this = s; no_other = λ other o. one_certificate bytes other c o s }
+spelled_only bytes c e =
+    let s = (reads_texts bytes c).0 e in
+    record { this = s; no_other = λ other o. one_certificate bytes other c o s }
 
 unproved_text : (P : Profile) (bytes : List ℕ) (a : Answer) → ((r : Report) → ¬ (a ≡ verified r))
     → IsAnswer P (whole_text bytes) a → (c : Certificate) → Spells bytes c → ¬ IsProof P c
-unproved_text P bytes a other h c s p = let v = proof_answered P (whole_text bytes) c a ((reads_texts bytes c).1 s) p h in other v.0 v.2
+unproved_text P bytes a other h c s p =
+    let v = proof_answered P (whole_text bytes) c a ((reads_texts bytes c).1 s) p h in
+    other v.0 v.2
 
 spelled_by : (P : Profile) (F : Form) (i : Input) → i.fails ≡ false
     → (old new : Option Output) (x : Result Outcome TightenFault)
@@ -104,40 +117,58 @@ spelled_by P F i whole old new x h =
     let r = text_of i in
     tightens_by P F (kind_read P r) (kind_spelled P i.bytes)
     (λ c e p. spelled_only i.bytes c (subst (λ s. certificate_read s ≡ Ok c) (whole_is i whole) e))
-    (λ y a. unproved_text P i.bytes (refuses (refusal_of y)) (λ v e. cc) (subst (λ s. IsAnswer P s (refuses (refusal_of y))) (whole_is i whole) a))
+    (λ y a. unproved_text P i.bytes (refuses (refusal_of y)) (λ v e. cc)
+    (subst (λ s. IsAnswer P s (refuses (refusal_of y))) (whole_is i whole) a))
     (λ a. let fails = failed_read P r a in cc)
     old new x h
 
 read_by : (P : Profile) (F : Form) (i : Input) (old new : Option Output)
     (x : Result Outcome TightenFault) → TightensText P F (kind_read P (text_of i)) old new x
     → x ≡ Err Read → i.fails ≡ true
-read_by P F i old new x h e = let at = subst (TightensText P F (kind_read P (text_of i)) old new) e h in failed_read P (text_of i) at.0
+read_by P F i old new x h e =
+    let at = subst (TightensText P F (kind_read P (text_of i)) old new) e h in
+    failed_read P (text_of i) at.0
 
 pub tightens : (P : Profile) (F : Form) (source : Option Input) (old new : Option Output)
     (x : Result Outcome TightenFault) → TightensText P F any_kind old new x
     → IfKnown source (λ i. TightensText P F (kind_read P (text_of i)) old new x)
     → TightensAs P F source old new x
-tightens P F source old new x any exact = record { written = any; exact = exact; read = read source exact; spelled = spelled source exact }
+tightens P F source old new x any exact =
+    record {
+      written = any;
+      exact = exact;
+      read = read source exact;
+      spelled = spelled source exact;
+    }
   where
-    read : (s : Option Input) → IfKnown s (λ i. TightensText P F (kind_read P (text_of i)) old new x) → IfKnown s (λ i. x ≡ Err Read → i.fails ≡ true)
+    read : (s : Option Input)
+        → IfKnown s (λ i. TightensText P F (kind_read P (text_of i)) old new x)
+        → IfKnown s (λ i. x ≡ Err Read → i.fails ≡ true)
     read None h = tt
     read (Some i) h = λ short. read_by P F i old new x (h short)
 
-    spelled : (s : Option Input) → IfKnown s (λ i. TightensText P F (kind_read P (text_of i)) old new x) → IfWhole s (λ bytes. TightensText P F (kind_spelled P bytes) old new x)
+    spelled : (s : Option Input)
+        → IfKnown s (λ i. TightensText P F (kind_read P (text_of i)) old new x)
+        → IfWhole s (λ bytes. TightensText P F (kind_spelled P bytes) old new x)
     spelled None h = tt
     spelled (Some i) h = λ short whole. spelled_by P F i whole old new x (h short)
 
 -- ---- what is written
 
-module _ (P : Profile) (F : Form) (c : Certificate) (r : Report) (p : IsProof P c) (reports : Reports P c r) (spells : (G : Form) → SpellsOnly (text_in G (tightened_certificate c r.goal)) (tightened_certificate c r.goal)) (old new : Option Output) where
+module _ (P : Profile) (F : Form) (c : Certificate) (r : Report) (p : IsProof P c)
+    (reports : Reports P c r)
+    (spells : (G : Form) → SpellsOnly (text_in G (tightened_certificate c r.goal))
+    (tightened_certificate c r.goal)) (old new : Option Output) where
   abbrev tightened : Certificate
   tightened = tightened_certificate c r.goal
 
   goal_is : GoalIs P c r.goal
   goal_is = reported_goal P c r reports
 
-  pub written_whole : (kept removed before after : ℕ) → kept ≡ length tightened.derivations → kept + removed ≡ r.derived → before ≡ r.peak → after ≡ peak tightened
-      → IfSome old (λ o. Wrote o new (text_in F tightened) (Ok tt)) → TightensText P F (kind_of c) old new (Ok (Tightened kept removed before after))
+  pub written_whole : (kept removed before after : ℕ) → kept ≡ length tightened.derivations
+      → kept + removed ≡ r.derived → before ≡ r.peak → after ≡ peak tightened
+      → IfSome old (λ o. Wrote o new (text_in F tightened) (Ok tt))
+      → TightensText P F (kind_of c) old new (Ok (Tightened kept removed before after))
   written_whole kept removed before after k a b f w = (
     c,
     r.goal,
@@ -147,8 +178,17 @@ module _ (P : Profile) (F : Form) (c : Certificate) (r : Report) (p : IsProof P 
     (record { kept_is = k; all = a ∙ reports.derived; before_is = b ∙ reports.peak; after_is = f }, w),
   )
 
-  pub written_part : (n : ℕ) → n < length (text_in F tightened) → IfSome old (λ o. Wrote o new (text_in F tightened) (Err (record { accepted = n }))) → TightensText P F (kind_of c) old new (Err (Write n))
-  written_part n l w = (c, r.goal, refl, is_proof_for P c r.goal p goal_is, is_tight P c r.goal p goal_is spells, (l, w))
+  pub written_part : (n : ℕ) → n < length (text_in F tightened)
+      → IfSome old (λ o. Wrote o new (text_in F tightened) (Err (record { accepted = n })))
+      → TightensText P F (kind_of c) old new (Err (Write n))
+  written_part n l w = (
+    c,
+    r.goal,
+    refl,
+    is_proof_for P c r.goal p goal_is,
+    is_tight P c r.goal p goal_is spells,
+    (l, w),
+  )
 
 pub written_not : (P : Profile) (F : Form) (c : Certificate) (old new : Option Output)
     (text : List ℕ) (n : ℕ) → n ≡ 0 → IfSome old (λ o. WroteText o new text (Err (write.Memory n)))
@@ -166,31 +206,41 @@ pub decided_proof : (P : Profile) (F : Form) (source : Option Input) (c : Certif
     → IfKnown source (λ i. AnswersProof P (found_in (text_of i)) c report)
     → TightensAs P F source old new x
 decided_proof P F source c report old new x h found =
-    tightens P F source old new x (tightens_by P F (kind_of c) any_kind (λ d e p. tt) (λ y b. tt) (λ b. tt) old new x h) (exact source found)
+    tightens P F source old new x
+    (tightens_by P F (kind_of c) any_kind (λ d e p. tt) (λ y b. tt) (λ b. tt) old new x h)
+    (exact source found)
   where
-    exact : (s : Option Input) → IfKnown s (λ i. AnswersProof P (found_in (text_of i)) c report) → IfKnown s (λ i. TightensText P F (kind_read P (text_of i)) old new x)
+    exact : (s : Option Input) → IfKnown s (λ i. AnswersProof P (found_in (text_of i)) c report)
+        → IfKnown s (λ i. TightensText P F (kind_read P (text_of i)) old new x)
     exact None f = tt
     exact (Some i) f = λ short.
         let r = text_of i in
-        let is = certificate_is P r c (report_of report) (f short).same (answered P r (verified (report_of report)) (f short).answer) in
-        tightens_by P F (kind_of c) (kind_read P r) (λ d e p. is ∙ ap Ok (sym e)) (λ y b. absurd b) (λ b. absurd b) old new x h
+        let is = certificate_is P r c (report_of report) (f short).same
+        (answered P r (verified (report_of report)) (f short).answer) in
+        tightens_by P F (kind_of c) (kind_read P r) (λ d e p. is ∙ ap Ok (sym e)) (λ y b. absurd b)
+        (λ b. absurd b) old new x h
 
 pub decided_refused : (P : Profile) (F : Form) (source : Option Input) (y : Refusal)
     (old : Option Output)
     → IfKnown source (λ i. HasAnswer P (found_in (text_of i)) (refuses (refusal_of y)))
     → TightensAs P F source old old (Ok (Refused y))
-decided_refused P F source y old found = tightens P F source old old (Ok (Refused y)) (tt, nothing_accepted old) (exact source found)
+decided_refused P F source y old found = tightens P F source old old (Ok (Refused y))
+    (tt, nothing_accepted old) (exact source found)
   where
-    exact : (s : Option Input) → IfKnown s (λ i. HasAnswer P (found_in (text_of i)) (refuses (refusal_of y))) → IfKnown s (λ i. TightensText P F (kind_read P (text_of i)) old old (Ok (Refused y)))
+    exact : (s : Option Input)
+        → IfKnown s (λ i. HasAnswer P (found_in (text_of i)) (refuses (refusal_of y)))
+        → IfKnown s (λ i. TightensText P F (kind_read P (text_of i)) old old (Ok (Refused y)))
     exact None f = tt
     exact (Some i) f = λ short. (answered P (text_of i) (refuses (refusal_of y)) (f short), nothing_accepted old)
 
 pub decided_cut_short : (P : Profile) (F : Form) (source : Option Input) (old : Option Output)
     → IfKnown source (λ i. AnswersWhy P (found_in (text_of i)) reason.Read)
     → TightensAs P F source old old (Err Read)
-decided_cut_short P F source old found = tightens P F source old old (Err Read) (tt, nothing_accepted old) (exact source found)
+decided_cut_short P F source old found = tightens P F source old old (Err Read)
+    (tt, nothing_accepted old) (exact source found)
   where
-    exact : (s : Option Input) → IfKnown s (λ i. AnswersWhy P (found_in (text_of i)) reason.Read) → IfKnown s (λ i. TightensText P F (kind_read P (text_of i)) old old (Err Read))
+    exact : (s : Option Input) → IfKnown s (λ i. AnswersWhy P (found_in (text_of i)) reason.Read)
+        → IfKnown s (λ i. TightensText P F (kind_read P (text_of i)) old old (Err Read))
     exact None f = tt
     exact (Some i) f = λ short. (answered P (text_of i) cut_short (none, (f short).1), nothing_accepted old)
 

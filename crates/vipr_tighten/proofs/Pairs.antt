@@ -21,6 +21,8 @@ pair_filter pair [] = refl
 pair_filter pair (x ∷ es) = by (is_nonzero (pair x)) (pair_filter pair es)
   where
     by : (b : Bool) → map pair (filter (λ e. is_nonzero (pair e)) es) ≡ filter is_nonzero (map pair es)
-        → map pair (cond b (x ∷ filter (λ e. is_nonzero (pair e)) es) (filter (λ e. is_nonzero (pair e)) es)) ≡ cond b (pair x ∷ filter is_nonzero (map pair es)) (filter is_nonzero (map pair es))
+        → map pair (cond b (x ∷ filter (λ e. is_nonzero (pair e)) es)
+        (filter (λ e. is_nonzero (pair e)) es)) ≡ cond b
+        (pair x ∷ filter is_nonzero (map pair es)) (filter is_nonzero (map pair es))
     by true rest = ap (λ l. pair x ∷ l) rest
     by false rest = rest

@@ -20,7 +20,8 @@ use Rattle.vipr_tighten.specs.Passes.{has_mark, AreMarks, kept_by, index_by, Tak
 -- ---- so far
 
 -- the table has the new index of each derivation so far, and these are kept
-pub record SoFar (first : ℕ) (marks : List Bool) (all : List Derivation) (table : List ℕ) (kept : List Derivation) : Type 0 where
+pub record SoFar (first : ℕ) (marks : List Bool) (all : List Derivation) (table : List ℕ)
+    (kept : List Derivation) : Type 0 where
   pub few : length table ≤ length all
   pub indices : (k : ℕ) → k < length table → slice_index_or table k 0 ≡ new_index (kept_by first marks) (first + k)
   pub those : kept ≡ kept_derivations (kept_by first marks) first (take (length table) all)
@@ -28,7 +29,8 @@ pub record SoFar (first : ℕ) (marks : List Bool) (all : List Derivation) (tabl
 given_kept : (first : ℕ) (marks : List Bool) (i : ℕ) → i < first → kept_by first marks i ≡ true
 given_kept first marks i h = ap (λ b. b || has_mark marks (i - first)) (lt-ltb i first h)
 
-module _ (first : ℕ) (marks : List Bool) (all : List Derivation) (table : List ℕ) (kept : List Derivation) (so_far : SoFar first marks all table kept) where
+module _ (first : ℕ) (marks : List Bool) (all : List Derivation) (table : List ℕ)
+    (kept : List Derivation) (so_far : SoFar first marks all table kept) where
   abbrev keep : ℕ → Bool
   keep = kept_by first marks
 
@@ -45,7 +47,9 @@ module _ (first : ℕ) (marks : List Bool) (all : List Derivation) (table : List
     longer : (index : ℕ) → length (table ++ index ∷ []) ≡ length table + 1
     longer index = length-append table (index ∷ [])
 
-    indices_more : (index : ℕ) → index ≡ first + length kept → (k : ℕ) → k < length (table ++ index ∷ []) → slice_index_or (table ++ index ∷ []) k 0 ≡ new_index keep (first + k)
+    indices_more : (index : ℕ) → index ≡ first + length kept → (k : ℕ)
+        → k < length (table ++ index ∷ [])
+        → slice_index_or (table ++ index ∷ []) k 0 ≡ new_index keep (first + k)
     indices_more index f k h = ⊎_elim
         (λ (l : k < length table). get_or_append_left table (index ∷ []) 0 k l ∙ so_far.indices k l)
         (λ (l : length table ≤ k). grind (arith, longer, get_or-append_right, index_now))
@@ -54,16 +58,20 @@ module _ (first : ℕ) (marks : List Bool) (all : List Derivation) (table : List
     mark_there : has_mark marks (length table) ≡ keep (first + length table)
     mark_there = grind (arith, le-ltb)
 
-    pub leave_out : (index : ℕ) → index ≡ first + length kept → has_mark marks (length table) ≡ false → SoFar first marks all (table ++ index ∷ []) kept
+    pub leave_out : (index : ℕ) → index ≡ first + length kept
+        → has_mark marks (length table) ≡ false → SoFar first marks all (table ++ index ∷ []) kept
     leave_out index f m = grind (arith, longer, indices_more, take, next_left_out, mark_there)
 
-    pub take_over : (index : ℕ) → index ≡ first + length kept → has_mark marks (length table) ≡ true → NameEarlier first all
+    pub take_over : (index : ℕ) → index ≡ first + length kept → has_mark marks (length table) ≡ true
+        → NameEarlier first all
         → (new : List Derivation) → TakesOver (with_new_indices (index_by first table) x) index first kept new
         → SoFar first marks all (table ++ index ∷ []) new
     take_over index f m earlier new takes =
         let size = longer index in
         let names : NamesEarlier (first + length table) (Some x.reason) =
-        subst (NamesEarlier (first + length table)) (get_or-map (λ (d : Derivation). Some d.reason) all (length table) x None inside ∙ ap (λ (d : Derivation). Some d.reason) is) (earlier (length table)) in
+        subst (NamesEarlier (first + length table))
+        (get_or-map (λ (d : Derivation). Some d.reason) all (length table) x None inside
+        ∙ ap (λ (d : Derivation). Some d.reason) is) (earlier (length table)) in
         let reason : renumbered_reason (index_by first table) x.reason ≡ renumbered_reason (new_index keep) x.reason =
         renumbered_alike (index_by first table) (new_index keep) (first + length table) look_up x.reason names in
         record {
@@ -75,7 +83,9 @@ module _ (first : ℕ) (marks : List Bool) (all : List Derivation) (table : List
               ∙ ap₂ (λ n l. behind (with_new_indices (new_index keep) x) n l) (f ∙ index_now) so_far.those
               ∙ sym (ap (λ n. kept_derivations keep first (take n all)) size
               ∙ next_kept keep first (length table) all x (given_kept first marks) inside (sym mark_there ∙ m)
-              ∙ ap (λ d. behind (with_new_indices (new_index keep) d) (new_index keep (first + length table)) (kept_derivations keep first (take (length table) all))) is);
+              ∙ ap (λ d. behind (with_new_indices (new_index keep) d)
+              (new_index keep (first + length table))
+              (kept_derivations keep first (take (length table) all))) is);
         }
       where
         behind : Derivation → ℕ → List Derivation → List Derivation
@@ -90,11 +100,19 @@ exists_at (x ∷ l) (suc i) h = exists_at l i (omega arith)
 
 pub left_more : {A : Type 0} (k l : List A) (n : ℕ) → n < length k → n < length l
     → drop n k ≡ drop n l → drop (n + 1) k ≡ drop (n + 1) l
-left_more k l n h i e = grind (arith, exists_at l n i, drop_more k n ((exists_at l n i).0) h, drop_more l n ((exists_at l n i).0) i)
+left_more k l n h i e = grind (
+  arith,
+  exists_at l n i,
+  drop_more k n ((exists_at l n i).0) h,
+  drop_more l n ((exists_at l n i).0) i,
+)
 
 -- The first `kept` are those that are kept so far, and the others follow from `place` on.
-module _ {D : Type 0} (derived : D → Derivation) (first : ℕ) (marks : List Bool) (all ds : List D) (table : List ℕ) (kept place : ℕ) (size : length ds ≡ length all) (at : length table ≡ place) (behind : kept ≤ place)
-    (left : drop place ds ≡ drop place all) (there : place < length all) (so_far : SoFar first marks (map derived all) table (map derived (take kept ds))) where
+module _ {D : Type 0} (derived : D → Derivation) (first : ℕ) (marks : List Bool) (all ds : List D)
+    (table : List ℕ) (kept place : ℕ) (size : length ds ≡ length all) (at : length table ≡ place)
+    (behind : kept ≤ place)
+    (left : drop place ds ≡ drop place all) (there : place < length all)
+    (so_far : SoFar first marks (map derived all) table (map derived (take kept ds))) where
   next_one : (x : D) × (x ≡ get_or all place x)
   next_one = exists_at all place there
 
@@ -105,19 +123,28 @@ module _ {D : Type 0} (derived : D → Derivation) (first : ℕ) (marks : List B
   inside = let e = length-map all derived in omega arith
 
   is : slice_index_or (map derived all) (length table) (derived next_one.0) ≡ derived next_one.0
-  is = ap (λ n. slice_index_or (map derived all) n (derived next_one.0)) at ∙ get_or-map derived all place next_one.0 (derived next_one.0) there ∙ ap derived (sym next_one.1)
+  is = ap (λ n. slice_index_or (map derived all) n (derived next_one.0)) at
+      ∙ get_or-map derived all place next_one.0 (derived next_one.0) there
+      ∙ ap derived (sym next_one.1)
 
   index_is : first + kept ≡ first + length (map derived (take kept ds))
   index_is = omega (arith, length-map (take kept ds) derived, length-take-le kept ds (omega arith))
 
-  pub place_left_out : has_mark marks place ≡ false → SoFar first marks (map derived all) (table ++ (first + kept) ∷ []) (map derived (take kept ds))
-  place_left_out m = leave_out first marks (map derived all) table (map derived (take kept ds)) so_far (derived next_one.0) inside is (first + kept) index_is (ap (has_mark marks) at ∙ m)
+  pub place_left_out : has_mark marks place ≡ false
+      → SoFar first marks (map derived all) (table ++ (first + kept) ∷ [])
+      (map derived (take kept ds))
+  place_left_out m = leave_out first marks (map derived all) table (map derived (take kept ds))
+      so_far (derived next_one.0) inside is (first + kept) index_is (ap (has_mark marks) at ∙ m)
 
   pub place_taken_over : has_mark marks place ≡ true → NameEarlier first (map derived all) → (new : List D)
-      → ((x : D) → x ≡ get_or ds place x → TakesOver (with_new_indices (index_by first table) (derived x)) (first + kept) first (map derived (take kept ds)) (map derived (take (kept + 1) new)))
+      → ((x : D) → x ≡ get_or ds place x
+      → TakesOver (with_new_indices (index_by first table) (derived x)) (first + kept) first
+      (map derived (take kept ds)) (map derived (take (kept + 1) new)))
       → SoFar first marks (map derived all) (table ++ (first + kept) ∷ []) (map derived (take (kept + 1) new))
   place_taken_over m earlier new takes =
-      take_over first marks (map derived all) table (map derived (take kept ds)) so_far (derived next_one.0) inside is (first + kept) index_is (ap (has_mark marks) at ∙ m) earlier
+      take_over first marks (map derived all) table (map derived (take kept ds)) so_far
+      (derived next_one.0) inside is (first + kept) index_is (ap (has_mark marks) at ∙ m)
+      earlier
       (map derived (take (kept + 1) new)) (takes next_one.0 still)
 
 -- ---- of the certificate
@@ -134,26 +161,32 @@ other : (n : ℕ) (goal : Option ℕ) → IfSome goal (λ g. g < n) → (i : ℕ
     → is_the_goal goal i ≡ false
 other n goal h i far = grind (arith, ne_eqb)
 
-module _ (c : Certificate) (first : ℕ) (ds : List Derivation) (of : AreDerivationsOf c first ds) (goal : Option ℕ) (can : CanTighten c goal) (marks : List Bool) (are : AreMarks goal first ds marks) where
+module _ (c : Certificate) (first : ℕ) (ds : List Derivation) (of : AreDerivationsOf c first ds)
+    (goal : Option ℕ) (can : CanTighten c goal) (marks : List Bool)
+    (are : AreMarks goal first ds marks) where
   among : IfSome goal (λ g. g < first + length ds)
   among = subst (λ n. IfSome goal (λ g. g < n)) (count_of c first ds of) can.named
 
   kept_alike : (i : ℕ) → kept_by first marks i ≡ (nat_lt i first || is_marked goal first ds i)
   kept_alike i = ⊎_elim
-      (λ (l : i < first). ap (λ b. b || has_mark marks (i - first)) (lt-ltb i first l) ∙ sym (ap (λ b. b || is_marked goal first ds i) (lt-ltb i first l)))
+      (λ (l : i < first). ap (λ b. b || has_mark marks (i - first)) (lt-ltb i first l)
+      ∙ sym (ap (λ b. b || is_marked goal first ds i) (lt-ltb i first l)))
       (λ (l : first ≤ i).
       let place : first + (i - first) ≡ i = omega arith in
       ap (λ b. nat_lt i first || b) (⊎_elim
       (λ (near : i < first + length ds). are.each (i - first) (omega arith) ∙ ap (is_marked goal first ds) place)
       (λ (far : first + length ds ≤ i).
       let size = are.size in
-      get_or_past marks (i - first) false (omega arith) ∙ sym (marked_past goal first ds i (other (first + length ds) goal among i far) (earlier_of c first ds can.back of) (omega arith)))
+      get_or_past marks (i - first) false (omega arith)
+      ∙ sym (marked_past goal first ds i (other (first + length ds) goal among i far)
+      (earlier_of c first ds can.back of) (omega arith)))
       (cases_lt i (first + length ds))))
       (cases_lt i first)
 
   pub tightened_is : (kept : List Derivation) → kept ≡ kept_derivations (kept_by first marks) first ds
       → kept ≡ (tightened_certificate c goal).derivations
   tightened_is kept e =
-      let same : kept_by first marks ≡ (λ (i : ℕ). nat_lt i first || is_marked goal first ds i) = λ i. λ k. kept_alike k i in
+      let same : kept_by first marks ≡ (λ (i : ℕ). nat_lt i first || is_marked goal first ds i) =
+      λ i. λ k. kept_alike k i in
       e ∙ ap (λ keep. kept_derivations keep first ds) same
       ∙ ap₂ (λ m l. kept_derivations (λ i. nat_lt i m || is_marked goal m l i) m l) (sym of.first_is) of.those

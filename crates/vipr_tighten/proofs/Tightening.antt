@@ -8,12 +8,14 @@ use Rattle.vipr_cert.specs.Items.{derivation_of, certificate_with}
 use Rattle.vipr_cert.specs.{declared.items.Derivation.Derivation, declared.items.Named.Named}
 use Rattle.vipr_tighten.specs.Passes.{AreDerivationsOf}
 
-module _ (c : is.Certificate) (p : is.Problem) (ss : List (Named Solution)) (ds : List Derivation) (parts : c ≡ certificate_with p ss ds) where
+module _ (c : is.Certificate) (p : is.Problem) (ss : List (Named Solution)) (ds : List Derivation)
+    (parts : c ≡ certificate_with p ss ds) where
   pub derived : (first : ℕ) → length p.constraints ≡ first → AreDerivationsOf c first (map derivation_of ds)
   derived first is_first = grind arith
 
   -- what is kept
-  module _ (goal : Option ℕ) (tightened : List Derivation) (are : map derivation_of tightened ≡ (tightened_certificate c goal).derivations) where
+  module _ (goal : Option ℕ) (tightened : List Derivation)
+      (are : map derivation_of tightened ≡ (tightened_certificate c goal).derivations) where
     pub tightened_parts : certificate_with p ss tightened ≡ tightened_certificate c goal
     tightened_parts = grind arith
 

@@ -115,8 +115,7 @@ origin = λ j. whole (pos 0)
 
 pub means_nothing : Means text → ⊥
 means_nothing means =
-    holds_of_any text means free [] stated origin
-    (
+    holds_of_any text means free [] stated origin (
       All-nil (λ (j : ℕ). (k : ℤ) × (origin j ≡ whole k)),
       All-nil (λ (c : Constraint). IsTrueAt c origin),
     )

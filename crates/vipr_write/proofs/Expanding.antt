@@ -50,4 +50,12 @@ marked_here part (n ∷ ns) text h =
 pub long : (part : List ℕ) (ns : List ℕ) (text : List ℕ) → sum ns ≤ length text
     → length (expanded part ns text) ≡ length ns * length part + length text
 long part [] text h = omega arith
-long part (n ∷ ns) text h = grind (arith, first_fits n ns text h, long part ns (drop n text) (rest_fits n ns text h), length-append, length-drop, length-take-le)
+long part (n ∷ ns) text h =
+    grind (
+      arith,
+      first_fits n ns text h,
+      long part ns (drop n text) (rest_fits n ns text h),
+      length-append,
+      length-drop,
+      length-take-le,
+    )

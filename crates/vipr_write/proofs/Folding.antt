@@ -39,7 +39,12 @@ folds_mark f g end whole text gaps marked form objective spelled = grind (arith,
 
 -- ---- what was put
 none_more : (f : Folded) → FoldsBy f [] f
-none_more f = record { form = refl; objective = refl; spelled = refl; bytes = λ whole. (whole, λ is. (is, sym (append-nil (full f)))) }
+none_more f = record {
+  form = refl;
+  objective = refl;
+  spelled = refl;
+  bytes = λ whole. (whole, λ is. (is, sym (append-nil (full f))));
+}
 
 pub put_folded : (f g : Folded) (more : List ℕ) → Puts FoldsBy f g more → FoldsBy f more g
 put_folded f g more p = p.law f [] (none_more f)

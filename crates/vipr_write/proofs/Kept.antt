@@ -42,25 +42,34 @@ end_same (x ∷ xs) y (suc i) h = end_same xs y i (omega arith)
 within_parts : (ends text : List ℕ) (s : Statement) → is_within ends text s ≡ true
     → (s.index < length ends) × (own_start ends s ≤ own_end ends s) × (own_end ends s ≤ length text)
 within_parts ends text s h =
-    let a = both_true (nat_lt s.index (length ends)) (nat_le (own_start ends s) (own_end ends s) && nat_le (own_end ends s) (length text)) h in
-    let b = both_true (nat_le (own_start ends s) (own_end ends s)) (nat_le (own_end ends s) (length text)) a.1 in
-    (below s.index (length ends) a.0, at_most (own_start ends s) (own_end ends s) b.0, at_most (own_end ends s) (length text) b.1)
+    let a = both_true (nat_lt s.index (length ends))
+    (nat_le (own_start ends s) (own_end ends s) && nat_le (own_end ends s) (length text)) h in
+    let b = both_true (nat_le (own_start ends s) (own_end ends s)) (nat_le (own_end ends s) (length text)) a.1 in (
+      below s.index (length ends) a.0,
+      at_most (own_start ends s) (own_end ends s) b.0,
+      at_most (own_end ends s) (length text) b.1,
+    )
   where
     below : (m n : ℕ) → nat_lt m n ≡ true → m < n
     below m n e = grind (arith, nat_tests)
 
 within_by : (ends text : List ℕ) (s : Statement) → s.index < length ends
     → own_start ends s ≤ own_end ends s → own_end ends s ≤ length text → is_within ends text s ≡ true
-within_by ends text s a b d = ap₂ (λ x y. x && y) (lt-ltb s.index (length ends) a) (ap₂ (λ x y. x && y) (tests_true (own_start ends s) (own_end ends s) b) (tests_true (own_end ends s) (length text) d))
+within_by ends text s a b d = ap₂ (λ x y. x && y) (lt-ltb s.index (length ends) a)
+    (ap₂ (λ x y. x && y) (tests_true (own_start ends s) (own_end ends s) b)
+    (tests_true (own_end ends s) (length text) d))
 
 -- one more statement is behind the others
-module _ (t u : Statements) (more : List ℕ) (ends : u.ends ≡ t.ends ++ length u.text.bytes.items ∷ []) (e : u.text.bytes.items ≡ t.text.bytes.items ++ more) where
+module _ (t u : Statements) (more : List ℕ) (ends : u.ends ≡ t.ends ++ length u.text.bytes.items
+    ∷ []) (e : u.text.bytes.items ≡ t.text.bytes.items ++ more) where
   module _ (s : Statement) (here : is_within t.ends t.text.bytes.items s ≡ true) where
-    parts : (s.index < length t.ends) × (own_start t.ends s ≤ own_end t.ends s) × (own_end t.ends s ≤ length t.text.bytes.items)
+    parts : (s.index < length t.ends) × (own_start t.ends s ≤ own_end t.ends s)
+        × (own_end t.ends s ≤ length t.text.bytes.items)
     parts = within_parts t.ends t.text.bytes.items s here
 
     same_start : own_start u.ends s ≡ own_start t.ends s
-    same_start = ap (λ l. own_start l s) ends ∙ end_same (0 ∷ t.ends) (length u.text.bytes.items) s.index (omega (arith, parts.0))
+    same_start = ap (λ l. own_start l s) ends
+        ∙ end_same (0 ∷ t.ends) (length u.text.bytes.items) s.index (omega (arith, parts.0))
 
     same_end : own_end u.ends s ≡ own_end t.ends s
     same_end = ap (λ l. own_end l s) ends ∙ end_same t.ends (length u.text.bytes.items) s.index parts.0
@@ -69,12 +78,26 @@ module _ (t u : Statements) (more : List ℕ) (ends : u.ends ≡ t.ends ++ lengt
     within_more = search (rules, length-append, parts, same_start, same_end, within_by)
 
     own_same : own_bytes u s ≡ own_bytes t s
-    own_same = search (rules, cond, slice_range, within_more, same_start, same_end, parts, length-drop, drop-append-le, take-append-le)
+    own_same = search (
+      rules,
+      cond,
+      slice_range,
+      within_more,
+      same_start,
+      same_end,
+      parts,
+      length-drop,
+      drop-append-le,
+      take-append-le,
+    )
 
   -- the last one
-  module _ (s : Statement) (index : s.index ≡ length t.ends) (last : slice_index (0 ∷ t.ends) (length t.ends) ≡ length t.text.bytes.items) where
+  module _ (s : Statement) (index : s.index ≡ length t.ends)
+      (last : slice_index (0 ∷ t.ends) (length t.ends) ≡ length t.text.bytes.items) where
     last_start : own_start u.ends s ≡ length t.text.bytes.items
-    last_start = ap (λ l. own_start l s) ends ∙ ap (λ i. slice_index (0 ∷ (t.ends ++ length u.text.bytes.items ∷ [])) i) index ∙ end_same (0 ∷ t.ends) (length u.text.bytes.items) (length t.ends) (omega arith) ∙ last
+    last_start = ap (λ l. own_start l s) ends
+        ∙ ap (λ i. slice_index (0 ∷ (t.ends ++ length u.text.bytes.items ∷ [])) i) index
+        ∙ end_same (0 ∷ t.ends) (length u.text.bytes.items) (length t.ends) (omega arith) ∙ last
 
     last_end : own_end u.ends s ≡ length u.text.bytes.items
     last_end = ap (λ l. own_end l s) ends ∙ get_or_push t.ends (length u.text.bytes.items) 0 s.index (sym index)
@@ -83,7 +106,19 @@ module _ (t u : Statements) (more : List ℕ) (ends : u.ends ≡ t.ends ++ lengt
     last_within = search (rules, length-append, last_start, last_end, within_by)
 
     last_own : own_bytes u s ≡ more
-    last_own = search (rules, cond, slice_range, last_within, last_start, last_end, common_steps, length-append, drop-append-le, drop-length, take-length)
+    last_own = search (
+      rules,
+      cond,
+      slice_range,
+      last_within,
+      last_start,
+      last_end,
+      common_steps,
+      length-append,
+      drop-append-le,
+      drop-length,
+      take-length,
+    )
 
   steps_same : (steps : List Step) → u.objective ≡ t.objective → u.spelled.items ≡ t.spelled.items
       → All (λ (s : Step). is_within t.ends t.text.bytes.items s.stated ≡ true) steps
@@ -94,10 +129,14 @@ module _ (t u : Statements) (more : List ℕ) (ends : u.ends ≡ t.ends ++ lengt
       let P = λ (x : Step). is_within t.ends t.text.bytes.items x.stated ≡ true in
       let rest = steps_same steps o r (All-tail P s steps a) in
       let here = All-head P s steps a in
-      let name : own_bytes u s.stated ++ row_bytes u.spelled.items s.stated ≡ own_bytes t s.stated ++ row_bytes t.spelled.items s.stated =
+      let name : own_bytes u s.stated ++ row_bytes u.spelled.items s.stated ≡ own_bytes t s.stated
+      ++ row_bytes t.spelled.items s.stated =
       ap₂ (λ x y. x ++ y) (own_same s.stated here) (ap (λ l. row_bytes l s.stated) r) in
-      let one : step_of (statement_in u) s ≡ step_of (statement_in t) s = grind arith in
-      (ap₂ (λ x l. x ∷ l) one rest.0, All-cons (λ (x : Step). is_within u.ends u.text.bytes.items x.stated ≡ true) s steps (within_more s.stated here) rest.1)
+      let one : step_of (statement_in u) s ≡ step_of (statement_in t) s = grind arith in (
+        ap₂ (λ x l. x ∷ l) one rest.0,
+        All-cons (λ (x : Step). is_within u.ends u.text.bytes.items x.stated ≡ true) s steps
+            (within_more s.stated here) rest.1,
+      )
 
 pub kept_more : (t u : Statements) (more : List ℕ) (s : Step) (d : Derivation)
     (steps : List Step) (ds : List Derivation) → u.form ≡ t.form
@@ -112,11 +151,19 @@ pub kept_more : (t u : Statements) (more : List ℕ) (s : Step) (d : Derivation)
 kept_more t u more s d steps ds f o r e ends index words reason last kept =
     let same = steps_same t u more ends e steps o r kept.within in
     let P = λ (x : Step). is_within u.ends u.text.bytes.items x.stated ≡ true in
-    let name : own_bytes u s.stated ++ row_bytes u.spelled.items s.stated ≡ words_text (constraint_words_in u.form u.objective d.name d.stated) =
+    let name : own_bytes u s.stated ++ row_bytes u.spelled.items s.stated ≡ words_text
+    (constraint_words_in u.form u.objective d.name d.stated) =
     ap₂ (λ x y. x ++ y) (last_own t u more ends e s.stated index kept.last) (ap (λ l. row_bytes l s.stated) r)
     ∙ words kept.row ∙ sym (ap₂ (λ g q. words_text (constraint_words_in g q d.name d.stated)) f o) in
     let one : step_of (statement_in u) s ≡ as_text u.form u.objective d =
-    λ i. let x : Derivation = record { name = name i; stated = record { row = u.objective; sense = equal; bound = zero_ℚ }; reason = reason i; last = last i } in x in
+    λ i. let x : Derivation =
+    record {
+      name = name i;
+      stated = record { row = u.objective; sense = equal; bound = zero_ℚ };
+      reason = reason i;
+      last = last i;
+    } in
+    x in
     record {
       row = r ∙ kept.row ∙ sym (ap₂ (λ g q. words_after_spaces (row_words g q q)) f o);
       last = new_last t.ends (length u.text.bytes.items) u.ends ends;
@@ -178,8 +225,11 @@ lines_are form objective t [] [] e = (refl, refl)
 lines_are form objective t [] (d ∷ ds) e = absurd (let n = ap length e in omega arith)
 lines_are form objective t (s ∷ steps) [] e = absurd (let n = ap length e in omega arith)
 lines_are form objective t (s ∷ steps) (d ∷ ds) e =
-    let one = first_of d (map (step_of (statement_in t)) steps) (map (as_text form objective) ds) (step_of (statement_in t) s) (as_text form objective d) e in
-    let others = lines_are form objective t steps ds (rest_of (map (step_of (statement_in t)) steps) (map (as_text form objective) ds) (step_of (statement_in t) s) (as_text form objective d) e) in
+    let one = first_of d (map (step_of (statement_in t)) steps) (map (as_text form objective) ds)
+    (step_of (statement_in t) s) (as_text form objective d) e in
+    let others = lines_are form objective t steps ds
+    (rest_of (map (step_of (statement_in t)) steps) (map (as_text form objective) ds)
+    (step_of (statement_in t) s) (as_text form objective d) e) in
     (ap suc others.0, ap₂ (λ x l. x ++ l) (line_is form objective t s d one) others.1)
 
 pub steps_are : (c : Certificate) (p : Problem) (ls : List ℕ) (t : Statements)

@@ -34,7 +34,9 @@ word_first : (w after : List ℕ) (ws : List (List ℕ)) → IsRun w → Begins 
     → HasTokens after ws → HasTokens (w ++ after) (w ∷ ws)
 word_first w after ws solid begins h offset =
     let within : length w ≤ length (w ++ after) = omega (arith, length-append w after) in
-    let e = token_whole false offset (w ++ after) (length w) solid.some within (λ k l. rw (get_or-append w after 0 k l) (solid.solid k l)) (first_white w after begins) (λ _. refl) in
+    let e = token_whole false offset (w ++ after) (length w) solid.some within
+    (λ k l. rw (get_or-append w after 0 k l) (solid.solid k l)) (first_white w after begins)
+    (λ _. refl) in
     let f = rw (take-append_seam w after, drop-append_seam w after) at e in
     ap bytes_of f ∙ ap (λ us. w ∷ us) (h (offset + length w))
 
@@ -59,7 +61,9 @@ words_behind [] text us tokens h = white_first 10 text us is_line_feed h
 words_behind (w ∷ ws) text us tokens h =
     let first : IsToken w = All-head IsToken w ws tokens in
     let rest = words_behind ws text us (All-tail IsToken w ws tokens) h in
-    let all = white_first 32 _ _ is_space (word_first w (words_after_spaces ws ++ 10 ∷ text) (ws ++ us) first.run (spaced_begin ws text) rest) in
+    let all = white_first 32 _ _ is_space
+    (word_first w (words_after_spaces ws ++ 10 ∷ text) (ws ++ us) first.run
+    (spaced_begin ws text) rest) in
     subst (λ t. HasTokens (32 ∷ t) (w ∷ (ws ++ us))) (sym (append_assoc w (words_after_spaces ws) (10 ∷ text))) all
 
 line_first : (ws : List (List ℕ)) (text : List ℕ) (us : List (List ℕ)) → All IsToken ws
@@ -68,8 +72,11 @@ line_first [] text us tokens h = white_first 10 text us is_line_feed h
 line_first (w ∷ ws) text us tokens h =
     let first : IsToken w = All-head IsToken w ws tokens in
     let rest = words_behind ws text us (All-tail IsToken w ws tokens) h in
-    let e : (w ++ (words_after_spaces ws ++ 10 ∷ [])) ++ text ≡ w ++ (words_after_spaces ws ++ 10 ∷ text) = simp append_assoc in
-    subst (λ t. HasTokens t (w ∷ (ws ++ us))) (sym e) (word_first w (words_after_spaces ws ++ 10 ∷ text) (ws ++ us) first.run (spaced_begin ws text) rest)
+    let e : (w ++ (words_after_spaces ws ++ 10 ∷ [])) ++ text ≡ w
+    ++ (words_after_spaces ws ++ 10 ∷ text) = simp append_assoc in
+    subst (λ t. HasTokens t (w ∷ (ws ++ us))) (sym e)
+    (word_first w (words_after_spaces ws ++ 10 ∷ text) (ws ++ us) first.run
+    (spaced_begin ws text) rest)
 
 abbrev pub words_of : List (List (List ℕ)) → List (List ℕ)
 words_of ls = flat_map (λ l. l) ls
@@ -77,7 +84,9 @@ words_of ls = flat_map (λ l. l) ls
 pub lines_tokens : (ls : List (List (List ℕ))) → All IsToken (words_of ls)
     → HasTokens (lines_text ls) (words_of ls)
 lines_tokens [] tokens = nothing
-lines_tokens (l ∷ ls) tokens = let parts = all_parts IsToken l (words_of ls) tokens in line_first l (lines_text ls) (words_of ls) parts.0 (lines_tokens ls parts.1)
+lines_tokens (l ∷ ls) tokens =
+    let parts = all_parts IsToken l (words_of ls) tokens in
+    line_first l (lines_text ls) (words_of ls) parts.0 (lines_tokens ls parts.1)
 
 -- what begins with the letter V has no white space or comment before its first token
 pub no_front : (text : List ℕ) → text_tokens (86 ∷ text) ≡ tokens_from false false 0 (86 ∷ text)

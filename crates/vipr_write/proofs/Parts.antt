@@ -33,7 +33,9 @@ pub derivation_parts_in : (form : Form) (objective : Row) (start : List ℕ) (d 
     ≡ (((((start ++ words_text (constraint_words_in form objective d.name d.stated))
     ++ codes " {") ++ words_after_spaces (reason_words d.reason)) ++ codes " }") ++ 32
     ∷ last_word d.last) ++ codes "\n"
-derivation_parts_in form objective start d = line_parts start d.name (codes "{") (codes "}") (last_word d.last) (sense_word d.stated.sense ∷ number_text d.stated.bound ∷ row_words form objective d.stated.row) (reason_words d.reason)
+derivation_parts_in form objective start d = line_parts start d.name (codes "{") (codes "}")
+    (last_word d.last) (sense_word d.stated.sense ∷ number_text d.stated.bound
+    ∷ row_words form objective d.stated.row) (reason_words d.reason)
 
 section_parts : (start : List ℕ) (front cons : List (List (List ℕ)))
     (direction vector con claim : List (List ℕ)) →
@@ -49,16 +51,22 @@ pub problem_parts_in : (form : Form) (start : List ℕ) (p : Problem) →
     ++ line_text (vector_words p.objective))
     ++ lines_text (constraints_lines_in form p.objective p.constraints p.bound_count))
     ++ line_text (claim_words p.claim)
-problem_parts_in form start p = section_parts start (variables_lines p) (map (given_words_in form p.objective) p.constraints) (codes "OBJ" ∷ direction_word p.direction ∷ []) (vector_words p.objective) (constraints_heading p.bound_count (length p.constraints)) (claim_words p.claim)
+problem_parts_in form start p = section_parts start (variables_lines p)
+    (map (given_words_in form p.objective) p.constraints)
+    (codes "OBJ" ∷ direction_word p.direction ∷ []) (vector_words p.objective)
+    (constraints_heading p.bound_count (length p.constraints)) (claim_words p.claim)
 
 three_parts : (ls ms ns : List (List (List ℕ)))
     → lines_text (ls ++ (ms ++ ns)) ≡ (lines_text ls ++ lines_text ms) ++ lines_text ns
-three_parts ls ms ns = lines_text-append ls (ms ++ ns) ∙ ap (λ t. lines_text ls ++ t) (lines_text-append ms ns) ∙ sym (append_assoc (lines_text ls) (lines_text ms) (lines_text ns))
+three_parts ls ms ns = lines_text-append ls (ms ++ ns)
+    ∙ ap (λ t. lines_text ls ++ t) (lines_text-append ms ns)
+    ∙ sym (append_assoc (lines_text ls) (lines_text ms) (lines_text ns))
 
 pub certificate_parts : (form : Form) (c : Certificate) → lines_text (certificate_lines_in form c)
     ≡ (lines_text (problem_lines_in form c.problem) ++ lines_text (solutions_lines c.solutions))
     ++ lines_text (derivations_lines_in form c.problem.objective c.derivations)
-certificate_parts form c = three_parts (problem_lines_in form c.problem) (solutions_lines c.solutions) (derivations_lines_in form c.problem.objective c.derivations)
+certificate_parts form c = three_parts (problem_lines_in form c.problem)
+    (solutions_lines c.solutions) (derivations_lines_in form c.problem.objective c.derivations)
 
 -- a heading that says how many items there are, and a line for each of them
 pub headed : {X Y : Type 0} (start : List ℕ) (heading : ℕ → List (List ℕ))

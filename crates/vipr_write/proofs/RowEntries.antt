@@ -34,9 +34,13 @@ both a b h = grind arith
 module _ {X : Type 0} where
   above : (k : ℕ) (es : List (ℕ × X)) → T (below_all nat_cmp k es) → AllByRecursion (λ j. k + 1 ≤ j) (keys_of es)
   above k [] b = tt
-  above k (e ∷ es) b = let first : k + 1 ≤ e.0 = grind (arith, nat_tests) in (first, above k es (grind (arith, nat_tests)))
+  above k (e ∷ es) b =
+      let first : k + 1 ≤ e.0 = grind (arith, nat_tests) in
+      (first, above k es (grind (arith, nat_tests)))
 
-  sorted_rises : (low n : ℕ) (es : List (ℕ × X)) → T (is_sorted nat_cmp es) → AllByRecursion (λ k. low ≤ k) (keys_of es) → AllByRecursion (λ k. k < n) (keys_of es) → Rises low n (keys_of es)
+  sorted_rises : (low n : ℕ) (es : List (ℕ × X)) → T (is_sorted nat_cmp es)
+      → AllByRecursion (λ k. low ≤ k) (keys_of es) → AllByRecursion (λ k. k < n) (keys_of es)
+      → Rises low n (keys_of es)
   sorted_rises low n [] s l h = tt
   sorted_rises low n (e ∷ es) s l h =
       let parts = both (below_all nat_cmp e.0 es) (is_sorted nat_cmp es) s in
@@ -73,10 +77,18 @@ keys_below : (n : ℕ) (es : List (ℕ × ℚ)) → All (λ e. e.1 ≢ zero_ℚ)
     → NamesBelow n (λ j. unwrap_or (find nat_cmp j es) zero_ℚ)
     → AllByRecursion (λ k. k < n) (keys_of es)
 keys_below n [] a h = tt
-keys_below n (e ∷ es) a h = (first, keys_below n es (All-tail (λ e. e.1 ≢ zero_ℚ) e es a) (λ j l. rw (not_tied n j e.0 l first) at (h j l)))
+keys_below n (e ∷ es) a h = (
+  first,
+  keys_below n es (All-tail (λ e. e.1 ≢ zero_ℚ) e es a)
+      (λ j l. rw (not_tied n j e.0 l first) at (h j l)),
+)
   where
     first : e.0 < n
-    first = elim (cases_lt e.0 n) [ inl l ↦ l | inr l ↦ absurd (All-head (λ e. e.1 ≢ zero_ℚ) e es a (rw (tied e.0) at (h e.0 l))) ]
+    first = elim (cases_lt e.0 n) [
+      | inl l ↦ l
+      | inr l ↦
+          absurd (All-head (λ e. e.1 ≢ zero_ℚ) e es a (rw (tied e.0) at (h e.0 l)))
+    ]
 
 all_below : (n : ℕ) (es : List (ℕ × ℚ)) → AllByRecursion (λ k. k < n) (keys_of es)
     → All (λ e. e.0 < n) es
@@ -110,7 +122,8 @@ pub record AreEntries (n : ℕ) (row : Row) : Type 0 where
 pub row_entries : (n : ℕ) (row : Row) → NamesBelow n (at row)
     → All (λ e. e.1 ≢ zero_ℚ) (entries row) → AreEntries n row
 row_entries n row names a =
-    let below = keys_below n (entries row) a (λ j l. ap (λ o. unwrap_or o zero_ℚ) (sym (get-entries row j)) ∙ names j l) in
+    let below = keys_below n (entries row) a
+    (λ j l. ap (λ o. unwrap_or o zero_ℚ) (sym (get-entries row j)) ∙ names j l) in
     let rises = sorted_rises 0 n (entries row) (entries_sorted row) (all_from_nothing (keys_of (entries row))) below in
     let count = rises_length 0 n (keys_of (entries row)) rises in
     let few : length (entries row) ≤ n = omega (arith, length-map (entries row) (λ (e : ℕ × ℚ). e.0)) in
@@ -118,7 +131,9 @@ row_entries n row names a =
       below = all_below n (entries row) below;
       distinct = rises_distinct 0 n (keys_of (entries row)) rises;
       few = few;
-      again = same_map nat_cmp_total nat_cmp-IsAntisymmetric row (row_of (entries row)) (λ q. get-entries row q ∙ ap (find nat_cmp q) (sym (all_kept (entries row) a)) ∙ sym (get-from_entries nat_cmp_total (filter is_nonzero (entries row)) q));
+      again = same_map nat_cmp_total nat_cmp-IsAntisymmetric row (row_of (entries row))
+          (λ q. get-entries row q ∙ ap (find nat_cmp q) (sym (all_kept (entries row) a))
+          ∙ sym (get-from_entries nat_cmp_total (filter is_nonzero (entries row)) q));
     }
 
 -- ---- sets of variables
@@ -133,7 +148,8 @@ filter_length : (p : ℕ → Bool) (xs : List ℕ) → length (filter p xs) ≤ 
 filter_length p [] = omega arith
 filter_length p (x ∷ xs) = by (p x) (filter_length p xs)
   where
-    by : (b : Bool) → length (filter p xs) ≤ length xs → length (cond b (x ∷ filter p xs) (filter p xs)) ≤ suc (length xs)
+    by : (b : Bool) → length (filter p xs) ≤ length xs
+        → length (cond b (x ∷ filter p xs) (filter p xs)) ≤ suc (length xs)
     by true h = omega arith
     by false h = omega arith
 
@@ -155,20 +171,33 @@ pub set_members : (p : Problem) → ((j : ℕ) → IsInteger p.integers j → j 
 set_members p h =
     let n = variables p in
     let ints = p.integers in
-    let in_range : All (λ j. j < n) (range_with_len 0 n) = λ k d l. let size = length-range_with_len 0 n in let less : k < n = omega arith in rw (get_or-range_with_len 0 n k d less) (omega arith) in
-    let few : length (integer_variables p) ≤ n = omega (arith, filter_length (contains ints) (range_with_len 0 n), length-range_with_len 0 n) in
+    let in_range : All (λ j. j < n) (range_with_len 0 n) = λ k d l. let size = length-range_with_len 0 n in
+    let less : k < n = omega arith in
+    rw (get_or-range_with_len 0 n k d less) (omega arith) in
+    let few : length (integer_variables p) ≤ n =
+    omega (arith, filter_length (contains ints) (range_with_len 0 n), length-range_with_len 0 n)
+    in
     record {
       below = All-filter (contains ints) (λ j. j < n) (range_with_len 0 n) in_range;
       few = few;
-      again = same_set nat_cmp_total nat_cmp-IsAntisymmetric ints (from_list (integer_variables p)) (λ q. same q (contains ints q) refl ∙ sym (contains-from_list nat_cmp_total (integer_variables p) q));
+      again = same_set nat_cmp_total nat_cmp-IsAntisymmetric ints (from_list (integer_variables p))
+          (λ q. same q (contains ints q) refl
+          ∙ sym (contains-from_list nat_cmp_total (integer_variables p) q));
     }
   where
-    found : (q : ℕ) → list_any (eq_by_cmp nat_cmp q) (integer_variables p) ≡ (contains p.integers q && list_any (eq_by_cmp nat_cmp q) (range_with_len 0 (variables p)))
-    found q = any-filter_same (eq_by_cmp nat_cmp q) (contains p.integers) (contains p.integers q) (λ k e. ap (contains p.integers) (tied_same q k e)) (range_with_len 0 (variables p))
+    found : (q : ℕ)
+        → list_any (eq_by_cmp nat_cmp q)
+        (integer_variables p) ≡ (contains p.integers q && list_any (eq_by_cmp nat_cmp q)
+        (range_with_len 0 (variables p)))
+    found q = any-filter_same (eq_by_cmp nat_cmp q) (contains p.integers) (contains p.integers q)
+        (λ k e. ap (contains p.integers) (tied_same q k e)) (range_with_len 0 (variables p))
 
-    same : (q : ℕ) (b : Bool) → contains p.integers q ≡ b → contains p.integers q ≡ list_any (eq_by_cmp nat_cmp q) (integer_variables p)
+    same : (q : ℕ) (b : Bool) → contains p.integers q ≡ b
+        → contains p.integers q ≡ list_any (eq_by_cmp nat_cmp q) (integer_variables p)
     same q true e =
         let less : q < variables p = h q e in
         let there = any_range q 0 (variables p) (omega arith) (omega arith) in
         e ∙ sym (found q ∙ ap (λ b. b && list_any (eq_by_cmp nat_cmp q) (range_with_len 0 (variables p))) e ∙ there)
-    same q false e = e ∙ sym (found q ∙ ap (λ b. b && list_any (eq_by_cmp nat_cmp q) (range_with_len 0 (variables p))) e)
+    same q false e = e
+        ∙ sym (found q
+        ∙ ap (λ b. b && list_any (eq_by_cmp nat_cmp q) (range_with_len 0 (variables p))) e)

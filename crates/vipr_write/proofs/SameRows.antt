@@ -12,13 +12,16 @@ first_true : (a b : Bool) → (a && b) ≡ true → a ≡ true
 first_true a b h = grind arith
 
 same_entries_row : (r s : Row) → entries r ≡ entries s → r ≡ s
-same_entries_row r s e = same_map nat_cmp_total nat_cmp-IsAntisymmetric r s (λ q. get-entries r q ∙ ap (find nat_cmp q) e ∙ sym (get-entries s q))
+same_entries_row r s e = same_map nat_cmp_total nat_cmp-IsAntisymmetric r s (λ q. get-entries r q
+    ∙ ap (find nat_cmp q) e ∙ sym (get-entries s q))
 
 -- what is written as OBJ is the objective's
 pub objective_is : (objective row : Row) → is_objective objective row ≡ true → row ≡ objective
 objective_is objective row h =
     let same = first_true (are_same (entries row) (entries objective)) (nat_lt 0 (length (entries row))) h in
-    same_entries_row row objective ((slice_eq-Decides same_entry (entries row) (entries objective) (are_same (entries row) (entries objective)) refl).0 same)
+    same_entries_row row objective
+    ((slice_eq-Decides same_entry (entries row) (entries objective)
+    (are_same (entries row) (entries objective)) refl).0 same)
 
 -- whether two rows are one is whether their entries are
 pub same_entries : (objective row : Row) (same : Bool) → (IsTrue same ↔ (row ≡ objective))
@@ -26,7 +29,8 @@ pub same_entries : (objective row : Row) (same : Bool) → (IsTrue same ↔ (row
 same_entries objective row same is = by same is
   where
     found : (are_same (entries row) (entries objective) ≡ true) ↔ (entries row ≡ entries objective)
-    found = slice_eq-Decides same_entry (entries row) (entries objective) (are_same (entries row) (entries objective)) refl
+    found = slice_eq-Decides same_entry (entries row) (entries objective)
+        (are_same (entries row) (entries objective)) refl
 
     other : (b : Bool) → (b ≡ true → ⊥) → b ≡ false
     other b h = grind arith

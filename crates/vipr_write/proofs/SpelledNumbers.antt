@@ -12,4 +12,6 @@ signed_abs : (is_negative : Bool) (p : ℕ) → nat_abs (signed_integer is_negat
 signed_abs is_negative p = grind arith
 
 pub number_bounded : (t : List ℕ) (x : ℚ) → SpellsNumber t x → IsBounded x
-number_bounded t x s = subst IsBounded (sym s.value) (over_bounded _ (denominator s.bottom) (omega arith) (rw signed_abs s.top_fits) s.bottom_fits)
+number_bounded t x s =
+    subst IsBounded (sym s.value)
+    (over_bounded _ (denominator s.bottom) (omega arith) (rw signed_abs s.top_fits) s.bottom_fits)

@@ -45,7 +45,9 @@ fit_by p ps b t h a = grind (arith, not_zero)
 kept_fit : (ps : List (ℕ × ℚ)) → All (λ p. IsBounded p.1) ps
     → All (λ e. Fits e.1) (filter is_nonzero ps)
 kept_fit [] a = All-nil (λ (e : ℕ × ℚ). Fits e.1)
-kept_fit (p ∷ ps) a = fit_by p (filter is_nonzero ps) (is_nonzero p) refl (All-head (λ (e : ℕ × ℚ). IsBounded e.1) p ps a) (kept_fit ps (All-tail (λ (e : ℕ × ℚ). IsBounded e.1) p ps a))
+kept_fit (p ∷ ps) a = fit_by p (filter is_nonzero ps) (is_nonzero p) refl
+    (All-head (λ (e : ℕ × ℚ). IsBounded e.1) p ps a)
+    (kept_fit ps (All-tail (λ (e : ℕ × ℚ). IsBounded e.1) p ps a))
 
 -- the row of pairs with bounded coefficients keeps those that are not 0
 pub row_fits : (ps : List (ℕ × ℚ)) → All (λ p. IsBounded p.1) ps → RowFits (row_of ps)

@@ -10,10 +10,13 @@ spread_runs : (offset : ℕ) (text : List ℕ) (ts : List Token) → AreSpread o
     → All (λ t. IsRun t.bytes) ts
 unfolding AreSpread
 spread_runs offset text [] s = All-nil (λ (t : Token). IsRun t.bytes)
-spread_runs offset text (t ∷ ts) s = All-cons (λ (t : Token). IsRun t.bytes) t ts s.4 (spread_runs (t.offset + length t.bytes) s.1 ts s.7)
+spread_runs offset text (t ∷ ts) s = All-cons (λ (t : Token). IsRun t.bytes) t ts s.4
+    (spread_runs (t.offset + length t.bytes) s.1 ts s.7)
 
 text_runs : (text : List ℕ) → All IsRun (map (λ (t : Token). t.bytes) (text_tokens text))
-text_runs text = let s = split_is text in All-map IsRun (λ (t : Token). t.bytes) (text_tokens text) (spread_runs (length s.0) s.1 (text_tokens text) s.4)
+text_runs text =
+    let s = split_is text in
+    All-map IsRun (λ (t : Token). t.bytes) (text_tokens text) (spread_runs (length s.0) s.1 (text_tokens text) s.4)
 
 -- those that are short enough are tokens
 pub short_tokens : (text : List ℕ)

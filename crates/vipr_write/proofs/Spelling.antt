@@ -63,7 +63,10 @@ behind first second = as_part (λ h. (tt, h)) (λ h. h.1) (then_part first secon
 pub each_part : {X : Type 0} (S : X → List (List ℕ) → Type 0) (A : X → Type 0)
     (f : X → List (List ℕ)) → ((x : X) → Spelling (S x) (A x) (f x)) → (xs : List X)
     → Spelling (each S xs) (All A xs) (flat_map f xs)
-each_part S A f part [] = record { written = λ h. record { tokens = All-nil IsToken; shape = refl }; limits = λ ts a s. All-nil A }
+each_part S A f part [] = record {
+  written = λ h. record { tokens = All-nil IsToken; shape = refl };
+  limits = λ ts a s. All-nil A;
+}
 each_part S A f part (x ∷ xs) =
     as_part (λ h. (All-head A x xs h, All-tail A x xs h)) (λ h. All-cons A x xs h.0 h.1)
     (then_part (part x) (each_part S A f part xs))

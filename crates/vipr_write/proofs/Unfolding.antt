@@ -13,7 +13,11 @@ use Rattle.vipr_write.proofs.Expanding.{long}
 -- a text whose length can be counted
 pub short_by : (f : Folded) (n : ℕ) → IsFolded f → n ≡ length f.gaps.items * length f.spelled.items
     → n + length f.text.bytes.items < 18446744073709551616 → length (full f) < 18446744073709551616
-short_by f n is counted short = let w = is.within in let m = is.marks in let l = long f.spelled.items f.gaps.items f.text.bytes.items (omega arith) in omega arith
+short_by f n is counted short =
+    let w = is.within in
+    let m = is.marks in
+    let l = long f.spelled.items f.gaps.items f.text.bytes.items (omega arith) in
+    omega arith
 
 -- of the whole text the tail isn't put yet
 pub record PutUpTo {S : Type 0} (carries : S → List ℕ → S → Type 0) (first now : S)
@@ -41,4 +45,5 @@ pub next_gap : (part ns text xs t p : List ℕ) (i at : ℕ) → xs ≡ ns → t
     (expanded part (drop i ns) (drop at text) ≡ slice_range t at (at + slice_index_or xs i 0)
     ++ (p ++ expanded part (drop (i + 1) ns) (drop (at + slice_index_or xs i 0) text)))
     × (at + slice_index_or xs i 0 + sum (drop (i + 1) ns) ≤ length text)
-next_gap part ns text xs t p i at e s q l h = grind (arith, common_steps, drop-cons, slice_range, drop-drop, sum_by-cons)
+next_gap part ns text xs t p i at e s q l h =
+    grind (arith, common_steps, drop-cons, slice_range, drop-drop, sum_by-cons)

@@ -35,7 +35,13 @@ line_short [] a = omega arith
 line_short (w ∷ ws) a =
     let first = (All-head IsToken w ws a).short in
     let rest = spaced_short ws (All-tail IsToken w ws a) in
-    omega (arith, length-append w (words_after_spaces ws ++ 10 ∷ []), length-append (words_after_spaces ws) (10 ∷ []), first, rest)
+    omega (
+      arith,
+      length-append w (words_after_spaces ws ++ 10 ∷ []),
+      length-append (words_after_spaces ws) (10 ∷ []),
+      first,
+      rest,
+    )
 
 pub lines_short : (ls : List (List (List ℕ))) → All IsToken (words_of ls)
     → length (lines_text ls) ≤ 65536 * weight ls
@@ -44,7 +50,13 @@ lines_short (l ∷ ls) a =
     let parts = all_parts IsToken l (words_of ls) a in
     let first = line_short l parts.0 in
     let rest = lines_short ls parts.1 in
-    omega (arith, length-append (line_text l) (lines_text ls), sum_by-cons (λ (ws : List (List ℕ)). suc (length ws)) l ls, first, rest)
+    omega (
+      arith,
+      length-append (line_text l) (lines_text ls),
+      sum_by-cons (λ (ws : List (List ℕ)). suc (length ws)) l ls,
+      first,
+      rest,
+    )
 
 -- ---- how many words and ends of lines there are
 pub pairs_length : (ps : List (ℕ × ℚ)) → length (flat_map pair_words ps) ≡ 2 * length ps
@@ -65,13 +77,18 @@ Weighs f xs i start total = total ≡ counted (start + sum_by f (take i xs))
 pub weighs_next : {X : Type 0} (f : X → ℕ) (xs : List X) (i : ℕ) (x : X) (start total now more : ℕ)
     → i < length xs → x ≡ get_or xs i x → Weighs f xs i start total → f x ≡ more
     → now ≡ counted (total + more) → Weighs f xs (i + 1) start now
-weighs_next f xs i x start total now more l is before same after = let e = sum_next f xs i x l in let here = ap f is in omega (arith, e, here, before, same, after)
+weighs_next f xs i x start total now more l is before same after =
+    let e = sum_next f xs i x l in
+    let here = ap f is in
+    omega (arith, e, here, before, same, after)
 
 -- lines of one word
 pub ones_weight : {X : Type 0} (f : X → List ℕ) (xs : List X)
     → weight (map (λ x. f x ∷ []) xs) ≡ 2 * length xs
 ones_weight f [] = refl
-ones_weight f (x ∷ xs) = let rest = ones_weight f xs in omega (arith, rest, sum_by-cons (λ (ws : List (List ℕ)). suc (length ws)) (f x ∷ []) (map (λ x. f x ∷ []) xs))
+ones_weight f (x ∷ xs) =
+    let rest = ones_weight f xs in
+    omega (arith, rest, sum_by-cons (λ (ws : List (List ℕ)). suc (length ws)) (f x ∷ []) (map (λ x. f x ∷ []) xs))
 
 -- ---- the lines of items
 same_entries : (es fs : List (ℕ × ℚ)) → es ≡ fs → length (flat_map pair_words fs) ≡ 2 * length es
@@ -89,7 +106,8 @@ pub derivation_weight : (d : Derivation) (es : List (ℕ × ℚ)) → es ≡ ent
     → suc (length (derivation_words d)) ≡ 8 + 2 * length es + length (reason_words d.reason)
 derivation_weight d es e =
     let stated = constraint_weight d.name d.stated es e in
-    let first = length-append (constraint_words d.name d.stated) (codes "{" ∷ (reason_words d.reason ++ codes "}" ∷ last_word d.last ∷ [])) in
+    let first = length-append (constraint_words d.name d.stated)
+    (codes "{" ∷ (reason_words d.reason ++ codes "}" ∷ last_word d.last ∷ [])) in
     let second = length-append (reason_words d.reason) (codes "}" ∷ last_word d.last ∷ []) in
     omega (arith, stated, first, second)
 
@@ -116,10 +134,17 @@ problem_is : (p : Problem) → weight (problem_lines p) ≡ 18 + weight (claim_w
     + 2 * length p.names + 2 * length (integer_variables p) + 2 * length (entries p.objective)
     + weight (map given_words p.constraints)
 problem_is p =
-    let back = (codes "OBJ" ∷ direction_word p.direction ∷ []) ∷ vector_words p.objective ∷ (codes "CON" ∷ decimal (length p.constraints) ∷ decimal p.bound_count ∷ []) ∷ (map given_words p.constraints ++ claim_words p.claim ∷ []) in
+    let back = (codes "OBJ" ∷ direction_word p.direction ∷ []) ∷ vector_words p.objective
+    ∷ (codes "CON" ∷ decimal (length p.constraints) ∷ decimal p.bound_count ∷ [])
+    ∷ (map given_words p.constraints ++ claim_words p.claim ∷ []) in
     let all = weight-append (variables_lines p) back in
-    let first = front_weight (codes "VER" ∷ codes "1.0" ∷ []) (heading (codes "VAR") (length p.names)) (heading (codes "INT") (length (integer_variables p))) (map (λ name. name ∷ []) p.names) (map (λ j. decimal j ∷ []) (integer_variables p)) in
-    let second = back_weight (codes "OBJ" ∷ direction_word p.direction ∷ []) (vector_words p.objective) (codes "CON" ∷ decimal (length p.constraints) ∷ decimal p.bound_count ∷ []) (claim_words p.claim) (map given_words p.constraints) in
+    let first = front_weight (codes "VER" ∷ codes "1.0" ∷ [])
+    (heading (codes "VAR") (length p.names))
+    (heading (codes "INT") (length (integer_variables p))) (map (λ name. name ∷ []) p.names)
+    (map (λ j. decimal j ∷ []) (integer_variables p)) in
+    let second = back_weight (codes "OBJ" ∷ direction_word p.direction ∷ [])
+    (vector_words p.objective) (codes "CON" ∷ decimal (length p.constraints)
+    ∷ decimal p.bound_count ∷ []) (claim_words p.claim) (map given_words p.constraints) in
     let names = ones_weight (λ name. name) p.names in
     let members = ones_weight decimal (integer_variables p) in
     let terms = pairs_length (entries p.objective) in
@@ -135,13 +160,20 @@ pub problem_counted : (p : Problem) (names : List (List ℕ)) (js : List ℕ) (o
     → third ≡ counted (second + (0 + 2 * length es))
     → total ≡ counted (third + weight (map given_words cons))
     → total ≡ counted (weight (problem_lines p))
-problem_counted p names js objective es cons claim k first second third total a b c d e f g h i j l = search (rules, problem_is)
+problem_counted p names js objective es cons claim k first second third total a b c d e f g h i j
+    l = search (rules, problem_is)
 
 -- ---- in the compact form there are no more of them
 lines_fewer : {X : Type 0} (f g : X → List (List ℕ)) → ((x : X) → length (f x) ≤ length (g x))
     → (xs : List X) → weight (map f xs) ≤ weight (map g xs)
 lines_fewer f g h [] = omega arith
-lines_fewer f g h (x ∷ xs) = omega (arith, h x, lines_fewer f g h xs, weight-cons (f x) (map f xs), weight-cons (g x) (map g xs))
+lines_fewer f g h (x ∷ xs) = omega (
+  arith,
+  h x,
+  lines_fewer f g h xs,
+  weight-cons (f x) (map f xs),
+  weight-cons (g x) (map g xs),
+)
 
 pub problem_fewer : (form : Form) (p : Problem)
     → weight (problem_lines_in form p) ≤ weight (problem_lines p)
@@ -149,8 +181,18 @@ problem_fewer form p = grind (arith, common_steps, lines_fewer, weight-append, b
 
 certificate_fewer : (form : Form) (c : Certificate)
     → weight (certificate_lines_in form c) ≤ weight (certificate_lines c)
-certificate_fewer form c = search (rules, problem_fewer, weight-append, common_steps, lines_fewer, weight-cons, length-append)
+certificate_fewer form c = search (
+  rules,
+  problem_fewer,
+  weight-append,
+  common_steps,
+  lines_fewer,
+  weight-cons,
+  length-append,
+)
 
 pub text_short : (form : Form) (c : Certificate) → CanWrite c
     → weight (certificate_lines c) < 2 ^ 48 → length (text_in form c) < 2 ^ 64
-text_short form c w few = let short = lines_short (certificate_lines_in form c) (tokens_all form c w) in omega (arith, few, short, certificate_fewer form c)
+text_short form c w few =
+    let short = lines_short (certificate_lines_in form c) (tokens_all form c w) in
+    omega (arith, few, short, certificate_fewer form c)

@@ -26,11 +26,14 @@ tokens_are form c w = ap bytes_of (no_front _) ∙ lines_tokens (certificate_lin
 spells_itself : (form : Form) (c : Certificate) → CanWrite c → Spells (text_in form c) c
 spells_itself form c w =
     let all = written form c w in
-    let spelled : SpelledBy (words_of (certificate_lines_in form c)) c = record { short = λ k d l. (all.tokens k d l).short; sections = all.shape } in
+    let spelled : SpelledBy (words_of (certificate_lines_in form c)) c =
+    record { short = λ k d l. (all.tokens k d l).short; sections = all.shape } in
     subst (λ ts. SpelledBy ts c) (sym (tokens_are form c w)) spelled
 
 pub text_spells : (form : Form) (c : Certificate) → CanWrite c → SpellsOnly (text_in form c) c
-text_spells form c w = let this = spells_itself form c w in record { this = this; no_other = λ d other. one_certificate (text_in form c) d c other this }
+text_spells form c w =
+    let this = spells_itself form c w in
+    record { this = this; no_other = λ d other. one_certificate (text_in form c) d c other this }
 
 pub canonical_spells : SpellsItself
 canonical_spells c w = text_spells Canonical c w

@@ -59,9 +59,17 @@ under_solid bottom h = grind (arith, above_space, digits_solid)
 
 number_solid : (t : List ℕ) (x : ℚ) → SpellsNumber t x → (0 < length t) × Solid t
 number_solid t x s =
-    let front = All-append (λ b. is_white b ≡ false) s.sign s.top (sign_solid s.sign s.is_negative s.is_sign) (digits_solid s.top s.top_digits.1) in
-    let all = All-append (λ b. is_white b ≡ false) (s.sign ++ s.top) (under s.bottom) front (under_solid s.bottom s.bottom_digits) in
-    let some : 0 < length (s.sign ++ s.top ++ under s.bottom) = omega (arith, length-append s.sign s.top, length-append (s.sign ++ s.top) (under s.bottom), s.top_digits.0) in
+    let front = All-append (λ b. is_white b ≡ false) s.sign s.top
+    (sign_solid s.sign s.is_negative s.is_sign) (digits_solid s.top s.top_digits.1) in
+    let all = All-append (λ b. is_white b ≡ false) (s.sign ++ s.top) (under s.bottom) front
+    (under_solid s.bottom s.bottom_digits) in
+    let some : 0 < length (s.sign ++ s.top ++ under s.bottom) =
+    omega (
+      arith,
+      length-append s.sign s.top,
+      length-append (s.sign ++ s.top) (under s.bottom),
+      s.top_digits.0,
+    ) in
     (subst (λ bs. 0 < length bs) (sym s.joined) some, subst Solid (sym s.joined) all)
 
 pub number_token : (x : ℚ) → IsBounded x → IsToken (number_text x)

@@ -71,7 +71,9 @@ sample = record {
 
 -- the same with OBJ for the row of constraint b, which is the objective's
 abbrev pub sample_compact : List ℕ
-sample_compact = codes "VER 1.0\nVAR 2\nx\ny\nINT 1\n1\nOBJ max\n2 0 1/2 1 -3\nCON 2 1\na G -1/3 0\nb E 0 OBJ\nRTP range -inf 7/2\nSOL 2\ns 1 1 1\nt 0\nDER 5\nc L 12 1 1 1 { asm } 6\nd G 13 1 1 1 { lin 2 0 0 1 -1/2 } -1\ne L 0 0 { rnd 0 } -1\nf L 0 0 { uns 4 2 5 3 } -1\ng E 0 0 { sol } -1\n"
+sample_compact =
+    codes "VER 1.0\nVAR 2\nx\ny\nINT 1\n1\nOBJ max\n2 0 1/2 1 -3\nCON 2 1\na G -1/3 0\nb E 0 OBJ\nRTP range -inf 7/2\nSOL 2\ns 1 1 1\nt 0\nDER 5\nc L 12 1 1 1 { asm } 6\nd G 13 1 1 1 { lin 2 0 0 1 -1/2 } -1\ne L 0 0 { rnd 0 } -1\nf L 0 0 { uns 4 2 5 3 } -1\ng E 0 0 { sol } -1\n"
 
 abbrev pub sample_text : List ℕ
-sample_text = codes "VER 1.0\nVAR 2\nx\ny\nINT 1\n1\nOBJ max\n2 0 1/2 1 -3\nCON 2 1\na G -1/3 0\nb E 0 2 0 1/2 1 -3\nRTP range -inf 7/2\nSOL 2\ns 1 1 1\nt 0\nDER 5\nc L 12 1 1 1 { asm } 6\nd G 13 1 1 1 { lin 2 0 0 1 -1/2 } -1\ne L 0 0 { rnd 0 } -1\nf L 0 0 { uns 4 2 5 3 } -1\ng E 0 0 { sol } -1\n"
+sample_text =
+    codes "VER 1.0\nVAR 2\nx\ny\nINT 1\n1\nOBJ max\n2 0 1/2 1 -3\nCON 2 1\na G -1/3 0\nb E 0 2 0 1/2 1 -3\nRTP range -inf 7/2\nSOL 2\ns 1 1 1\nt 0\nDER 5\nc L 12 1 1 1 { asm } 6\nd G 13 1 1 1 { lin 2 0 0 1 -1/2 } -1\ne L 0 0 { rnd 0 } -1\nf L 0 0 { uns 4 2 5 3 } -1\ng E 0 0 { sol } -1\n"

@@ -7,11 +7,14 @@ returns-then-not-is_within g c =
     let view = g.T.NamesVariables.view in
     let shape = g.T.NamesVariables.shape c.args.n in
     let items = c.args.items.now in
-    let fails : ¬ shape (view c.item-item.result) = λ h. false≢true (sym c.if-not-is_within.true ∙ c.is_within.ensures.shape.1 h) in
+    let fails : ¬ shape (view c.item-item.result) =
+    λ h. false≢true (sym c.if-not-is_within.true ∙ c.is_within.ensures.shape.1 h) in
     record {
       shape = (
         λ t. absurd (false≢true t),
-        λ all. absurd (fails_at (λ x. shape (view x)) items _ _ c.loop-item-test.true c.item-item.is fails (each_from (λ x. shape (view x)) shape view (λ x h. h) items all)),
+        λ all. absurd
+            (fails_at (λ x. shape (view x)) items _ _ c.loop-item-test.true c.item-item.is fails
+            (each_from (λ x. shape (view x)) shape view (λ x h. h) items all)),
       );
       fits = λ t. absurd (false≢true t);
     }

@@ -8,4 +8,6 @@ pub returns : goal.returns
 returns g c =
     let P = profile_of c.args.profile in
     let source = g.R.Source.input c.args.source in
-    subst (ChecksIn P source) (sym c.verdict_of.ensures) (run_checks P source c.run-outcome.result c.run-outcome.ensures.any c.run-outcome.ensures.explained)
+    subst (ChecksIn P source) (sym c.verdict_of.ensures)
+    (run_checks P source c.run-outcome.result c.run-outcome.ensures.any
+    c.run-outcome.ensures.explained)

@@ -9,8 +9,14 @@ pub check_solutions-outcome-requires : goal.check_solutions-outcome-requires
 check_solutions-outcome-requires g c =
     let p = c.args.problem in
     let k = c.in-Ok.checker in
-    let e = c.in-Ok.ensures in
-    (profile_of c.args.profile, p, [], among_start (profile_of c.args.profile) p k c.args.solutions e.profile e.problem e.start e.phase e.runs c.requires.knows c.requires.unspent c.requires.counted)
+    let e = c.in-Ok.ensures in (
+      profile_of c.args.profile,
+      p,
+      [],
+      among_start (profile_of c.args.profile) p k c.args.solutions
+          e.profile e.problem e.start e.phase e.runs c.requires.knows c.requires.unspent
+          c.requires.counted,
+    )
 
 pub returns-in-Ok-clause-explained : goal.returns-in-Ok-clause-explained
 returns-in-Ok-clause-explained g c = λ known r is.
@@ -18,5 +24,8 @@ returns-in-Ok-clause-explained g c = λ known r is.
     let k = c.in-Ok.checker in
     let e = c.in-Ok.ensures in
     let after = c.check_solutions-outcome in
-    let among = among_start (profile_of c.args.profile) p k c.args.solutions e.profile e.problem e.start e.phase e.runs c.requires.knows c.requires.unspent c.requires.counted in
-    problem_read_on (profile_of c.args.profile) r p c.args.solutions.left (rest_of c.args.solutions.rest) (state_shown after.new.checker) after.result is (after.ensures.explained (profile_of c.args.profile) p [] among known)
+    let among = among_start (profile_of c.args.profile) p k c.args.solutions e.profile e.problem
+    e.start e.phase e.runs c.requires.knows c.requires.unspent c.requires.counted in
+    problem_read_on (profile_of c.args.profile) r p c.args.solutions.left
+    (rest_of c.args.solutions.rest) (state_shown after.new.checker) after.result is
+    (after.ensures.explained (profile_of c.args.profile) p [] among known)

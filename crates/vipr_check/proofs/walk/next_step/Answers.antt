@@ -15,7 +15,8 @@ returns-in_err-found-clause-step g c = λ P s is.
     let k = c.args.checker.now in
     let e = c.in_err-found.field-0.0 in
     handed_on (Goes P s old k c.next_into.new.self) c.from_residual.result (text_reason e) c.from_residual.ensures.1
-    (λ known. derivation_missing P s old.left (rest_of old.rest) (state_shown k) e (unshown k is.runs) (c.in_err-found.ensures.read s.problem is.knows known))
+    (λ known. derivation_missing P s old.left (rest_of old.rest) (state_shown k) e
+    (unshown k is.runs) (c.in_err-found.ensures.read s.problem is.knows known))
 
 pub returns-in_err-take_from-clause-step : goal.returns-in_err-take_from-clause-step
 returns-in_err-take_from-clause-step g c = λ P s is.
@@ -25,13 +26,18 @@ returns-in_err-take_from-clause-step g c = λ P s is.
     let l = c.take_from.new.self in
     let new = c.next_into.new.self in
     let e = c.in_err-take_from.field-0.0 in
-    handed_on (Goes P s old l new) c.from_residual-in_err-take_from.result (stop_reason e) c.from_residual-in_err-take_from.ensures.1
-    (step_stops P s k l old new (derivation_of c.next_into.new.step) is h.moves.counted (λ known. (let r = h.read s.problem is.knows known in (r.1, r.2))) h.shape.reason e (c.in_err-take_from.ensures.next s is.runs is.has))
+    handed_on (Goes P s old l new) c.from_residual-in_err-take_from.result
+    (stop_reason e) c.from_residual-in_err-take_from.ensures.1
+    (step_stops P s k l old new (derivation_of c.next_into.new.step) is h.moves.counted
+    (λ known. (let r = h.read s.problem is.knows known in (r.1, r.2))) h.shape.reason e
+    (c.in_err-take_from.ensures.next s is.runs is.has))
 
 pub returns-then-found-clause-step : goal.returns-then-found-clause-step
 returns-then-found-clause-step g c = λ P s is.
     let h = rw c.if-found.true at c.in_ok-found.ensures in
-    step_reached P s c.args.checker.now c.take_from.new.self c.args.derivations.now c.next_into.new.self (derivation_of c.next_into.new.step) is h.moves.counted (λ known. (let r = h.read s.problem is.knows known in (r.1, r.2)))
+    step_reached P s c.args.checker.now c.take_from.new.self c.args.derivations.now
+    c.next_into.new.self (derivation_of c.next_into.new.step) is h.moves.counted
+    (λ known. (let r = h.read s.problem is.knows known in (r.1, r.2)))
     h.moves.remembers h.moves.working (c.in_ok-take_from.ensures.next s is.runs is.has)
 
 pub returns-in_err-finish-clause-step : goal.returns-in_err-finish-clause-step
@@ -41,10 +47,13 @@ returns-in_err-finish-clause-step g c = λ P s is.
     let k = c.args.checker.now in
     let l = c.finish.new.self in
     let e = c.in_err-finish.field-0.0 in
-    handed_on (Goes P s old l c.next_into.new.self) c.from_residual-in_err-finish.result (stop_reason e) c.from_residual-in_err-finish.ensures.1 (λ known.
+    handed_on (Goes P s old l c.next_into.new.self) c.from_residual-in_err-finish.result
+    (stop_reason e) c.from_residual-in_err-finish.ensures.1 (λ known.
     let r = h.read s.problem is.knows known in
-    subst (λ n. SaysWhy (Explained P (derivations_from s n (rest_of old.rest))) (state_shown l) (stop_reason e)) (sym r.0)
-    (finish_stops P s k l (rest_of old.rest) is.profile r.1 e is.has.problem (c.in_err-finish.ensures.next s is.runs is.has)))
+    subst (λ n. SaysWhy (Explained P (derivations_from s n (rest_of old.rest))) (state_shown l)
+    (stop_reason e)) (sym r.0)
+    (finish_stops P s k l (rest_of old.rest) is.profile r.1 e is.has.problem
+    (c.in_err-finish.ensures.next s is.runs is.has)))
 
 pub returns-clause-step : goal.returns-clause-step
 returns-clause-step g c = λ P s is known.
@@ -54,8 +63,10 @@ returns-clause-step g c = λ P s is known.
     let report = c.in_ok-finish.field-0 in
     let r = h.read s.problem is.knows known in
     subst (λ n. Explained P (derivations_from s n left) (verified (report_of report)) (state_shown l)) (sym r.0)
-    (finish_verifies P s c.args.checker.now l left is.profile r.1 report is.runs (c.in_ok-finish.ensures.next s is.runs is.has))
+    (finish_verifies P s c.args.checker.now l left is.profile r.1 report is.runs
+    (c.in_ok-finish.ensures.next s is.runs is.has))
 
 pub returns-clause-any : goal.returns-clause-any
 returns-clause-any g c = λ P s is.
-    report_of_proof P s c.args.checker.now c.finish.new.self c.in_ok-finish.field-0 is.profile (c.in_ok-finish.ensures.next s is.runs is.has)
+    report_of_proof P s c.args.checker.now c.finish.new.self c.in_ok-finish.field-0 is.profile
+    (c.in_ok-finish.ensures.next s is.runs is.has)

@@ -13,7 +13,11 @@ pub returns-in-Err-clause-explained : goal.returns-in-Err-clause-explained
 returns-in-Err-clause-explained g c =
     let r = c.in-Ok.reader in
     let e = c.in-Err.error in
-    known_by (g.R.Source.input c.args.source) (λ i. r ≡ Some (text_of i)) (λ i. SaysWith (IsExplained (profile_of c.args.profile) (text_of i)) none (Err c.from.result)) (λ i h.
+    known_by (g.R.Source.input c.args.source) (λ i. r ≡ Some (text_of i))
+    (λ i. SaysWith (IsExplained (profile_of c.args.profile) (text_of i)) none
+    (Err c.from.result)) (λ i h.
     subst (SaysWhy (IsExplained (profile_of c.args.profile) (text_of i)) none) (sym c.from.ensures)
-    (problem_failed (profile_of c.args.profile) (text_of i) e (subst (λ s. Fails e (problem_read (rest_of s))) h (c.in-Err.ensures.read (subst IsSome (sym h) refl)))))
+    (problem_failed (profile_of c.args.profile) (text_of i) e
+    (subst (λ s. Fails e (problem_read (rest_of s))) h
+    (c.in-Err.ensures.read (subst IsSome (sym h) refl)))))
     c.in-Ok.ensures

@@ -9,4 +9,11 @@ returns g c =
     let P = profile_of c.args.profile in
     let v = c.in_ok-verdict.verdict in
     let x = c.in_ok-verdict.detail in
-    of_input (g.R.Source.input c.args.source) (λ k. k.Explained P (Ok (v, x))) (λ k. AnswersTask Explain P false false k (Ok (record { text = c.into_bytes.result; status = c.status.result }))) (λ k h. (v, (x, h, ap vec_items c.into_bytes.ensures.value ∙ c.in_ok-text.ensures), c.status.ensures)) (c.in_ok-verdict.ensures.verdict.any, c.in_ok-verdict.ensures.detail)
+    of_input (g.R.Source.input c.args.source) (λ k. k.Explained P (Ok (v, x)))
+    (λ k. AnswersTask Explain P false false k
+    (Ok (record { text = c.into_bytes.result; status = c.status.result })))
+    (λ k h. (
+      v,
+      (x, h, ap vec_items c.into_bytes.ensures.value ∙ c.in_ok-text.ensures),
+      c.status.ensures,
+    )) (c.in_ok-verdict.ensures.verdict.any, c.in_ok-verdict.ensures.detail)

@@ -49,7 +49,8 @@ module _ (c : In-Some) where
       sym met ∙ entered_is c.in_ok-matches.matches c.in-Some.name.now rows c.in-Some.ensures.name c.in-Some.ensures.rows
 
   fault : fault_of line words ≡ []
-  fault = ap (λ (a : App). fault_of a words) (sym c.requires) ∙ c.in_ok-matches.ensures.kinds (ap is_simple_and_free c.requires ∙ is_free_line)
+  fault = ap (λ (a : App). fault_of a words) (sym c.requires)
+      ∙ c.in_ok-matches.ensures.kinds (ap is_simple_and_free c.requires ∙ is_free_line)
 
 pub unreachable-requires-in_default-task_named : goal.unreachable-requires-in_default-task_named
 unreachable-requires-in_default-task_named c =
@@ -60,30 +61,48 @@ pub returns-in_default-profile_named-clause-err : goal.returns-in_default-profil
 returns-in_default-profile_named-clause-err c =
     let k = (goal.at.returns-in_default-profile_named-clause-err c).In-Some in
     λ t. absurd (never_accepted (words k) _ _ (entered k)
-    (c.in_default-profile_named.ensures ∙ ap profile_named (c.get_str-word.ensures ∙ first_value-rows (found_of c.in-Some.inner.now) (codes "profile"))) t)
+    (c.in_default-profile_named.ensures
+    ∙ ap profile_named (c.get_str-word.ensures ∙ first_value-rows (found_of c.in-Some.inner.now)
+    (codes "profile"))) t)
 
 pub returns-in_default-profile_named-clause-kinds :
     goal.returns-in_default-profile_named-clause-kinds
 returns-in_default-profile_named-clause-kinds c =
     let k = (goal.at.returns-in_default-profile_named-clause-kinds c).In-Some in
     profile_wrong (words k) _ _ (entered k)
-    (c.in_default-profile_named.ensures ∙ ap profile_named (c.get_str-word.ensures ∙ first_value-rows (found_of c.in-Some.inner.now) (codes "profile")))
+    (c.in_default-profile_named.ensures
+    ∙ ap profile_named (c.get_str-word.ensures ∙ first_value-rows (found_of c.in-Some.inner.now)
+    (codes "profile")))
     (fault k) c.in_ok-no_profile.field-0 c.in_ok-no_profile.ensures
 
 pub returns-clause-ok : goal.returns-clause-ok
 returns-clause-ok c =
     let k = (goal.at.returns-clause-ok c).In-Some in
     is_asked (words k) _ _ _ (entered k) c.in-Some-task_named.ensures.some
-    (c.in-Some-profile_named.ensures ∙ ap profile_named (c.get_str-word.ensures ∙ first_value-rows (found_of c.in-Some.inner.now) (codes "profile")))
-    (c.form_asked-form.ensures ∙ ap form_asked (c.get_str.ensures ∙ first_value-rows (found_of c.in-Some.inner.now) (codes "compact")))
-    (c.is_set-is_long.ensures ∙ ap is_set (c.get_str-2.ensures ∙ first_value-rows (found_of c.in-Some.inner.now) (codes "long")))
-    (c.is_set-has_sum.ensures ∙ ap is_set (c.get_str-3.ensures ∙ first_value-rows (found_of c.in-Some.inner.now) (codes "sum")))
-    (c.file_named-file.ensures ∙ ap file_named (c.get_str-4.ensures ∙ first_value-rows (found_of c.in-Some.inner.now) (codes "file")))
-    (c.file_named-out.ensures ∙ ap file_named (c.get_str-5.ensures ∙ first_value-rows (found_of c.in-Some.inner.now) (codes "out")))
+    (c.in-Some-profile_named.ensures
+    ∙ ap profile_named (c.get_str-word.ensures ∙ first_value-rows (found_of c.in-Some.inner.now)
+    (codes "profile")))
+    (c.form_asked-form.ensures
+    ∙ ap form_asked (c.get_str.ensures ∙ first_value-rows (found_of c.in-Some.inner.now)
+    (codes "compact")))
+    (c.is_set-is_long.ensures
+    ∙ ap is_set (c.get_str-2.ensures ∙ first_value-rows (found_of c.in-Some.inner.now)
+    (codes "long")))
+    (c.is_set-has_sum.ensures
+    ∙ ap is_set (c.get_str-3.ensures ∙ first_value-rows (found_of c.in-Some.inner.now)
+    (codes "sum")))
+    (c.file_named-file.ensures
+    ∙ ap file_named (c.get_str-4.ensures ∙ first_value-rows (found_of c.in-Some.inner.now)
+    (codes "file")))
+    (c.file_named-out.ensures
+    ∙ ap file_named (c.get_str-5.ensures ∙ first_value-rows (found_of c.in-Some.inner.now)
+    (codes "out")))
 
 pub returns-clause-kinds : goal.returns-clause-kinds
 returns-clause-kinds c =
     let k = (goal.at.returns-clause-kinds c).In-Some in
     profile_fine (words k) _ _ (entered k) _
-    (c.in-Some-profile_named.ensures ∙ ap profile_named (c.get_str-word.ensures ∙ first_value-rows (found_of c.in-Some.inner.now) (codes "profile")))
+    (c.in-Some-profile_named.ensures
+    ∙ ap profile_named (c.get_str-word.ensures ∙ first_value-rows (found_of c.in-Some.inner.now)
+    (codes "profile")))
     (fault k)

@@ -14,12 +14,26 @@ returns-in_err-place g c =
     let files = g.D.Folder.known c.args.files.now in
     let name = c.args.name.now in
     let q = err_from_is_err_and c.from_residual.result c.from_residual.ensures.1 in
-    rw (q.1, q.2) (of_any (g.R.Source.input c.args.source) (λ k. WritesFile P F (k.proof P) files files name (Err Memory)) (λ k. unwritten P F (k.proof P) files name (tighten.Memory 0) (refl, stays (begun_for files name))))
+    rw (q.1, q.2)
+    (of_any (g.R.Source.input c.args.source)
+    (λ k. WritesFile P F (k.proof P) files files name (Err Memory))
+    (λ k. unwritten P F (k.proof P) files name (tighten.Memory 0)
+    (refl, stays (begun_for files name))))
 
 pub returns-in_err-outcome : goal.returns-in_err-outcome
 returns-in_err-outcome g c =
     let q = err_from_is_err_and c.from_residual-in_err-outcome.result c.from_residual-in_err-outcome.ensures.1 in
-    settled (profile_of c.args.job.now.profile) c.args.job.now.form (g.R.Source.input c.args.source) (g.D.Folder.known c.args.files.now) (g.D.Folder.known c.settle.new.files) c.args.name.now (g.D.Out.Sink.output c.in_ok-place.place) (g.D.Out.Sink.output c.tighten_as-tightened.new.sink) c.tighten_as-tightened.result (Err c.in_err-outcome.field-0.0) c.from_residual-in_err-outcome.result c.in_ok-place.ensures c.tighten_as-tightened.ensures.tightens c.in_err-outcome.ensures (rw (q.1, q.2))
+    settled (profile_of c.args.job.now.profile) c.args.job.now.form (g.R.Source.input c.args.source)
+    (g.D.Folder.known c.args.files.now) (g.D.Folder.known c.settle.new.files) c.args.name.now
+    (g.D.Out.Sink.output c.in_ok-place.place)
+    (g.D.Out.Sink.output c.tighten_as-tightened.new.sink) c.tighten_as-tightened.result
+    (Err c.in_err-outcome.field-0.0) c.from_residual-in_err-outcome.result c.in_ok-place.ensures
+    c.tighten_as-tightened.ensures.tightens c.in_err-outcome.ensures (rw (q.1, q.2))
 
 pub returns : goal.returns
-returns g c = settled (profile_of c.args.job.now.profile) c.args.job.now.form (g.R.Source.input c.args.source) (g.D.Folder.known c.args.files.now) (g.D.Folder.known c.settle.new.files) c.args.name.now (g.D.Out.Sink.output c.in_ok-place.place) (g.D.Out.Sink.output c.tighten_as-tightened.new.sink) c.tighten_as-tightened.result (Ok c.in_ok-outcome.outcome) (Ok c.of_outcome.result) c.in_ok-place.ensures c.tighten_as-tightened.ensures.tightens c.in_ok-outcome.ensures c.of_outcome.ensures
+returns g c = settled (profile_of c.args.job.now.profile) c.args.job.now.form
+    (g.R.Source.input c.args.source) (g.D.Folder.known c.args.files.now)
+    (g.D.Folder.known c.settle.new.files) c.args.name.now (g.D.Out.Sink.output c.in_ok-place.place)
+    (g.D.Out.Sink.output c.tighten_as-tightened.new.sink) c.tighten_as-tightened.result
+    (Ok c.in_ok-outcome.outcome) (Ok c.of_outcome.result) c.in_ok-place.ensures
+    c.tighten_as-tightened.ensures.tightens c.in_ok-outcome.ensures c.of_outcome.ensures

@@ -13,4 +13,7 @@ returns g c =
     let old = g.W.Sink.output c.args.sink.now in
     let new = g.W.Sink.output c.tighten_as.new.sink in
     let x = c.in_ok-outcome.outcome in
-    of_input source (λ k. TightensText P F (k.proof P) old new (Ok x)) (λ k. WritesTightened P F (k.proof P) old new (Ok c.of_outcome.result)) (λ k h. (Ok x, c.of_outcome.ensures, h)) (known P F source old new (Ok x) c.in_ok-outcome.ensures.tightens)
+    of_input source (λ k. TightensText P F (k.proof P) old new (Ok x))
+    (λ k. WritesTightened P F (k.proof P) old new (Ok c.of_outcome.result))
+    (λ k h. (Ok x, c.of_outcome.ensures, h))
+    (known P F source old new (Ok x) c.in_ok-outcome.ensures.tightens)

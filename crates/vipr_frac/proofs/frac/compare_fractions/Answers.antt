@@ -7,4 +7,6 @@ use Rattle.vipr_frac.proofs.frac.compare_fractions.Goals as goal
 pub returns-then-q-s : goal.returns-then-q-s
 returns-then-q-s c =
     c.cmp.ensures ∙ rw (to_z-of_z w128 c.args.p c.ranges.p, to_z-of_z w128 c.args.r c.ranges.r)
-    (sym (int_cmp-scale c.args.p c.args.r c.args.s c.requires.s) ∙ ap (λ (n : ℕ). int_cmp (c.args.p *ℤ pos c.args.s) (c.args.r *ℤ pos n)) (sym c.if-q-s.true))
+    (sym (int_cmp-scale c.args.p c.args.r c.args.s c.requires.s)
+    ∙ ap (λ (n : ℕ). int_cmp (c.args.p *ℤ pos c.args.s) (c.args.r *ℤ pos n))
+    (sym c.if-q-s.true))

@@ -2,7 +2,15 @@ use Rattle.vipr_frac.proofs.Views.{made-of}
 use Rattle.vipr_frac.proofs.frac.exact_product.Goals as goal
 
 pub returns-clause-fits : goal.returns-clause-fits
-returns-clause-fits c = rw (made-of _ _ _ c.of_parts.ensures c.requires.left, made-of _ _ _ c.of_parts-2.ensures c.requires.right) at c.product_by_parts.ensures.fits
+returns-clause-fits c =
+    rw (
+      made-of _ _ _ c.of_parts.ensures c.requires.left,
+      made-of _ _ _ c.of_parts-2.ensures c.requires.right,
+    ) at c.product_by_parts.ensures.fits
 
 pub returns-clause-value : goal.returns-clause-value
-returns-clause-value c = rw (made-of _ _ _ c.of_parts.ensures c.requires.left, made-of _ _ _ c.of_parts-2.ensures c.requires.right) at c.product_by_parts.ensures.value
+returns-clause-value c =
+    rw (
+      made-of _ _ _ c.of_parts.ensures c.requires.left,
+      made-of _ _ _ c.of_parts-2.ensures c.requires.right,
+    ) at c.product_by_parts.ensures.value

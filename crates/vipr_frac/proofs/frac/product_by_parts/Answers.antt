@@ -10,21 +10,30 @@ use Rattle.vipr_frac.proofs.frac.product_by_parts.Goals as goal
 pub returns-in_err-above-clause-fits : goal.returns-in_err-above-clause-fits
 returns-in_err-above-clause-fits c = (
   λ ok. refused _ c.from_residual.ensures.0 ok,
-  λ f. absurd (false≢true (c.in_err-above.ensures.fits.1 (rw (words_times _ _ _ c.crossed-p.ensures.left c.crossed-p.ensures.right c.crossed-p.ensures.above) (FitsProduct-from c.args.a c.args.b f).numer))),
+  λ f. absurd (false≢true
+      (c.in_err-above.ensures.fits.1
+      (rw (words_times _ _ _ c.crossed-p.ensures.left c.crossed-p.ensures.right
+      c.crossed-p.ensures.above) (FitsProduct-from c.args.a c.args.b f).numer))),
 )
 
 pub returns-in_err-below-clause-fits : goal.returns-in_err-below-clause-fits
 returns-in_err-below-clause-fits c = (
   λ ok. refused _ c.from_residual-in_err-below.ensures.0 ok,
-  λ f. absurd (false≢true (c.in_err-below.ensures.fits.1 (rw c.crossed-p.ensures.below (FitsProduct-from c.args.a c.args.b f).below))),
+  λ f. absurd (false≢true
+      (c.in_err-below.ensures.fits.1
+      (rw c.crossed-p.ensures.below (FitsProduct-from c.args.a c.args.b f).below))),
 )
 
 module _ (c : In_ok-below) where
-  numer_is : to_z w128 (of_z w128 c.crossed-p.result.0) *ℤ to_z w128 (of_z w128 c.crossed-p.result.1) ≡ product_numer c.args.a c.args.b
+  numer_is : to_z w128 (of_z w128 c.crossed-p.result.0) *ℤ to_z w128
+      (of_z w128 c.crossed-p.result.1) ≡ product_numer c.args.a c.args.b
   numer_is = words_times _ _ _ c.crossed-p.ensures.left c.crossed-p.ensures.right c.crossed-p.ensures.above
 
   fits : FitsProduct c.args.a c.args.b
-  fits = record { numer = rw numer_is at (c.in_ok-above.ensures.fits.0 refl); below = rw c.crossed-p.ensures.below at (c.in_ok-below.ensures.fits.0 refl) }
+  fits = record {
+    numer = rw numer_is at (c.in_ok-above.ensures.fits.0 refl);
+    below = rw c.crossed-p.ensures.below at (c.in_ok-below.ensures.fits.0 refl);
+  }
 
   p_is : to_z w128 (of_z w128 c.in_ok-above.above) ≡ product_numer c.args.a c.args.b
   p_is = rw (c.in_ok-above.ensures.value ∙ numer_is) (as-is _ fits.numer)

@@ -8,7 +8,10 @@ use Rattle.vipr_frac.proofs.{Steps.gcd-rest, Unreduced.word_abs}
 use Rattle.vipr_frac.proofs.frac.reduced_words.Goals as goal
 
 g_is : (c : After-from-3) → c.word_gcd-g.result ≡ gcd (unsigned_abs c.args.p) c.args.q
-g_is c = c.word_gcd-g.ensures.value ∙ ap (λ n. gcd n c.args.q) c.word_rest.ensures ∙ gcd-rest _ c.args.q ∙ ap (λ n. gcd n c.args.q) (c.unsigned_abs.ensures.value ∙ ap unsigned_abs (to_z-of_z w64 c.args.p c.ranges.p))
+g_is c = c.word_gcd-g.ensures.value ∙ ap (λ n. gcd n c.args.q) c.word_rest.ensures
+    ∙ gcd-rest _ c.args.q
+    ∙ ap (λ n. gcd n c.args.q) (c.unsigned_abs.ensures.value
+    ∙ ap unsigned_abs (to_z-of_z w64 c.args.p c.ranges.p))
 
 quotient-is : (c : After-from-3) → c.from-2.result ≡ (over c.args.p c.args.q).numer
 quotient-is c =
@@ -21,7 +24,8 @@ p_is : (c : After-from-3) → to_z w128 (of_z w128 c.from-2.result) ≡ (over c.
 p_is c = to_z-of_z w128 c.from-2.result (record { sfits = c.from-2.type_inv }) ∙ quotient-is c
 
 q_is : (c : After-from-3) → c.from-3.result ≡ (over c.args.p c.args.q).denom
-q_is c = c.from-3.ensures ∙ c.word_quotient.ensures ∙ ap (λ n. c.args.q / n) (g_is c) ∙ sym (over-parts c.args.p c.args.q c.requires.some).1
+q_is c = c.from-3.ensures ∙ c.word_quotient.ensures ∙ ap (λ n. c.args.q / n) (g_is c)
+    ∙ sym (over-parts c.args.p c.args.q c.requires.some).1
 
 pub of_parts-requires : goal.of_parts-requires
 of_parts-requires c =

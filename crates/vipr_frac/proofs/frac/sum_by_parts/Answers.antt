@@ -37,12 +37,21 @@ module _ (c : After-divided) where
   q_is : c.in_ok-below.below ≡ sum_denom c.args.a c.args.b
   q_is = c.in_ok-below.ensures.value ∙ q_value d
 
-  p_is : to_z w128 (of_z w128 c.divided.result) ≡ int_div (both_parts c.args.a c.args.b) (pos (sum_gcd c.args.a c.args.b))
+  p_is : to_z w128 (of_z w128 c.divided.result) ≡ int_div (both_parts c.args.a c.args.b)
+      (pos (sum_gcd c.args.a c.args.b))
   p_is =
-      to_z-of_z w128 c.divided.result (record { sfits = c.divided.type_inv }) ∙ c.divided.ensures ∙ rw (both_is d, h_is d)
+      to_z-of_z w128 c.divided.result (record { sfits = c.divided.type_inv }) ∙ c.divided.ensures
+      ∙ rw (both_is d, h_is d)
 
   fits : FitsSum c.args.a c.args.b
-  fits = let parts = parts d in record { left = parts.left; right = parts.right; both = parts.both; below = rw (q_value d) at (c.in_ok-below.ensures.fits.0 refl) }
+  fits =
+      let parts = parts d in
+      record {
+        left = parts.left;
+        right = parts.right;
+        both = parts.both;
+        below = rw (q_value d) at (c.in_ok-below.ensures.fits.0 refl);
+      }
 
 pub of_parts-requires : goal.of_parts-requires
 of_parts-requires c = rw (p_is c, q_is c) (IsReduced-sum c.args.a c.args.b (fits c))

@@ -19,10 +19,12 @@ pub returns-then-a-le-WORD-clause-value : goal.returns-then-a-le-WORD-clause-val
 returns-then-a-le-WORD-clause-value c = c.gcd_with_word-then-a-le-WORD.ensures ∙ gcd-swap c.args.b c.args.a
 
 pub returns-then-a-le-WORD-clause-some : goal.returns-then-a-le-WORD-clause-some
-returns-then-a-le-WORD-clause-some c = gcd-some c.args.a c.args.b _ c.requires (c.gcd_with_word-then-a-le-WORD.ensures ∙ gcd-swap c.args.b c.args.a)
+returns-then-a-le-WORD-clause-some c = gcd-some c.args.a c.args.b _ c.requires
+    (c.gcd_with_word-then-a-le-WORD.ensures ∙ gcd-swap c.args.b c.args.a)
 
 pub returns-then-a-le-WORD-clause-at_most : goal.returns-then-a-le-WORD-clause-at_most
-returns-then-a-le-WORD-clause-at_most c = gcd-at_most c.args.a c.args.b _ c.requires (c.gcd_with_word-then-a-le-WORD.ensures ∙ gcd-swap c.args.b c.args.a)
+returns-then-a-le-WORD-clause-at_most c = gcd-at_most c.args.a c.args.b _ c.requires
+    (c.gcd_with_word-then-a-le-WORD.ensures ∙ gcd-swap c.args.b c.args.a)
 
 pub returns-else-a-le-WORD-clause-some : goal.returns-else-a-le-WORD-clause-some
 returns-else-a-le-WORD-clause-some c = gcd-some c.args.a c.args.b _ c.requires c.wide_gcd.ensures

@@ -11,8 +11,11 @@ loop-y-init c = (odd_is w128 c.args.b c.requires.second c.ranges.b.fits, refl)
 pub loop-y-preserved : goal.loop-y-preserved
 loop-y-preserved c =
     let some : 0 < c.loop-y.y = omega arith in
-    let step = halved w128 c.loop-y.x c.loop-y.y some c.loop-y.auto.y-fits.fits c.loop-y.invariant.0 in
-    (ap (λ n. n % 2) c.min-x.ensures ∙ step.0, ap₂ gcd c.min-x.ensures c.abs_diff-y.ensures ∙ step.1 ∙ c.loop-y.invariant.1)
+    let step = halved w128 c.loop-y.x c.loop-y.y some c.loop-y.auto.y-fits.fits c.loop-y.invariant.0 in (
+      ap (λ n. n % 2) c.min-x.ensures ∙ step.0,
+      ap₂ gcd c.min-x.ensures c.abs_diff-y.ensures ∙ step.1
+          ∙ c.loop-y.invariant.1,
+    )
 
 pub returns : goal.returns
 returns c =

@@ -18,7 +18,10 @@ small : (value i : ℕ) → value < 10 ^ i → i ≤ 18 → value < 10 ^ 18
 small value i h k = let p : 10 ^ i ≤ 10 ^ 18 = pow-le-pow_right (zero-lt-suc 9) k in omega arith
 
 below : (value i : ℕ) → value < 10 ^ i → i < 18 → value < 10 ^ 17
-below value i h k = let le : i ≤ 17 = omega arith in let p : 10 ^ i ≤ 10 ^ 17 = pow-le-pow_right (zero-lt-suc 9) le in omega arith
+below value i h k =
+    let le : i ≤ 17 = omega arith in
+    let p : 10 ^ i ≤ 10 ^ 17 = pow-le-pow_right (zero-lt-suc 9) le in
+    omega arith
 
 -- one digit further
 next : (value i j : ℕ) (bs : List ℕ) → i < length bs → i < j → 48 ≤ get_or bs i 0
@@ -30,7 +33,8 @@ next value i j bs within more low high =
     let h : i < length (take j bs) = omega (arith, length-take j bs) in
     let low' : 48 ≤ get_or (take j bs) i 0 = omega arith in
     let high' : get_or (take j bs) i 0 ≤ 57 = omega arith in
-    ap (λ b. natural_after (value * 10 + (b - 48)) (drop (i + 1) (take j bs))) (sym at) ∙ next_digit value i (take j bs) h low' high'
+    ap (λ b. natural_after (value * 10 + (b - 48)) (drop (i + 1) (take j bs))) (sym at)
+    ∙ next_digit value i (take j bs) h low' high'
 
 digit : (b : ℕ) → 48 ≤ b → b ≤ 57 → is_digit b ≡ true
 digit b low high = grind (arith, nat_tests)
@@ -59,13 +63,17 @@ loop-i-preserved c =
       small = omega arith;
       digits = λ k h. elim (cases_lt k i) [
         | inl l ↦ c.loop-i.invariant.digits k l
-        | inr m ↦ let e : k ≡ i = omega arith in subst (λ j. is_digit (get_or bs j 0) ≡ true) (sym e) (digit (get_or bs i 0) d.0 d.1)
+        | inr m ↦ let e : k ≡ i = omega arith in
+            subst (λ j. is_digit (get_or bs j 0) ≡ true) (sym e) (digit (get_or bs i 0) d.0 d.1)
       ];
-      value = λ j h. rw (c.from.ensures, d.2) (next n i j bs within (omega arith) d.0 d.1 ∙ c.loop-i.invariant.value j (omega arith));
+      value = λ j h. rw (c.from.ensures, d.2) (next n i j bs within (omega arith) d.0 d.1
+          ∙ c.loop-i.invariant.value j (omega arith));
     }
 
 pub returns-clause-value : goal.returns-clause-value
-returns-clause-value c = let e : c.min-end.result ≡ c.loop-i.i = omega arith in rw e (reached c.loop-i.value c.loop-i.i c.args.s.now c.loop-i.invariant.value)
+returns-clause-value c =
+    let e : c.min-end.result ≡ c.loop-i.i = omega arith in
+    rw e (reached c.loop-i.value c.loop-i.i c.args.s.now c.loop-i.invariant.value)
 
 pub returns-clause-small : goal.returns-clause-small
 returns-clause-small c = small c.loop-i.value c.loop-i.i c.loop-i.invariant.small (omega arith)

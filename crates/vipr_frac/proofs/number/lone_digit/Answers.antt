@@ -23,4 +23,10 @@ value s d some low high is =
 pub returns-else-digit-gt9 : goal.returns-else-digit-gt9
 returns-else-digit-gt9 c =
     let d = c.digit_of-digit.ensures.digit c.if-digit-gt9.false in
-    record { within = omega arith; digit = digit _ d.0 d.1; value = value c.args.s.now _ (omega arith) d.0 d.1 d.2; small = omega arith; space = omega arith }
+    record {
+      within = omega arith;
+      digit = digit _ d.0 d.1;
+      value = value c.args.s.now _ (omega arith) d.0 d.1 d.2;
+      small = omega arith;
+      space = omega arith;
+    }

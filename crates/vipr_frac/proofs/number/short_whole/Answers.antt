@@ -9,5 +9,8 @@ pub returns-in-Some : goal.returns-in-Some
 returns-in-Some c =
     let small : c.in-Some.n < 10 ^ 18 = c.in-Some.ensures.small in
     let value : to_z w128 (of_z w128 c.with_sign.result) ≡ signed_integer c.args.is_negative c.in-Some.n =
-    to_z-of_z w128 c.with_sign.result (record { sfits = c.with_sign.type_inv }) ∙ c.with_sign.ensures ∙ ap (signed_integer c.args.is_negative) c.from.ensures in
-    ap Ok (c.of_whole.ensures ∙ ap whole value) ∙ sym (plain_number c.args.is_negative c.args.text.now c.in-Some.n (sym c.in-Some.ensures.value) (omega arith))
+    to_z-of_z w128 c.with_sign.result (record { sfits = c.with_sign.type_inv })
+    ∙ c.with_sign.ensures ∙ ap (signed_integer c.args.is_negative) c.from.ensures in
+    ap Ok (c.of_whole.ensures ∙ ap whole value)
+    ∙ sym (plain_number c.args.is_negative c.args.text.now c.in-Some.n
+    (sym c.in-Some.ensures.value) (omega arith))

@@ -9,10 +9,12 @@ g_is : (c : After-word_gcd) → c.word_gcd.result ≡ gcd c.args.q c.args.s
 g_is c = c.word_gcd.ensures.value ∙ gcd-rest c.args.s c.args.q ∙ gcd-swap c.args.s c.args.q
 
 pub common_sum-requires-clause-divides_left : goal.common_sum-requires-clause-divides_left
-common_sum-requires-clause-divides_left c = first_factor c.args.q c.args.s _ (g_is (goal.at.common_sum-requires-clause-divides_left c).After-word_gcd)
+common_sum-requires-clause-divides_left c = first_factor c.args.q c.args.s _
+    (g_is (goal.at.common_sum-requires-clause-divides_left c).After-word_gcd)
 
 pub common_sum-requires-clause-divides_right : goal.common_sum-requires-clause-divides_right
-common_sum-requires-clause-divides_right c = second_factor c.args.q c.args.s _ (g_is (goal.at.common_sum-requires-clause-divides_right c).After-word_gcd)
+common_sum-requires-clause-divides_right c = second_factor c.args.q c.args.s _
+    (g_is (goal.at.common_sum-requires-clause-divides_right c).After-word_gcd)
 
 pub returns-then-rest-eq0-clause-sum : goal.returns-then-rest-eq0-clause-sum
 returns-then-rest-eq0-clause-sum c =

@@ -17,4 +17,8 @@ returns-then-add_word_product c =
 pub returns : goal.returns
 returns c =
     let kept = c.add_word_product.ensures.kept c.if-add_word_product.false in
-    rw (as-is c.args.p c.requires.left.numer_bounded, as-is c.args.r c.requires.right.numer_bounded, kept) at c.add_exact.ensures
+    rw (
+      as-is c.args.p c.requires.left.numer_bounded,
+      as-is c.args.r c.requires.right.numer_bounded,
+      kept,
+    ) at c.add_exact.ensures

@@ -13,7 +13,8 @@ returns-then-is_word c =
     let s = int_wrapping_add w128 p t in
     let same : c.sum.inside.q ≡ c.args.q = omega arith in
     let word : FitsSigned w64 s = c.is_word.ensures.0 c.if-is_word.true in
-    let both = sum_by_equal c.args.sum.now p t s c.sum.inside.q c.args.q c.sum.view_is same c.requires.some c.requires.denom c.sum.invariant.numer_bounded c.requires.numer refl word in
+    let both = sum_by_equal c.args.sum.now p t s c.sum.inside.q c.args.q c.sum.view_is same
+    c.requires.some c.requires.denom c.sum.invariant.numer_bounded c.requires.numer refl word in
     record { fits = λ _. both.0; sum = λ _. ap (over s) same ∙ both.1; kept = search rules }
 
 pub returns-then-sum-eq0 : goal.returns-then-sum-eq0
@@ -25,7 +26,8 @@ returns-then-sum-eq0 c =
     let small : unsigned_abs t ≤ most = le_trans c.requires.numer (lit≤ tt) in
     let given : FitsSigned w64 (to_z w128 (of_z w128 t)) = search rules in
     let word : FitsSigned w64 t = subst (λ z. FitsSigned w64 z) (as-is t small) given in
-    let both = sum_from_zero c.args.sum.now p t c.sum.inside.q c.args.q c.sum.view_is c.sum.invariant.some zero c.requires.some c.requires.denom c.requires.numer word in
+    let both = sum_from_zero c.args.sum.now p t c.sum.inside.q c.args.q c.sum.view_is
+    c.sum.invariant.some zero c.requires.some c.requires.denom c.requires.numer word in
     record {
       fits = λ _. both.0;
       sum = λ _. rw (as-is t small, c.from-then-sum-eq0.ensures) both.1;

@@ -9,12 +9,14 @@ returns-then-s-eq1 c =
     let times : c.args.q ≡ c.args.q * c.args.s = rw c.if-s-eq1.true (omega arith) in
     let h = c.raised_sum-then-s-eq1.ensures.value c.args.s c.requires.right.some times in
     let sum = rw (to_z-of_z w64 c.args.p c.ranges.p, to_z-of_z w64 c.args.r c.ranges.r) at h in
-    let both = put_value c.raised_sum-then-s-eq1.result c.put-then-s-eq1.result _ _ _ c.put-then-s-eq1.ensures (turned _ (over c.args.p c.args.q) (over c.args.r c.args.s) sum) in
+    let both = put_value c.raised_sum-then-s-eq1.result c.put-then-s-eq1.result _ _ _
+    c.put-then-s-eq1.ensures (turned _ (over c.args.p c.args.q) (over c.args.r c.args.s) sum) in
     record { sum = both.0; kept = both.1 }
 
 pub returns-else-q-s : goal.returns-else-q-s
 returns-else-q-s c =
-    let h = rw (to_z-of_z w64 c.args.p c.ranges.p, to_z-of_z w64 c.args.r c.ranges.r) at c.put_mixed-else-q-s.ensures.sum in
+    let h = rw (to_z-of_z w64 c.args.p c.ranges.p, to_z-of_z w64 c.args.r c.ranges.r) at
+    c.put_mixed-else-q-s.ensures.sum in
     record {
       sum = λ t. h t ∙ sum-swap (over c.args.r c.args.s) (over c.args.p c.args.q);
       kept = c.put_mixed-else-q-s.ensures.kept;

@@ -32,7 +32,10 @@ returns-clause-product c =
     let b = facts (over c.args.r c.args.s) c.args.r c.args.s refl c.requires.right in
     let p_fits : FitsSigned w64 c.in_ok-p.p = search rules in
     let r_fits : FitsSigned w64 c.in_ok-r.r = search rules in
-    let p_is : c.in_ok-p.p ≡ (over c.args.p c.args.q).numer = c.in_ok-p.ensures.1 ∙ to_z-of_z w128 c.args.p c.ranges.p ∙ a.numer in
-    let r_is : c.in_ok-r.r ≡ (over c.args.r c.args.s).numer = c.in_ok-r.ensures.1 ∙ to_z-of_z w128 c.args.r c.ranges.r ∙ b.numer in
+    let p_is : c.in_ok-p.p ≡ (over c.args.p c.args.q).numer = c.in_ok-p.ensures.1
+    ∙ to_z-of_z w128 c.args.p c.ranges.p ∙ a.numer in
+    let r_is : c.in_ok-r.r ≡ (over c.args.r c.args.s).numer = c.in_ok-r.ensures.1
+    ∙ to_z-of_z w128 c.args.r c.ranges.r ∙ b.numer in
     let h = rw (to_z-of_z w64 c.in_ok-p.p p_fits, to_z-of_z w64 c.in_ok-r.r r_fits) at c.pair_product.ensures in
-    product_of _ _ c.in_ok-p.p c.in_ok-r.r c.in_ok-p.q c.in_ok-r.s c.pair_product.result p_is (c.in_ok-p.ensures.2 ∙ a.denom) r_is (c.in_ok-r.ensures.2 ∙ b.denom) h
+    product_of _ _ c.in_ok-p.p c.in_ok-r.r c.in_ok-p.q c.in_ok-r.s c.pair_product.result p_is
+    (c.in_ok-p.ensures.2 ∙ a.denom) r_is (c.in_ok-r.ensures.2 ∙ b.denom) h

@@ -11,15 +11,18 @@ loop-place-preserved c =
     let within : get_or c.args.places.now i 0 < length c.args.sums.now = c.requires i 0 c.loop-place-test.true in
     elim c.if-not-is_zero.branch [
       | then-not-is_zero w ↦
-          let some : c.index-sums-place.result ≢ zero_ℚ = λ z. false≢true (sym w.if-not-is_zero.true ∙ c.is_zero.ensures.1 z) in
-          let more = counted c.args.sums.now c.args.places.now i c.index-sums-place.result c.loop-place-test.true within c.index-sums-place.is some in
+          let some : c.index-sums-place.result ≢ zero_ℚ =
+          λ z. false≢true (sym w.if-not-is_zero.true ∙ c.is_zero.ensures.1 z) in
+          let more = counted c.args.sums.now c.args.places.now i c.index-sums-place.result
+          c.loop-place-test.true within c.index-sums-place.is some in
           record {
             within = omega (arith, w.count-is, c.loop-place.invariant.within);
             count = omega (arith, w.count-is, c.loop-place.invariant.count, more);
           }
       | else-not-is_zero w ↦
           let zero : c.index-sums-place.result ≡ zero_ℚ = c.is_zero.ensures.0 w.if-not-is_zero.false in
-          let same = passed c.args.sums.now c.args.places.now i c.index-sums-place.result c.loop-place-test.true within c.index-sums-place.is zero in
+          let same = passed c.args.sums.now c.args.places.now i c.index-sums-place.result
+          c.loop-place-test.true within c.index-sums-place.is zero in
           record {
             within = omega (arith, w.count-is, c.loop-place.invariant.within);
             count = omega (arith, w.count-is, c.loop-place.invariant.count, same);

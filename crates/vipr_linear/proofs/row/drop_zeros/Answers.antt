@@ -6,4 +6,5 @@ pub returns-clause-kept : goal.returns-clause-kept
 returns-clause-kept c = filter_same _ is_nonzero _ (λ x r f' k. search rules) _ _ c.retain.ensures.filtered
 
 pub returns-clause-bounded : goal.returns-clause-bounded
-returns-clause-bounded c = All-from_retain _ (λ (p : ℕ × ℚ). IsBounded p.1) _ (λ x r f' k. search rules) _ _ c.retain.ensures.filtered
+returns-clause-bounded c = All-from_retain _ (λ (p : ℕ × ℚ). IsBounded p.1) _
+    (λ x r f' k. search rules) _ _ c.retain.ensures.filtered

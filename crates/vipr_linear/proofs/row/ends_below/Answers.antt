@@ -7,6 +7,7 @@ pub returns : goal.returns
 returns c =
     let some : 0 < length c.args.entries.now = grind (arith, nat_tests) in
     let last = c.index-entries-entries.result in (
-      λ t. ends_greatest 0 c.args.entries.now c.args.n (length c.args.entries.now - 1) last c.requires (omega arith) (grind (arith, nat_tests)),
+      λ t. ends_greatest 0 c.args.entries.now c.args.n (length c.args.entries.now - 1) last
+          c.requires (omega arith) (grind (arith, nat_tests)),
       λ all. let less = all (length c.args.entries.now - 1) last (omega arith) in grind (arith, nat_tests),
     )

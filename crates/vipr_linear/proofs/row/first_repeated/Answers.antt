@@ -10,13 +10,18 @@ loop-pair-init c = record { distinct = nothing_distinct; seen = λ q. grind (ari
 
 pub loop-pair-preserved : goal.loop-pair-preserved
 loop-pair-preserved c =
-    let new : list_any (nat_eq c.pair-item.result.0) (take c.loop-pair.pair-index (variables_of c.args.pairs.now)) ≡ false = grind (arith, c.loop-pair.invariant.seen c.pair-item.result.0) in
+    let new : list_any (nat_eq c.pair-item.result.0)
+    (take c.loop-pair.pair-index (variables_of c.args.pairs.now)) ≡ false =
+    grind (arith, c.loop-pair.invariant.seen c.pair-item.result.0) in
     record {
       distinct = distinct_more _ _ c.pair-item.result (omega arith) c.pair-item.is c.loop-pair.invariant.distinct new;
-      seen = λ q. seen_more _ _ c.pair-item.result (omega arith) c.pair-item.is q _ _ (c.loop-pair.invariant.seen q) (c.in_ok-insert.ensures.updates.0 q);
+      seen = λ q. seen_more _ _ c.pair-item.result (omega arith) c.pair-item.is q _ _
+          (c.loop-pair.invariant.seen q) (c.in_ok-insert.ensures.updates.0 q);
     }
 
 pub returns-then-not-branch : goal.returns-then-not-branch
 returns-then-not-branch c =
-    let old : list_any (nat_eq c.pair-item.result.0) (take c.loop-pair.pair-index (variables_of c.args.pairs.now)) ≡ true = grind (arith, c.loop-pair.invariant.seen c.pair-item.result.0) in
+    let old : list_any (nat_eq c.pair-item.result.0)
+    (take c.loop-pair.pair-index (variables_of c.args.pairs.now)) ≡ true =
+    grind (arith, c.loop-pair.invariant.seen c.pair-item.result.0) in
     first_repeated_at _ _ c.pair-item.result (omega arith) c.pair-item.is c.loop-pair.invariant.distinct old

@@ -6,4 +6,7 @@ pub loop-i-preserved : goal.loop-i-preserved
 loop-i-preserved c = rises_more _ c.loop-i.i _ _ (omega arith) (omega arith) c.if-pairs-i.false c.loop-i.invariant
 
 pub returns-then-pairs-i : goal.returns-then-pairs-i
-returns-then-pairs-i c = (λ t. absurd (false≢true t), λ r. absurd (falls_at _ c.loop-i.i _ _ (omega arith) (omega arith) c.if-pairs-i.true r))
+returns-then-pairs-i c = (
+  λ t. absurd (false≢true t),
+  λ r. absurd (falls_at _ c.loop-i.i _ _ (omega arith) (omega arith) c.if-pairs-i.true r),
+)

@@ -8,4 +8,6 @@ returns-clause-fits c n names =
     (λ o. f.0 (c.sum_of_values.ensures.fits.0 o), λ h. c.sum_of_values.ensures.fits.1 (f.1 h))
 
 pub returns-clause-value : goal.returns-clause-value
-returns-clause-value c n names = if_ok _ _ c.sum_of_values.result (row_value c.args.row.now (at c.args.solution.now.0) n c.sum_of_values.ensures.rising names) c.sum_of_values.ensures.value
+returns-clause-value c n names = if_ok _ _ c.sum_of_values.result
+    (row_value c.args.row.now (at c.args.solution.now.0) n c.sum_of_values.ensures.rising names)
+    c.sum_of_values.ensures.value

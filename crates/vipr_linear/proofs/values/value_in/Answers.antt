@@ -8,25 +8,49 @@ use Rattle.vipr_linear.proofs.values.value_in.Goals as goal
 pub returns-in_err-product-clause-fits : goal.returns-in_err-product-clause-fits
 returns-in_err-product-clause-fits c = (
   λ o. absurd (not_both _ c.from_residual.ensures.0 o),
-  λ h. absurd (product_refused _ c.loop-variable.value (point_of c.args.places.now) _ c.loop-variable.variable-index c.loop-variable-item.result c.loop-variable-test.true c.loop-variable-item.is c.loop-variable.invariant.fits c.coordinate.result zero_ℚ c.coordinate.ensures c.in_err-product.ensures.fits.1 (rw c.entries-variable-items.ensures.list h)),
+  λ h. absurd (product_refused _ c.loop-variable.value (point_of c.args.places.now) _
+      c.loop-variable.variable-index c.loop-variable-item.result c.loop-variable-test.true
+      c.loop-variable-item.is c.loop-variable.invariant.fits c.coordinate.result zero_ℚ
+      c.coordinate.ensures c.in_err-product.ensures.fits.1
+      (rw c.entries-variable-items.ensures.list h)),
 )
 
 pub returns-in_err-value-clause-fits : goal.returns-in_err-value-clause-fits
 returns-in_err-value-clause-fits c = (
   λ o. absurd (not_both _ c.from_residual-in_err-value.ensures.0 o),
-  λ h. absurd (sum_refused _ c.loop-variable.value (point_of c.args.places.now) _ c.loop-variable.variable-index c.loop-variable-item.result c.loop-variable-test.true c.loop-variable-item.is c.loop-variable.invariant.fits c.coordinate.result c.in_ok-product.product c.coordinate.ensures c.in_ok-product.ensures.value c.in_err-value.ensures.fits.1 (rw c.entries-variable-items.ensures.list h)),
+  λ h. absurd (sum_refused _ c.loop-variable.value (point_of c.args.places.now) _
+      c.loop-variable.variable-index c.loop-variable-item.result c.loop-variable-test.true
+      c.loop-variable-item.is c.loop-variable.invariant.fits c.coordinate.result
+      c.in_ok-product.product c.coordinate.ensures c.in_ok-product.ensures.value
+      c.in_err-value.ensures.fits.1 (rw c.entries-variable-items.ensures.list h)),
 )
 
 pub loop-variable-preserved : goal.loop-variable-preserved
 loop-variable-preserved c = record {
-  fits = fits_on _ c.loop-variable.value (point_of c.args.places.now) _ c.loop-variable.variable-index c.loop-variable-item.result c.loop-variable-test.true c.loop-variable-item.is c.loop-variable.invariant.fits c.coordinate.result c.in_ok-product.product c.coordinate.ensures c.in_ok-product.ensures.value _ c.in_ok-value.ensures.value (c.in_ok-product.ensures.fits.0 refl) (c.in_ok-value.ensures.fits.0 refl);
-  sum = value_on _ c.loop-variable.value (point_of c.args.places.now) _ c.loop-variable.variable-index c.loop-variable-item.result c.loop-variable-test.true c.loop-variable-item.is c.loop-variable.invariant.fits c.coordinate.result c.in_ok-product.product c.coordinate.ensures c.in_ok-product.ensures.value _ c.in_ok-value.ensures.value ∙ c.loop-variable.invariant.sum;
+  fits = fits_on _ c.loop-variable.value (point_of c.args.places.now) _
+      c.loop-variable.variable-index c.loop-variable-item.result c.loop-variable-test.true
+      c.loop-variable-item.is c.loop-variable.invariant.fits c.coordinate.result
+      c.in_ok-product.product c.coordinate.ensures c.in_ok-product.ensures.value _
+      c.in_ok-value.ensures.value (c.in_ok-product.ensures.fits.0 refl)
+      (c.in_ok-value.ensures.fits.0 refl);
+  sum = value_on _ c.loop-variable.value (point_of c.args.places.now) _
+      c.loop-variable.variable-index c.loop-variable-item.result c.loop-variable-test.true
+      c.loop-variable-item.is c.loop-variable.invariant.fits c.coordinate.result
+      c.in_ok-product.product c.coordinate.ensures c.in_ok-product.ensures.value _
+      c.in_ok-value.ensures.value ∙ c.loop-variable.invariant.sum;
 }
 
 pub returns-clause-fits : goal.returns-clause-fits
-returns-clause-fits c = (λ o. subst (λ es. ValuesFit zero_ℚ es (point_of c.args.places.now)) c.entries-variable-items.ensures.list (c.loop-variable.invariant.fits.1 (all_fit _ _ _ c.loop-variable.variable-index c.loop-variable-test.false)), λ h. refl)
+returns-clause-fits c = (
+  λ o. subst (λ es. ValuesFit zero_ℚ es (point_of c.args.places.now))
+      c.entries-variable-items.ensures.list
+      (c.loop-variable.invariant.fits.1
+      (all_fit _ _ _ c.loop-variable.variable-index c.loop-variable-test.false)),
+  λ h. refl,
+)
 
 pub returns-clause-value : goal.returns-clause-value
 returns-clause-value c =
-    sym (no_more _ (point_of c.args.places.now) _ c.loop-variable.variable-index c.loop-variable-test.false) ∙ c.loop-variable.invariant.sum
+    sym (no_more _ (point_of c.args.places.now) _ c.loop-variable.variable-index
+    c.loop-variable-test.false) ∙ c.loop-variable.invariant.sum
     ∙ ap (λ es. with_values zero_ℚ es (point_of c.args.places.now)) c.entries-variable-items.ensures.list

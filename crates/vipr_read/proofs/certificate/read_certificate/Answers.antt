@@ -12,18 +12,23 @@ returns-in-Ok-clause-spelled g c =
     let source = g.R.Source.input c.args.source in
     let x : Result Certificate TextError = Ok c.in-Ok.certificate in
     let read : IfKnown source (λ i. IsRead (λ d. d) x (certificate_read (text_of i))) = search rules in
-    whole_by source (λ i. IsRead (λ d. d) x (certificate_read (text_of i))) (λ bytes. IfOk x (λ d. Spells bytes d)) (λ i h e. spelled_by i x h e) read
+    whole_by source (λ i. IsRead (λ d. d) x (certificate_read (text_of i)))
+    (λ bytes. IfOk x (λ d. Spells bytes d)) (λ i h e. spelled_by i x h e) read
 
 pub returns-in-Ok-clause-only : goal.returns-in-Ok-clause-only
 returns-in-Ok-clause-only g c =
     let source = g.R.Source.input c.args.source in
     let x : Result Certificate TextError = Ok c.in-Ok.certificate in
     let read : IfKnown source (λ i. IsRead (λ d. d) x (certificate_read (text_of i))) = search rules in
-    whole_by source (λ i. IsRead (λ d. d) x (certificate_read (text_of i))) (λ bytes. (d : Certificate) → Spells bytes d → (x ≡ Ok d) ⊎ (x ≡ Err Memory)) (λ i h e. only_by i x h e) read
+    whole_by source (λ i. IsRead (λ d. d) x (certificate_read (text_of i)))
+    (λ bytes. (d : Certificate) → Spells bytes d → (x ≡ Ok d) ⊎ (x ≡ Err Memory))
+    (λ i h e. only_by i x h e) read
 
 pub returns-in-Err-clause-only : goal.returns-in-Err-clause-only
 returns-in-Err-clause-only g c =
     let source = g.R.Source.input c.args.source in
     let x : Result Certificate TextError = Err c.from.result in
     let read : IfKnown source (λ i. IsRead (λ d. d) x (certificate_read (text_of i))) = search rules in
-    whole_by source (λ i. IsRead (λ d. d) x (certificate_read (text_of i))) (λ bytes. (d : Certificate) → Spells bytes d → (x ≡ Ok d) ⊎ (x ≡ Err Memory)) (λ i h e. only_by i x h e) read
+    whole_by source (λ i. IsRead (λ d. d) x (certificate_read (text_of i)))
+    (λ bytes. (d : Certificate) → Spells bytes d → (x ≡ Ok d) ⊎ (x ≡ Err Memory))
+    (λ i h e. only_by i x h e) read

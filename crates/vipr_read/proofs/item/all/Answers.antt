@@ -14,8 +14,11 @@ returns-in_err-next-clause-read g c p variables objective =
     rw (q.1, q.2) (
       kept_on _ _ _ c.loop.invariant.kept r.0,
       λ known.
-          ends item c.in_err-next.field-0.0 (map g.I.ItemKind.view c.loop.items.items) c.args.count c.loop.counter (rest_of c.loop.parser.rest)
-          (read_each item c.args.count (rest_of c.args.parser.now.rest)) c.loop-test.true (r.1 (c.loop.invariant.known known p variables objective)) (c.loop.invariant.read known p variables objective),
+          ends item c.in_err-next.field-0.0 (map g.I.ItemKind.view c.loop.items.items) c.args.count
+          c.loop.counter (rest_of c.loop.parser.rest)
+          (read_each item c.args.count (rest_of c.args.parser.now.rest)) c.loop-test.true
+          (r.1 (c.loop.invariant.known known p variables objective))
+          (c.loop.invariant.read known p variables objective),
     )
 
 pub loop-preserved : goal.loop-preserved
@@ -29,23 +32,33 @@ loop-preserved g c =
     record {
       kept = kept_on _ _ _ c.loop.invariant.kept c.in_ok-next.ensures.kept;
       so_many = rw pushed (omega (arith, length-append c.loop.items.items (x ∷ []), c.loop.invariant.so_many));
-      shape = rw (pushed, more) (All-push (g.I.ItemKind.shape n) (map view c.loop.items.items) (view x) c.loop.invariant.shape fits);
-      fits = rw (pushed, more) (All-push g.I.ItemKind.fits (map view c.loop.items.items) (view x) c.loop.invariant.fits c.in_ok-next.ensures.item.1);
+      shape = rw (pushed, more)
+          (All-push (g.I.ItemKind.shape n) (map view c.loop.items.items)
+          (view x) c.loop.invariant.shape fits);
+      fits = rw (pushed, more)
+          (All-push g.I.ItemKind.fits (map view c.loop.items.items) (view x) c.loop.invariant.fits
+          c.in_ok-next.ensures.item.1);
       known = λ known p variables objective.
-          ((c.in_ok-next.ensures.read p (c.loop.invariant.kept.variables ∙ variables) objective).1 (c.loop.invariant.known known p variables objective)).1;
+          ((c.in_ok-next.ensures.read p (c.loop.invariant.kept.variables ∙ variables) objective).1
+          (c.loop.invariant.known known p variables objective)).1;
       read = λ known p variables objective.
           let item = g.I.ItemKind.reading p in
-          let r = (c.in_ok-next.ensures.read p (c.loop.invariant.kept.variables ∙ variables) objective).1 (c.loop.invariant.known known p variables objective) in
-          rw (pushed, more) (goes_on item (map view c.loop.items.items) c.args.count c.loop.counter (rest_of c.loop.parser.rest) (rest_of c.parse.new.parser.rest) (view x)
-          (read_each item c.args.count (rest_of c.args.parser.now.rest)) c.loop-test.true r.0 (c.loop.invariant.read known p variables objective));
+          let r = (c.in_ok-next.ensures.read p (c.loop.invariant.kept.variables ∙ variables)
+          objective).1 (c.loop.invariant.known known p variables objective) in
+          rw (pushed, more) (goes_on item (map view c.loop.items.items) c.args.count c.loop.counter
+          (rest_of c.loop.parser.rest) (rest_of c.parse.new.parser.rest) (view x)
+          (read_each item c.args.count (rest_of c.args.parser.now.rest)) c.loop-test.true r.0
+          (c.loop.invariant.read known p variables objective));
     }
 
 pub returns-clause-read : goal.returns-clause-read
 returns-clause-read g c p variables objective = (
   c.loop.invariant.kept,
   λ known. (
-    is_done (g.I.ItemKind.reading p) (map g.I.ItemKind.view c.loop.items.items) c.args.count c.loop.counter (rest_of c.loop.parser.rest)
-        (read_each (g.I.ItemKind.reading p) c.args.count (rest_of c.args.parser.now.rest)) (omega arith) (c.loop.invariant.read known p variables objective),
+    is_done (g.I.ItemKind.reading p) (map g.I.ItemKind.view c.loop.items.items) c.args.count
+        c.loop.counter (rest_of c.loop.parser.rest)
+        (read_each (g.I.ItemKind.reading p) c.args.count (rest_of c.args.parser.now.rest))
+        (omega arith) (c.loop.invariant.read known p variables objective),
     c.loop.invariant.known known p variables objective,
   ),
 )

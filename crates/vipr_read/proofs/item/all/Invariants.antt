@@ -12,7 +12,11 @@ invariant-loop g l = record {
   so_many : length l.items.items ≡ l.counter;
   shape : All (g.I.ItemKind.shape l.initial.parser.variables) (map g.I.ItemKind.view l.items.items);
   fits : All g.I.ItemKind.fits (map g.I.ItemKind.view l.items.items);
-  known : IsSome l.initial.parser.rest → (p : Problem) → l.initial.parser.variables ≡ variables_in p → l.objective ≡ p.objective → IsSome l.parser.rest;
-  read : IsSome l.initial.parser.rest → (p : Problem) → l.initial.parser.variables ≡ variables_in p → l.objective ≡ p.objective →
-      with_front (map g.I.ItemKind.view l.items.items) (read_each (g.I.ItemKind.reading p) (l.count - l.counter) (rest_of l.parser.rest)) ≡ read_each (g.I.ItemKind.reading p) l.count (rest_of l.initial.parser.rest);
+  known : IsSome l.initial.parser.rest → (p : Problem) → l.initial.parser.variables ≡ variables_in p
+      → l.objective ≡ p.objective → IsSome l.parser.rest;
+  read : IsSome l.initial.parser.rest → (p : Problem) → l.initial.parser.variables ≡ variables_in p
+      → l.objective ≡ p.objective →
+      with_front (map g.I.ItemKind.view l.items.items)
+      (read_each (g.I.ItemKind.reading p) (l.count - l.counter) (rest_of l.parser.rest)) ≡
+      read_each (g.I.ItemKind.reading p) l.count (rest_of l.initial.parser.rest);
 }

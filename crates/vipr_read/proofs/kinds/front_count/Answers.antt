@@ -10,7 +10,8 @@ unfolding is_white
 lone_token s d h = record {
   some = omega arith;
   within = h.within;
-  solid = λ k l. let first : k ≡ 0 = omega arith in subst (λ j. is_white (get_or s j 0) ≡ false) (sym first) (digit_solid (get_or s 0 0) h.digit);
+  solid = λ k l. let first : k ≡ 0 = omega arith in
+      subst (λ j. is_white (get_or s j 0) ≡ false) (sym first) (digit_solid (get_or s 0 0) h.digit);
   white = rw h.space refl;
 }
 
@@ -20,4 +21,6 @@ returns-in-Some-clause-token c = lone_token c.args.bytes.now c.in-Some.digit c.i
 pub returns-in-Some-clause-value : goal.returns-in-Some-clause-value
 returns-in-Some-clause-value c =
     let within = c.in-Some.ensures.within in
-    rw c.from.ensures (front_number 1 c.in-Some.digit c.args.bytes.now (omega arith) (omega arith) c.in-Some.ensures.value)
+    rw c.from.ensures
+    (front_number 1 c.in-Some.digit c.args.bytes.now (omega arith)
+    (omega arith) c.in-Some.ensures.value)

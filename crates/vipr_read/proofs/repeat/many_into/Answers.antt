@@ -14,8 +14,10 @@ returns-in_err-next-clause-read g c =
     rw (p.1, p.2) (
       kept_on _ _ _ c.loop.invariant.kept c.in_err-next.ensures.read.0,
       λ known.
-          ends item c.in_err-next.field-0.0 (map g.P.Part.view c.loop.parts.items) c.args.count c.loop.counter (rest_of c.loop.parser.rest)
-          (read_each item c.args.count (rest_of c.args.parser.now.rest)) c.loop-test.true (r.1 (c.loop.invariant.known known)) (c.loop.invariant.read known),
+          ends item c.in_err-next.field-0.0 (map g.P.Part.view c.loop.parts.items) c.args.count
+          c.loop.counter (rest_of c.loop.parser.rest)
+          (read_each item c.args.count (rest_of c.args.parser.now.rest)) c.loop-test.true
+          (r.1 (c.loop.invariant.known known)) (c.loop.invariant.read known),
     )
 
 pub loop-preserved : goal.loop-preserved
@@ -27,19 +29,28 @@ loop-preserved g c =
     record {
       kept = kept_on _ _ _ c.loop.invariant.kept c.in_ok-next.ensures.read.0;
       so_many = rw pushed (omega (arith, length-append c.loop.parts.items (x ∷ []), c.loop.invariant.so_many));
-      shape = rw pushed (All-push (g.P.Part.shape c.args.part.now c.args.parser.now.variables) c.loop.parts.items x c.loop.invariant.shape (rw c.loop.invariant.kept.variables at c.in_ok-next.ensures.shape));
+      shape = rw pushed
+          (All-push (g.P.Part.shape c.args.part.now c.args.parser.now.variables) c.loop.parts.items
+          x c.loop.invariant.shape
+          (rw c.loop.invariant.kept.variables at c.in_ok-next.ensures.shape));
       known = λ known. (r.1 (c.loop.invariant.known known)).1;
       read = λ known.
-          rw (pushed, map_push g.P.Part.view c.loop.parts.items x) (goes_on item (map g.P.Part.view c.loop.parts.items) c.args.count c.loop.counter (rest_of c.loop.parser.rest) (rest_of c.parse.new.parser.rest) (g.P.Part.view x)
-          (read_each item c.args.count (rest_of c.args.parser.now.rest)) c.loop-test.true (r.1 (c.loop.invariant.known known)).0 (c.loop.invariant.read known));
+          rw (pushed, map_push g.P.Part.view c.loop.parts.items x)
+          (goes_on item (map g.P.Part.view c.loop.parts.items) c.args.count c.loop.counter
+          (rest_of c.loop.parser.rest) (rest_of c.parse.new.parser.rest) (g.P.Part.view x)
+          (read_each item c.args.count (rest_of c.args.parser.now.rest)) c.loop-test.true
+          (r.1 (c.loop.invariant.known known)).0 (c.loop.invariant.read known));
     }
 
 pub returns-clause-read : goal.returns-clause-read
 returns-clause-read g c = (
   c.loop.invariant.kept,
   λ known. (
-    is_done (g.P.Part.reading c.args.part.now c.args.parser.now.variables) (map g.P.Part.view c.loop.parts.items) c.args.count c.loop.counter (rest_of c.loop.parser.rest)
-        (read_each (g.P.Part.reading c.args.part.now c.args.parser.now.variables) c.args.count (rest_of c.args.parser.now.rest)) (omega arith) (c.loop.invariant.read known),
+    is_done (g.P.Part.reading c.args.part.now c.args.parser.now.variables)
+        (map g.P.Part.view c.loop.parts.items) c.args.count c.loop.counter
+        (rest_of c.loop.parser.rest)
+        (read_each (g.P.Part.reading c.args.part.now c.args.parser.now.variables) c.args.count
+        (rest_of c.args.parser.now.rest)) (omega arith) (c.loop.invariant.read known),
     c.loop.invariant.known known,
   ),
 )

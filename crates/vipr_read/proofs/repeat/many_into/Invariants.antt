@@ -12,5 +12,8 @@ invariant-loop g l = record {
   shape : All (g.P.Part.shape l.part l.initial.parser.variables) l.parts.items;
   known : IsSome l.initial.parser.rest → IsSome l.parser.rest;
   read : IsSome l.initial.parser.rest →
-      with_front (map g.P.Part.view l.parts.items) (read_each (g.P.Part.reading l.part l.initial.parser.variables) (l.count - l.counter) (rest_of l.parser.rest)) ≡ read_each (g.P.Part.reading l.part l.initial.parser.variables) l.count (rest_of l.initial.parser.rest);
+      with_front (map g.P.Part.view l.parts.items)
+      (read_each (g.P.Part.reading l.part l.initial.parser.variables) (l.count - l.counter)
+      (rest_of l.parser.rest)) ≡ read_each (g.P.Part.reading l.part l.initial.parser.variables)
+      l.count (rest_of l.initial.parser.rest);
 }

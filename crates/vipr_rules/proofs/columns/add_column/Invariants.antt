@@ -6,6 +6,9 @@ use Rattle.vipr_rules.proofs.columns.add_column.Given as goal
 
 abbrev pub invariant-loop-index : goal.invariant-loop-index
 invariant-loop-index l = record {
-  sums : (o : Row) (j : ℕ) (x : Point) → ArePlaces o (given_of l.cons) (length l.initial.sums) j l.places → x j ≡ l.coordinate → AreSums o (given_of l.cons) x j l.initial.sums → AreHalfSums o (given_of l.cons) x j l.places l.index-index l.sums;
+  sums : (o : Row) (j : ℕ) (x : Point)
+      → ArePlaces o (given_of l.cons) (length l.initial.sums) j l.places → x j ≡ l.coordinate
+      → AreSums o (given_of l.cons) x j l.initial.sums
+      → AreHalfSums o (given_of l.cons) x j l.places l.index-index l.sums;
   constraints : length l.sums ≡ length l.initial.sums;
 }

@@ -8,5 +8,6 @@ pub returns : goal.returns
 returns c = λ _ i some.
     let at = c.touched-index-items.ensures.nonzero i some in
     let place = sym (get_or_default c.touched-index-items.result.now at.0 0 i at.1) in
-    subst (λ k. Compares (nth (given_of c.args.cons.now) k).sense (get_or c.args.sums.now k zero_ℚ) (nth (given_of c.args.cons.now) k).bound) (sym place ∙ at.2)
+    subst (λ k. Compares (nth (given_of c.args.cons.now) k).sense (get_or c.args.sums.now k zero_ℚ)
+    (nth (given_of c.args.cons.now) k).bound) (sym place ∙ at.2)
     (c.loop-index.invariant at.0 (let l = at.1 in let past = c.loop-index-test.false in omega (arith, l, past)))

@@ -13,7 +13,10 @@ pub returns-in_err-test_integers-clause-tested : goal.returns-in_err-test_intege
 returns-in_err-test_integers-clause-tested c =
     let p = c.args.p.now in
     let q = err_from_is_err_and c.from_residual.result c.from_residual.ensures.1 in
-    rw (q.1, q.2) (integers_fail p c.args.solution.now.0 _ (c.in_err-test_integers.ensures p (sym c.ints.ensures.integers) c.objective-objective.ensures.writes.shape.integers))
+    rw (q.1, q.2)
+    (integers_fail p c.args.solution.now.0 _
+    (c.in_err-test_integers.ensures p (sym c.ints.ensures.integers)
+    c.objective-objective.ensures.writes.shape.integers))
 
 -- the objective's value at the solution, once that is laid out
 module _ (c : After-laid_value-value) where
@@ -30,23 +33,40 @@ module _ (c : After-laid_value-value) where
   is =
       let known = c.objective-objective.ensures in
       let below = objective_below p c.objective-objective.result.now known.objective known.writes in
-      subst (λ r. IsValueOf (variables p) (at r) (at s) c.laid_value-value.result) known.objective (c.laid_value-value.ensures (variables p) (at s) columns_for below)
+      subst (λ r. IsValueOf (variables p) (at r) (at s) c.laid_value-value.result) known.objective
+      (c.laid_value-value.ensures (variables p) (at s) columns_for below)
 
 pub returns-in_err-test_constraints-clause-tested :
     goal.returns-in_err-test_constraints-clause-tested
 returns-in_err-test_constraints-clause-tested c =
     let k = (goal.at.returns-in_err-test_constraints-clause-tested c).After-laid_value-value in
-    let q = err_from_is_err_and c.from_residual-in_err-test_constraints.result c.from_residual-in_err-test_constraints.ensures.1 in
-    rw (q.1, q.2) (constraints_fail (p k) (s k) _ (c.in_ok-test_integers.ensures (p k) (sym c.ints.ensures.integers) c.objective-objective.ensures.writes.shape.integers) (c.in_err-test_constraints.ensures (s k) (columns_for k) (is k)))
+    let q = err_from_is_err_and c.from_residual-in_err-test_constraints.result
+    c.from_residual-in_err-test_constraints.ensures.1 in
+    rw (q.1, q.2)
+    (constraints_fail (p k) (s k) _
+    (c.in_ok-test_integers.ensures (p k) (sym c.ints.ensures.integers)
+    c.objective-objective.ensures.writes.shape.integers)
+    (c.in_err-test_constraints.ensures (s k) (columns_for k) (is k)))
 
 pub returns-in-Some-clause-tested : goal.returns-in-Some-clause-tested
 returns-in-Some-clause-tested c =
     let k = (goal.at.returns-in-Some-clause-tested c).After-laid_value-value in
-    let good = subst (IsValueOf (variables (p k)) (at (p k).objective) (at (s k))) c.in-Some.is (is k) in
-    (objective_last (p k) (s k) None (c.in_ok-test_integers.ensures (p k) (sym c.ints.ensures.integers) c.objective-objective.ensures.writes.shape.integers) (c.in_ok-test_constraints.ensures (s k) (columns_for k) (is k)) (inl (good.0, refl)), good.1)
+    let good = subst (IsValueOf (variables (p k)) (at (p k).objective) (at (s k))) c.in-Some.is (is k) in (
+      objective_last (p k) (s k) None
+          (c.in_ok-test_integers.ensures (p k) (sym c.ints.ensures.integers)
+          c.objective-objective.ensures.writes.shape.integers)
+          (c.in_ok-test_constraints.ensures (s k) (columns_for k) (is k)) (inl (good.0, refl)),
+      good.1,
+    )
 
 pub returns-in-None-clause-tested : goal.returns-in-None-clause-tested
 returns-in-None-clause-tested c =
     let k = (goal.at.returns-in-None-clause-tested c).After-laid_value-value in
-    let bad : ¬ ValueFits (variables (p k)) (at (p k).objective) (at (s k)) = subst (IsValueOf (variables (p k)) (at (p k).objective) (at (s k))) c.in-None.is (is k) in
-    (objective_last (p k) (s k) (Some objective_fits) (c.in_ok-test_integers.ensures (p k) (sym c.ints.ensures.integers) c.objective-objective.ensures.writes.shape.integers) (c.in_ok-test_constraints.ensures (s k) (columns_for k) (is k)) (inr (bad, refl)), λ name. refl)
+    let bad : ¬ ValueFits (variables (p k)) (at (p k).objective) (at (s k)) =
+    subst (IsValueOf (variables (p k)) (at (p k).objective) (at (s k))) c.in-None.is (is k) in (
+      objective_last (p k) (s k) (Some objective_fits)
+          (c.in_ok-test_integers.ensures (p k) (sym c.ints.ensures.integers)
+          c.objective-objective.ensures.writes.shape.integers)
+          (c.in_ok-test_constraints.ensures (s k) (columns_for k) (is k)) (inr (bad, refl)),
+      λ name. refl,
+    )

@@ -29,10 +29,18 @@ unfolding entry_tests
 loop-position-init g c =
     let cleared = c.clear.ensures ∙ ap nothing_added c.requires.variables in
     record {
-      places = ap (λ (a : Accumulator). length a.sums) cleared ∙ length-replicate (variables c.args.context.now.problem.now) zero_ℚ;
+      places = ap (λ (a : Accumulator). length a.sums) cleared
+          ∙ length-replicate (variables c.args.context.now.problem.now) zero_ℚ;
       fresh = ap (λ (a : Accumulator). a.spent) cleared;
-      sum = λ P d e is. (refl, refl, subst (Holds (variables c.args.context.now.problem.now) []) (sym cleared) (start_held (variables c.args.context.now.problem.now)), subst (IsSetOfAll d []) (sym c.requires.none) (IsSetOfAll-none d));
-      sound = λ says x at h. subst (IsTrueSum (variables c.args.context.now.problem.now) x) (sym cleared) (nothing_true (variables c.args.context.now.problem.now) x);
+      sum = λ P d e is. (
+        refl,
+        refl,
+        subst (Holds (variables c.args.context.now.problem.now) []) (sym cleared)
+            (start_held (variables c.args.context.now.problem.now)),
+        subst (IsSetOfAll d []) (sym c.requires.none) (IsSetOfAll-none d),
+      );
+      sound = λ says x at h. subst (IsTrueSum (variables c.args.context.now.problem.now) x)
+          (sym cleared) (nothing_true (variables c.args.context.now.problem.now) x);
       joined = λ i is. absurd (let none = c.requires.not_noted i in cc);
     }
 
@@ -53,26 +61,44 @@ loop-position-preserved g c =
           let more = one_more _ _ _ lt item in
           let says = ap condition_of c.constraint.ensures ∙ used.1.says in
           let added = c.in_default-add_multiple.ensures.sum n _ so_far.2 in
-          let held = subst (λ l. Holds n l new) (sym (entries_more d (take c.loop-position.position c.args.entries.now) e (condition_of c.constraint.result.now) says)) added in (
+          let held = subst (λ l. Holds n l new)
+          (sym (entries_more d (take c.loop-position.position c.args.entries.now) e
+          (condition_of c.constraint.result.now) says)) added in (
             references_more (PassesStep P d (condition s.stated)) _ _ _ lt item None so_far.0 found.0,
-            entry_passes (PassesStep P d (condition s.stated)) _ _ _ lt item so_far.1 (new.sense, held.sense_is) held.fits,
+            entry_passes (PassesStep P d (condition s.stated)) _ _ _ lt item so_far.1
+                (new.sense, held.sense_is) held.fits,
             subst (λ l. Holds n (entries d l) new) (sym more) held,
             subst (λ l. IsSetOfAll d l (union_so_far c.join.new.assumptions)) (sym more)
-                (subst (IsSetOfAll d (take c.loop-position.position c.args.entries.now ++ e ∷ [])) (sym c.in_ok-join.ensures.union)
-                (with_it d (take c.loop-position.position c.args.entries.now) e (union_so_far c.loop-position.assumptions) so_far.3 (not_zero e.1 used.0) (set_of known) used.1.rests)),
+                (subst (IsSetOfAll d (take c.loop-position.position c.args.entries.now ++ e ∷ []))
+                (sym c.in_ok-join.ensures.union)
+                (with_it d (take c.loop-position.position c.args.entries.now) e
+                (union_so_far c.loop-position.assumptions) so_far.3 (not_zero e.1 used.0)
+                (set_of known) used.1.rests)),
           );
       sound = λ says x here h.
           let sound = rw c.in-Some.is at c.in_ok-known.ensures.sound in
-          let so_far = c.loop-position.invariant.sound says x here (true_left n says x (union_so_far c.loop-position.assumptions) (set_of known) (union_so_far c.join.new.assumptions) c.in_ok-join.ensures.union h) in
-          more_true n x c.loop-position.scratch new (e.1, condition_of c.constraint.result.now) so_far (c.in_default-add_multiple.ensures.sum n so_far.es so_far.held)
-          (subst (λ (r : Constraint). IsTrueAt n (condition_of r) x) (sym c.constraint.ensures) (sound says x here (true_right n says x (union_so_far c.loop-position.assumptions) (set_of known) (union_so_far c.join.new.assumptions) c.in_ok-join.ensures.union h)));
-      joined = joined_more (set_found g.S.Rows.table c.args.context.now) e.0 c.loop-position.assumptions c.join.new.assumptions (set_of known) c.loop-position.invariant.joined (rw c.in-Some.is at c.in_ok-known.ensures.set) c.in_ok-join.ensures.union c.in_ok-join.ensures.noted;
+          let so_far = c.loop-position.invariant.sound says x here
+          (true_left n says x (union_so_far c.loop-position.assumptions) (set_of known)
+          (union_so_far c.join.new.assumptions) c.in_ok-join.ensures.union h) in
+          more_true n x c.loop-position.scratch new (e.1, condition_of c.constraint.result.now)
+          so_far (c.in_default-add_multiple.ensures.sum n so_far.es so_far.held)
+          (subst (λ (r : Constraint). IsTrueAt n (condition_of r) x) (sym c.constraint.ensures)
+          (sound says x here
+          (true_right n says x (union_so_far c.loop-position.assumptions) (set_of known)
+          (union_so_far c.join.new.assumptions) c.in_ok-join.ensures.union h)));
+      joined = joined_more (set_found g.S.Rows.table c.args.context.now) e.0
+          c.loop-position.assumptions c.join.new.assumptions
+          (set_of known) c.loop-position.invariant.joined
+          (rw c.in-Some.is at c.in_ok-known.ensures.set) c.in_ok-join.ensures.union
+          c.in_ok-join.ensures.noted;
     }
 
 pub join-requires : goal.join-requires
 join-requires g c = λ noted.
     let found = rw c.in-Some.is at c.in_ok-known.ensures.set in
-    union_within (union_so_far c.loop-position.assumptions) _ (λ a has. c.loop-position.invariant.joined _ noted a (subst (λ (s : FinSet nat_cmp). IsTrue (contains s a)) found has))
+    union_within (union_so_far c.loop-position.assumptions) _
+    (λ a has. c.loop-position.invariant.joined _ noted a
+    (subst (λ (s : FinSet nat_cmp). IsTrue (contains s a)) found has))
 
 pub loop-position-preserved-in_default : goal.loop-position-preserved-in_default
 loop-position-preserved-in_default g c =
@@ -88,11 +114,15 @@ loop-position-preserved-in_default g c =
           let unused = rw c.in_default.is at found.1 in
           let more = one_more _ _ _ lt item in
           let none = zero_test e.1 unused in
-          let held = unused_held d (take c.loop-position.position c.args.entries.now) e n c.loop-position.scratch so_far.2 none in (
+          let held = unused_held d (take c.loop-position.position c.args.entries.now) e n
+          c.loop-position.scratch so_far.2 none in (
             references_more (PassesStep P d (condition s.stated)) _ _ _ lt item None so_far.0 found.0,
-            entry_passes (PassesStep P d (condition s.stated)) _ _ _ lt item so_far.1 (c.loop-position.scratch.sense, held.sense_is) held.fits,
+            entry_passes (PassesStep P d (condition s.stated)) _ _ _ lt item so_far.1
+                (c.loop-position.scratch.sense, held.sense_is) held.fits,
             subst (λ l. Holds n (entries d l) c.loop-position.scratch) (sym more) held,
-            subst (λ l. IsSetOfAll d l (union_so_far c.loop-position.assumptions)) (sym more) (without_it d (take c.loop-position.position c.args.entries.now) e (union_so_far c.loop-position.assumptions) so_far.3 (λ m. absurd (m none))),
+            subst (λ l. IsSetOfAll d l (union_so_far c.loop-position.assumptions)) (sym more)
+                (without_it d (take c.loop-position.position c.args.entries.now) e
+                (union_so_far c.loop-position.assumptions) so_far.3 (λ m. absurd (m none))),
           );
       sound = c.loop-position.invariant.sound;
       joined = c.loop-position.invariant.joined;
@@ -104,8 +134,12 @@ returns-in_err-known-clause-sum g c = λ P d s is.
     let stops = c.in_err-known.ensures.known P d s is in
     let p = err_from_is_err_and c.from_residual.result c.from_residual.ensures.1 in
     rw (p.1, p.2)
-    (inr (stops_first P d s (flat_map reference_tests c.args.entries.now) (entry_tests [] c.args.entries.now) _
-    (stops.0, reference_fails (PassesStep P d (condition s.stated)) _ _ _ c.loop-position-test.true c.index-entries-position.is stops.0 so_far.0 stops.1, stops.2)))
+    (inr (stops_first P d s (flat_map reference_tests c.args.entries.now) (entry_tests [] c.args.entries.now) _ (
+      stops.0,
+      reference_fails (PassesStep P d (condition s.stated)) _ _ _ c.loop-position-test.true
+          c.index-entries-position.is stops.0 so_far.0 stops.1,
+      stops.2,
+    )))
 
 pub returns-in-Err-clause-sum : goal.returns-in-Err-clause-sum
 returns-in-Err-clause-sum g c = λ P d s is.
@@ -119,27 +153,43 @@ returns-in-Err-clause-sum g c = λ P d s is.
     let says = ap condition_of c.constraint.ensures ∙ used.1.says in
     let stops =
     subst (λ l. SumStops l c.loop-position.position c.in-Err.error)
-    (sym (entries_more d (take c.loop-position.position c.args.entries.now) e (condition_of c.constraint.result.now) says))
+    (sym (entries_more d (take c.loop-position.position c.args.entries.now) e
+    (condition_of c.constraint.result.now) says))
     (c.in-Err.ensures.sum (variables c.args.context.now.problem.now) _ so_far.2) in
     elim (c.first_error.ensures P d s is) [
       | inl same ↦
-          let rest = subst (λ l. PassesTestsIn P d s (flat_map reference_tests l)) (to_end c.args.entries.now (c.loop-position.position + 1)) same.1 in
-          let all = references_rest (PassesStep P d (condition s.stated)) c.args.entries.now (c.loop-position.position + 1) None before rest in
-          rw same.0 (inr (stops_second P d s (flat_map reference_tests c.args.entries.now) (entry_tests [] c.args.entries.now) _ all
+          let rest = subst (λ l. PassesTestsIn P d s (flat_map reference_tests l))
+          (to_end c.args.entries.now (c.loop-position.position + 1)) same.1 in
+          let all = references_rest (PassesStep P d (condition s.stated)) c.args.entries.now
+          (c.loop-position.position + 1) None before rest in
+          rw same.0 (inr (stops_second P d s (flat_map reference_tests c.args.entries.now)
+          (entry_tests [] c.args.entries.now) _ all
           (sum_stops P d s c.args.entries.now c.loop-position.position e c.in-Err.error lt item so_far.1 stops)))
       | inr refused ↦
-          let rest = subst (λ l. FirstFailing (PassesStep P d (condition s.stated)) (flat_map reference_tests l) (Some refused.0)) (to_end c.args.entries.now (c.loop-position.position + 1)) refused.1 in
-          inr (stops_first P d s (flat_map reference_tests c.args.entries.now) (entry_tests [] c.args.entries.now) _
-          (refused.0, references_rest (PassesStep P d (condition s.stated)) c.args.entries.now (c.loop-position.position + 1) (Some refused.0) before rest, refused.2))
+          let rest = subst
+          (λ l. FirstFailing (PassesStep P d (condition s.stated)) (flat_map reference_tests l)
+          (Some refused.0)) (to_end c.args.entries.now (c.loop-position.position + 1))
+          refused.1 in
+          inr (stops_first P d s (flat_map reference_tests c.args.entries.now) (entry_tests [] c.args.entries.now) _ (
+            refused.0,
+            references_rest (PassesStep P d (condition s.stated)) c.args.entries.now
+                (c.loop-position.position + 1) (Some refused.0) before rest,
+            refused.2,
+          ))
     ]
 
 pub returns-clause-sum : goal.returns-clause-sum
 returns-clause-sum g c = λ P d s is.
     let so_far = c.loop-position.invariant.sum P d s is in
     let all = take_all c.args.entries.now c.loop-position.position c.loop-position-test.false in
-    let sum = held_sum (variables c.args.context.now.problem.now) (entries d (take c.loop-position.position c.args.entries.now)) c.loop-position.scratch so_far.2 in (
+    let sum = held_sum (variables c.args.context.now.problem.now)
+    (entries d (take c.loop-position.position c.args.entries.now)) c.loop-position.scratch
+    so_far.2 in (
       subst (λ l. PassesTestsIn P d s (sum_tests l)) all
-          (passes_both P d s (flat_map reference_tests (take c.loop-position.position c.args.entries.now)) (entry_tests [] (take c.loop-position.position c.args.entries.now)) so_far.0 so_far.1),
+          (passes_both P d s
+          (flat_map reference_tests (take c.loop-position.position c.args.entries.now))
+          (entry_tests [] (take c.loop-position.position c.args.entries.now)) so_far.0
+          so_far.1),
       subst (λ l. IsSum d l (held_condition c.loop-position.scratch)) all (_, sum.0, sum.1),
       subst (λ l. IsSetOfAll d l (union_so_far c.loop-position.assumptions)) all so_far.3,
     )

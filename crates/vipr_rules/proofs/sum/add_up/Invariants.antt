@@ -16,9 +16,12 @@ invariant-loop-position g l =
       places : length l.scratch.sums ≡ variables l.context.problem.now;
       fresh : l.scratch.spent ≡ false;
       sum : (P : Profile) (c : Certificate) (d : Derivation) → IsContextOf g.S.Rows.table P c l.context
-          → PassesTestsIn P c d (flat_map reference_tests (take l.position l.entries)) × PassesTestsIn P c d (entry_tests [] (take l.position l.entries))
-          × Holds (variables l.context.problem.now) (entries c (take l.position l.entries)) l.scratch × IsSetOfAll c (take l.position l.entries) (union_so_far l.assumptions);
+          → PassesTestsIn P c d (flat_map reference_tests (take l.position l.entries))
+          × PassesTestsIn P c d (entry_tests [] (take l.position l.entries))
+          × Holds (variables l.context.problem.now) (entries c (take l.position l.entries))
+          l.scratch × IsSetOfAll c (take l.position l.entries) (union_so_far l.assumptions);
       sound : (says : ℕ → Condition) (x : Point) → IsSoundAt g.S.Rows.table l.context says x
-          → AreTrue (variables l.context.problem.now) says (union_so_far l.assumptions) x → IsTrueSum (variables l.context.problem.now) x l.scratch;
+          → AreTrue (variables l.context.problem.now) says (union_so_far l.assumptions) x
+          → IsTrueSum (variables l.context.problem.now) x l.scratch;
       joined : AreJoined (set_found g.S.Rows.table l.context) l.assumptions;
     }

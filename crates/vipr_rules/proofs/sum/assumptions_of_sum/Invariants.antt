@@ -11,6 +11,7 @@ abbrev pub invariant-loop-entry : goal.invariant-loop-entry
 invariant-loop-entry g l =
     record {
       sum : (P : Profile) (c : Certificate) (d : Derivation) → IsContextOf g.S.Rows.table P c l.context
-          → PassesTestsIn P c d (flat_map reference_tests (take l.entry-index l.entries)) × IsSetOfAll c (take l.entry-index l.entries) (union_so_far l.assumptions);
+          → PassesTestsIn P c d (flat_map reference_tests (take l.entry-index l.entries))
+          × IsSetOfAll c (take l.entry-index l.entries) (union_so_far l.assumptions);
       joined : AreJoined (set_found g.S.Rows.table l.context) l.assumptions;
     }

@@ -6,7 +6,8 @@ use Rattle.vipr_rules.proofs.ComputedLemmas.{computed_passes}
 use Rattle.vipr_rules.proofs.sum.check_computed.Goals as goal
 use Rattle.vipr_rules.proofs.sum.check_computed.Goals.{After-check_finished, Then-follows, in-Sum, in-Rounding}
 
-follows : (c : Then-follows) → DominatesBy c.args.computed c.args.ints.now (held_condition c.args.scratch.now) (condition_of c.args.stated.now)
+follows : (c : Then-follows) → DominatesBy c.args.computed c.args.ints.now
+    (held_condition c.args.scratch.now) (condition_of c.args.stated.now)
 follows c = search rules
 
 -- the comparison left the sum as it was
@@ -18,7 +19,8 @@ kept c = elim c.match-computed.branch [
 
 pub returns-then-follows-clause-tests : goal.returns-then-follows-clause-tests
 returns-then-follows-clause-tests c = λ P d e es summed ints says.
-    computed_passes P d e es c.args.computed (held_condition c.args.scratch.now) c.args.stated.now c.args.ints.now summed ints says (follows c)
+    computed_passes P d e es c.args.computed (held_condition c.args.scratch.now) c.args.stated.now
+    c.args.ints.now summed ints says (follows c)
 
 pub returns-clause-tests : goal.returns-clause-tests
 returns-clause-tests c = λ P d e es summed ints says.

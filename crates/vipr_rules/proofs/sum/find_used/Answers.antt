@@ -7,7 +7,12 @@ pub returns-in_err-find-clause-known : goal.returns-in_err-find-clause-known
 returns-in_err-find-clause-known g c = λ P d e is.
     let stops = c.in_err-find.ensures.known P d e is in
     let p = err_from_is_err_and c.from_residual.result c.from_residual.ensures.1 in
-    rw (p.1, p.2) (stops.0, used_passes (PassesStep P d (condition e.stated)) c.args.entry.now (Some stops.0) (sym c.is_used.ensures ∙ c.if-is_used.true) stops.1, stops.2)
+    rw (p.1, p.2) (
+      stops.0,
+      used_passes (PassesStep P d (condition e.stated)) c.args.entry.now
+          (Some stops.0) (sym c.is_used.ensures ∙ c.if-is_used.true) stops.1,
+      stops.2,
+    )
 
 pub returns-in_ok-find-clause-known : goal.returns-in_ok-find-clause-known
 returns-in_ok-find-clause-known g c = λ P d e is.
@@ -18,10 +23,19 @@ returns-in_ok-find-clause-known g c = λ P d e is.
 pub returns-in_err-check_earlier-clause-known : goal.returns-in_err-check_earlier-clause-known
 returns-in_err-check_earlier-clause-known g c = λ P d e is.
     let stops = c.in_err-check_earlier.ensures P d e is in
-    let p = err_from_is_err_and c.from_residual-in_err-check_earlier.result c.from_residual-in_err-check_earlier.ensures.1 in
-    rw (p.1, p.2) (stops.0, unused_passes (PassesStep P d (condition e.stated)) c.args.entry.now (Some stops.0) (sym c.is_used.ensures ∙ c.if-is_used.false) stops.1, stops.2)
+    let p = err_from_is_err_and c.from_residual-in_err-check_earlier.result
+    c.from_residual-in_err-check_earlier.ensures.1 in
+    rw (p.1, p.2) (
+      stops.0,
+      unused_passes (PassesStep P d (condition e.stated)) c.args.entry.now
+          (Some stops.0) (sym c.is_used.ensures ∙ c.if-is_used.false) stops.1,
+      stops.2,
+    )
 
 pub returns-in_ok-check_earlier-clause-known : goal.returns-in_ok-check_earlier-clause-known
 returns-in_ok-check_earlier-clause-known g c = λ P d e is.
-    let unused = sym c.is_used.ensures ∙ c.if-is_used.false in
-    (unused_passes (PassesStep P d (condition e.stated)) c.args.entry.now _ unused (c.in_ok-check_earlier.ensures P d e is), unused)
+    let unused = sym c.is_used.ensures ∙ c.if-is_used.false in (
+      unused_passes (PassesStep P d (condition e.stated)) c.args.entry.now _ unused
+          (c.in_ok-check_earlier.ensures P d e is),
+      unused,
+    )

@@ -9,7 +9,9 @@ use Rattle.vipr_text.proofs.respelling.derivation_lines.Goals as goal
 pub lines-init : goal.lines-init
 lines-init g c = record {
   working = c.requires;
-  lines = λ p knows. none_yet (derivation_read p) (derivation_words_in c.args.text.form c.args.text.objective) c.args.derivations.now c.args.text c.requires;
+  lines = λ p knows. none_yet (derivation_read p)
+      (derivation_words_in c.args.text.form c.args.text.objective) c.args.derivations.now
+      c.args.text c.requires;
 }
 
 pub returns-in_err-found : goal.returns-in_err-found
@@ -20,7 +22,10 @@ returns-in_err-found g c p knows =
     let h = c.lines.invariant.lines p knows in
     rw (q.1, q.2) (
       unspent c.next_into.result e mid.failed c.in_err-found.was c.next_into.ensures.spent c.lines.invariant.working,
-      stops (derivation_read p) (derivation_words_in c.args.text.form c.args.text.objective) end_read e c.args.derivations.now mid c.args.text c.lines.text h (c.in_err-found.ensures.read p (still_knows p c.args.derivations.now mid knows h.remembers)),
+      stops (derivation_read p) (derivation_words_in c.args.text.form c.args.text.objective)
+          end_read e c.args.derivations.now mid c.args.text c.lines.text h
+          (c.in_err-found.ensures.read p
+          (still_knows p c.args.derivations.now mid knows h.remembers)),
     )
 
 pub lines-preserved : goal.lines-preserved
@@ -31,7 +36,14 @@ lines-preserved g c =
       working = r.moves.working;
       lines = λ p knows.
           let h = c.lines.invariant.lines p knows in
-          one_more (derivation_read p) (derivation_words_in c.args.text.form c.args.text.objective) c.args.derivations.now mid c.next_into.new.self c.args.text c.lines.text c.push_derivation.new.self (derivation_of c.next_into.new.step) h r.moves.counted r.moves.remembers r.moves.working
-          (λ known. let next = r.read p (still_knows p c.args.derivations.now mid knows h.remembers) known in (next.1, next.2))
-          (c.in_ok-push_derivation.ensures.ok ∙ ap (λ (b : Begun). with_more_bytes c.lines.text (line_text (derivation_words_in b.form b.objective (derivation_of c.next_into.new.step)))) h.lines);
+          one_more (derivation_read p) (derivation_words_in c.args.text.form c.args.text.objective)
+          c.args.derivations.now mid c.next_into.new.self c.args.text c.lines.text
+          c.push_derivation.new.self (derivation_of c.next_into.new.step) h r.moves.counted
+          r.moves.remembers r.moves.working
+          (λ known. let next = r.read p (still_knows p c.args.derivations.now mid knows h.remembers)
+          known in (next.1, next.2))
+          (c.in_ok-push_derivation.ensures.ok
+          ∙ ap (λ (b : Begun). with_more_bytes c.lines.text
+          (line_text (derivation_words_in b.form b.objective
+          (derivation_of c.next_into.new.step)))) h.lines);
     }

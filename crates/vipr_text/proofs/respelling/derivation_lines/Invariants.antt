@@ -8,7 +8,10 @@ use Rattle.vipr_text.proofs.respelling.derivation_lines.Given as goal
 abbrev pub invariant-lines : goal.invariant-lines
 invariant-lines g l = record {
   working : l.derivations.failed ≡ false;
-  lines : (p : Problem) → Knows l.initial.derivations p → HasAppended (derivation_read p) (derivation_words_in l.initial.text.form l.initial.text.objective) l.initial.derivations l.derivations l.initial.text l.text;
+  lines : (p : Problem) → Knows l.initial.derivations p
+      → HasAppended (derivation_read p)
+      (derivation_words_in l.initial.text.form l.initial.text.objective) l.initial.derivations
+      l.derivations l.initial.text l.text;
 }
 
 abbrev pub decreases-lines : goal.decreases-lines

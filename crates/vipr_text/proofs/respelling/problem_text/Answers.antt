@@ -9,7 +9,14 @@ returns g c =
     let problem = c.in_ok-problem in
     record {
       problem = problem.problem;
-      lines = c.in_ok-text.ensures ∙ ap (λ n. let b : Begun = record { form = c.args.form; objective = problem.problem.objective; bytes = lines_text (problem_lines_in c.args.form problem.problem) ++ line_text (heading (codes "SOL") n) } in b) c.left.ensures;
+      lines = c.in_ok-text.ensures
+          ∙ ap (λ n. let b : Begun =
+          record {
+            form = c.args.form;
+            objective = problem.problem.objective;
+            bytes = lines_text (problem_lines_in c.args.form problem.problem)
+                ++ line_text (heading (codes "SOL") n);
+          } in b) c.left.ensures;
       knows = problem.ensures.knows;
       working = problem.ensures.working;
       read = problem.ensures.read;

@@ -20,7 +20,10 @@ returns-in_err-solution-clause-lines g c p knows =
     let h = c.loop-text.invariant.lines p knows in
     rw (q.1, q.2) (
       unspent c.next.result e mid.failed c.in_err-solution.was c.next.ensures.spent c.loop-text.invariant.working,
-      stops (solution_read p) solution_words no_ending e c.args.solutions.now mid c.args.text c.loop-text.text h (c.in_err-solution.ensures.read p (still_knows p c.args.solutions.now mid knows h.remembers)),
+      stops (solution_read p) solution_words no_ending e c.args.solutions.now mid c.args.text
+          c.loop-text.text h
+          (c.in_err-solution.ensures.read p
+          (still_knows p c.args.solutions.now mid knows h.remembers)),
     )
 
 pub loop-text-preserved : goal.loop-text-preserved
@@ -31,6 +34,9 @@ loop-text-preserved g c =
       working = r.moves.working;
       lines = λ p knows.
           let h = c.loop-text.invariant.lines p knows in
-          one_more (solution_read p) solution_words c.args.solutions.now mid c.next.new.self c.args.text c.loop-text.text c.push_solution-pushed.new.self (solution_of c.in-Some.solution) h r.moves.counted r.moves.remembers r.moves.working
-          (λ known. let next = r.read p (still_knows p c.args.solutions.now mid knows h.remembers) known in (next.1, next.2)) c.in_ok-pushed.ensures.ok;
+          one_more (solution_read p) solution_words c.args.solutions.now mid c.next.new.self
+          c.args.text c.loop-text.text c.push_solution-pushed.new.self
+          (solution_of c.in-Some.solution) h r.moves.counted r.moves.remembers r.moves.working
+          (λ known. let next = r.read p (still_knows p c.args.solutions.now mid knows h.remembers)
+          known in (next.1, next.2)) c.in_ok-pushed.ensures.ok;
     }

@@ -8,7 +8,9 @@ use Rattle.vipr_text.proofs.respelling.solution_lines.Given as goal
 abbrev pub invariant-loop-text : goal.invariant-loop-text
 invariant-loop-text g l = record {
   working : l.solutions.failed ≡ false;
-  lines : (p : Problem) → Knows l.initial.solutions p → HasAppended (solution_read p) solution_words l.initial.solutions l.solutions l.initial.text l.text;
+  lines : (p : Problem) → Knows l.initial.solutions p
+      → HasAppended (solution_read p) solution_words l.initial.solutions l.solutions l.initial.text
+      l.text;
 }
 
 abbrev pub decreases-loop-text : goal.decreases-loop-text

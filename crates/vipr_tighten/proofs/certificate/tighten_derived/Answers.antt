@@ -14,6 +14,8 @@ returns g c =
     on_ok c.renumber.result
     (λ h view x are can.
     let ds = map (g.D.Tightenable.derived view) steps in
-    tightened_is x first ds are c.args.goal can marks (rw c.deref.ensures.value at (c.in_ok-marks.ensures.marks view)) (map (g.D.Tightenable.derived view) c.renumber.new.steps.items)
+    tightened_is x first ds are c.args.goal can marks
+    (rw c.deref.ensures.value at (c.in_ok-marks.ensures.marks view))
+    (map (g.D.Tightenable.derived view) c.renumber.new.steps.items)
     (rw c.deref-2.ensures.value at (h view (earlier_of x first ds can.back are))))
     c.renumber.ensures

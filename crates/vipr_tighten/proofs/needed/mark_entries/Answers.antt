@@ -17,9 +17,16 @@ loop-entry-preserved g c =
     elim c.if-not-is_zero.branch [
       | then-not-is_zero w ↦
           let t : is_nonzero (pair x) ≡ true = ap not (sym c.is_zero.ensures ∙ w.if-not-is_zero.true) in
-          let marked = subst (λ i. MarksAlso c.args.first (λ j. nat_eq j i) c.loop-entry.marks w.mark.new.marks) w.index.ensures w.mark.ensures in
-          rw w.marks-is (entry_marked c.args.first (map pair es) n (pair x) there is c.args.marks.now c.loop-entry.marks c.loop-entry.auto.marks w.mark.new.marks t c.loop-entry.invariant marked)
+          let marked =
+          subst (λ i. MarksAlso c.args.first (λ j. nat_eq j i) c.loop-entry.marks
+          w.mark.new.marks) w.index.ensures w.mark.ensures in
+          rw w.marks-is
+          (entry_marked c.args.first (map pair es) n (pair x) there is c.args.marks.now
+          c.loop-entry.marks c.loop-entry.auto.marks w.mark.new.marks t c.loop-entry.invariant
+          marked)
       | else-not-is_zero w ↦
           let t : is_nonzero (pair x) ≡ false = ap not (sym c.is_zero.ensures ∙ w.if-not-is_zero.false) in
-          rw w.marks-is (entry_passed c.args.first (map pair es) n (pair x) there is c.args.marks.now c.loop-entry.marks c.loop-entry.auto.marks t c.loop-entry.invariant)
+          rw w.marks-is
+          (entry_passed c.args.first (map pair es) n (pair x) there is c.args.marks.now
+          c.loop-entry.marks c.loop-entry.auto.marks t c.loop-entry.invariant)
     ]

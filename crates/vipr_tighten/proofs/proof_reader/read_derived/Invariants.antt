@@ -10,7 +10,8 @@ invariant-steps g l = record {
   same : IsForSame l.initial.statements l.statements;
   variables : l.derivations.variables ≡ l.initial.derivations.variables;
   read : (ds : List Derivation) × KeepsSteps l.initial.derivations.variables l.statements l.steps.items ds
-      × ((P : Profile) (p : Problem) (ss : List (Named Row)) → IsAt P (start p ss) l.initial.checker l.initial.derivations
+      × ((P : Profile) (p : Problem) (ss : List (Named Row))
+      → IsAt P (start p ss) l.initial.checker l.initial.derivations
       → KeepsDerived P (start p ss) l.initial.derivations (with_more (start p ss) ds) l.checker l.derivations);
 }
 

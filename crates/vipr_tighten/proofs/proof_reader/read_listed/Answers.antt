@@ -23,7 +23,9 @@ solutions-init g c =
       variables = refl;
       read = (
         [],
-        puts_same (ap (λ n. line_text (heading (codes "SOL") n)) count ∙ sym (append-nil (line_text (heading (codes "SOL") (0 + r.left))))) c.put_heading.ensures,
+        puts_same (ap (λ n. line_text (heading (codes "SOL") n)) count
+            ∙ sym (append-nil (line_text (heading (codes "SOL") (0 + r.left)))))
+            c.put_heading.ensures,
         All-nil (SolutionShape r.variables),
         All-nil (λ (s : Named Row). RowFits s.item),
         λ P p is. listed_first P p c.args.checker.now r is,
@@ -37,8 +39,11 @@ returns-in-Err-clause-unproved g c =
     let (ss, lines, shapes, fit, keeps) = c.solutions.invariant.read in
     rw c.from.ensures (λ P p is known.
     let kept = keeps P p is in
-    solution_refused P p ss c.solutions.checker c.solution.new.self c.args.solutions.now c.solutions.solutions kept c.next.new.self (solution_of c.in-Some.solution) h.moves.counted h.moves.remembers h.moves.working
-    (λ t. let r = h.read p kept.is_among.knows t in (r.1, r.2)) e (c.in-Err.ensures.next ss kept.is_among.runs kept.is_among.has) known)
+    solution_refused P p ss c.solutions.checker c.solution.new.self c.args.solutions.now
+    c.solutions.solutions kept c.next.new.self (solution_of c.in-Some.solution) h.moves.counted
+    h.moves.remembers h.moves.working
+    (λ t. let r = h.read p kept.is_among.knows t in (r.1, r.2)) e
+    (c.in-Err.ensures.next ss kept.is_among.runs kept.is_among.has) known)
 
 pub solutions-preserved : goal.solutions-preserved
 solutions-preserved g c =
@@ -51,13 +56,17 @@ solutions-preserved g c =
       variables = h.moves.remembers.variables ∙ c.solutions.invariant.variables;
       read = (
         ss ++ solution_of x ∷ [],
-        puts_same (lines_more ss (solution_of x) old.left c.next.new.self.left h.moves.counted) (puts_then lines c.put_solution.ensures),
-        All-push (SolutionShape first.variables) ss (solution_of x) shapes (subst (λ n. SolutionShape n (solution_of x)) c.solutions.invariant.variables h.shape),
+        puts_same (lines_more ss (solution_of x) old.left c.next.new.self.left h.moves.counted)
+            (puts_then lines c.put_solution.ensures),
+        All-push (SolutionShape first.variables) ss (solution_of x) shapes
+            (subst (λ n. SolutionShape n (solution_of x)) c.solutions.invariant.variables h.shape),
         All-push (λ (s : Named Row). RowFits s.item) ss (solution_of x) fit h.fits,
         λ P p is.
             let kept = keeps P p is in
-            solution_accepted P p ss c.solutions.checker c.solution.new.self first old kept c.next.new.self (solution_of x) h.moves.counted h.moves.remembers h.moves.working
-            (λ t. let r = h.read p kept.is_among.knows t in (r.1, r.2)) (c.in_default.ensures.next ss kept.is_among.runs kept.is_among.has),
+            solution_accepted P p ss c.solutions.checker c.solution.new.self first old kept
+            c.next.new.self (solution_of x) h.moves.counted h.moves.remembers h.moves.working
+            (λ t. let r = h.read p kept.is_among.knows t in (r.1, r.2))
+            (c.in_default.ensures.next ss kept.is_among.runs kept.is_among.has),
       );
     }
 
@@ -65,7 +74,8 @@ pub returns-in_err-end_solutions-in-None-clause-unproved :
     goal.returns-in_err-end_solutions-in-None-clause-unproved
 returns-in_err-end_solutions-in-None-clause-unproved g c =
     let e = c.in_err-end_solutions-in-None.field-0.0 in
-    err_given _ c.from_residual-in_err-end_solutions-in-None.result (stop_reason e) c.from_residual-in_err-end_solutions-in-None.ensures.1 (λ P p is known.
+    err_given _ c.from_residual-in_err-end_solutions-in-None.result
+    (stop_reason e) c.from_residual-in_err-end_solutions-in-None.ensures.1 (λ P p is known.
     let h = rw c.in-None.is at c.in_ok-solution.ensures in
     let (ss, lines, shapes, fit, keeps) = c.solutions.invariant.read in
     let k = c.solutions.checker in
@@ -81,12 +91,26 @@ pub returns-in-None-clause-kept : goal.returns-in-None-clause-kept
 returns-in-None-clause-kept g c =
     let h = rw c.in-None.is at c.in_ok-solution.ensures in
     let (ss, lines, shapes, fit, keeps) = c.solutions.invariant.read in
-    let text = (grown c.args.listed.now c.solutions.listed (lines_with ss c.solutions.solutions.left) lines (sym c.has_failed.ensures ∙ c.if-has_failed.false)).1 in (
+    let text = (grown c.args.listed.now c.solutions.listed
+    (lines_with ss c.solutions.solutions.left) lines (sym c.has_failed.ensures
+    ∙ c.if-has_failed.false)).1 in (
       ss,
-      record { text = text ∙ ap (λ t. t ++ lines_with ss c.solutions.solutions.left) c.requires.none_listed ∙ lines_whole ss c.solutions.solutions.left h.moves.none; shapes = shapes; fit = fit },
+      record {
+        text = text
+            ∙ ap (λ t. t ++ lines_with ss c.solutions.solutions.left) c.requires.none_listed
+            ∙ lines_whole ss c.solutions.solutions.left h.moves.none;
+        shapes = shapes;
+        fit = fit;
+      },
       λ P p is.
-          let listed = subst (KeepsListed P p c.args.solutions.now ss c.solutions.checker) (sym h.moves.same) (keeps P p is) in
-          record { before = c.solutions.checker; listed = listed; ends = c.in_ok-end_solutions-in-None.ensures.next ss listed.is_among.runs listed.is_among.has },
+          let listed = subst (KeepsListed P p c.args.solutions.now ss c.solutions.checker)
+          (sym h.moves.same) (keeps P p is) in
+          record {
+            before = c.solutions.checker;
+            listed = listed;
+            ends = c.in_ok-end_solutions-in-None.ensures.next ss listed.is_among.runs
+                listed.is_among.has;
+          },
     )
 
 pub returns-in_err-solution-clause-unproved : goal.returns-in_err-solution-clause-unproved
@@ -95,7 +119,9 @@ returns-in_err-solution-clause-unproved g c =
     err_given _ c.from_residual.result (text_reason e) c.from_residual.ensures.1 (λ P p is known.
     let (ss, lines, shapes, fit, keeps) = c.solutions.invariant.read in
     let kept = keeps P p is in
-    solution_unread P p ss c.solutions.checker c.solutions.checker c.args.solutions.now c.solutions.solutions kept e (c.in_err-solution.ensures.read p kept.is_among.knows (kept.known known)) known)
+    solution_unread P p ss c.solutions.checker c.solutions.checker c.args.solutions.now
+    c.solutions.solutions kept e
+    (c.in_err-solution.ensures.read p kept.is_among.knows (kept.known known)) known)
 
 pub returns-then-has_failed-clause-unproved : goal.returns-then-has_failed-clause-unproved
 returns-then-has_failed-clause-unproved g c = λ P p is known. (none, tt)

@@ -12,14 +12,16 @@ use Rattle.vipr_tighten.proofs.proof_reader.read_proof.Goals as goal
 pub returns-in_err-reader-clause-unproved : goal.returns-in_err-reader-clause-unproved
 returns-in_err-reader-clause-unproved g c =
     let P = profile_of c.args.profile in
-    err_given _ c.from_residual.result reason.Memory c.from_residual.ensures.1 (memory_known P (g.R.Source.input c.args.source))
+    err_given _ c.from_residual.result reason.Memory c.from_residual.ensures.1
+    (memory_known P (g.R.Source.input c.args.source))
 
 pub returns-in-Err-clause-unproved : goal.returns-in-Err-clause-unproved
 returns-in-Err-clause-unproved g c =
     let P = profile_of c.args.profile in
     let reader = c.in_ok-reader.reader in
     known_by (λ f. AnswersWhy P f c.from.result) (g.R.Source.input c.args.source) reader c.in_ok-reader.ensures
-    (λ known. subst (AnswersWhy P (found_in (rest_of reader))) (sym c.from.ensures) (none, problem_failed P (rest_of reader) c.in-Err.error (c.in-Err.ensures.read known)))
+    (λ known. subst (AnswersWhy P (found_in (rest_of reader))) (sym c.from.ensures)
+    (none, problem_failed P (rest_of reader) c.in-Err.error (c.in-Err.ensures.read known)))
 
 pub returns-in-Ok-clause-proof : goal.returns-in-Ok-clause-proof
 returns-in-Ok-clause-proof g c =
@@ -29,7 +31,8 @@ returns-in-Ok-clause-proof g c =
     let (x, is, proof) = h in (
       x,
       is,
-      known_by (λ f. AnswersProof P f x kept.report) (g.R.Source.input c.args.source) reader c.in_ok-reader.ensures (λ known.
+      known_by (λ f. AnswersProof P f x kept.report) (g.R.Source.input c.args.source) reader
+          c.in_ok-reader.ensures (λ known.
           let read = c.in-Ok.ensures.read known in
           rest_found P (rest_of reader) c.in-Ok.problem c.in-Ok.solutions read.0 x kept.report (proof.found read.1)),
     )) c.read_rest.ensures.kept

@@ -21,8 +21,11 @@ loop-place-preserved g c =
     elim c.if-marks-place.branch [
       | then-marks-place w ↦
           let new = w.take_over.new.steps in
-          let long : length new ≡ length c.loop-place.steps.items = w.take_over.auto.steps ∙ ap length w.deref_mut.ensures.value in
-          let are : c.if-marks-place.steps.items ≡ new = ap vec_items w.steps-is ∙ with_items_is c.loop-place.steps new (w.take_over.auto.steps ∙ w.deref_mut.ensures.len) in
+          let long : length new ≡ length c.loop-place.steps.items = w.take_over.auto.steps
+          ∙ ap length w.deref_mut.ensures.value in
+          let are : c.if-marks-place.steps.items ≡ new = ap vec_items w.steps-is
+          ∙ with_items_is c.loop-place.steps new (w.take_over.auto.steps
+          ∙ w.deref_mut.ensures.len) in
           let takes = rw (w.deref.ensures.value, w.deref_mut.ensures.value) at w.take_over.ensures in
           rw (longer, are, w.kept-is) record {
             size = long ∙ inv.size;
@@ -30,7 +33,9 @@ loop-place-preserved g c =
             behind = omega (arith, inv.behind);
             left = takes.left ∙ left_more ds all place (omega (arith, inv.size, there)) there inv.left;
             so_far = λ view earlier.
-                place_taken_over (g.D.Tightenable.derived view) first marks all ds table kept place inv.size inv.place inv.behind inv.left there (inv.so_far view earlier) w.if-marks-place.true earlier new (takes.kept view);
+                place_taken_over (g.D.Tightenable.derived view) first marks all ds table kept place
+                inv.size inv.place inv.behind inv.left there (inv.so_far view earlier)
+                w.if-marks-place.true earlier new (takes.kept view);
           }
       | else-marks-place w ↦
           let same : c.if-marks-place.steps.items ≡ ds = ap vec_items w.steps-is in
@@ -40,6 +45,8 @@ loop-place-preserved g c =
             behind = omega (arith, inv.behind);
             left = left_more ds all place (omega (arith, inv.size, there)) there inv.left;
             so_far = λ view earlier.
-                place_left_out (g.D.Tightenable.derived view) first marks all ds table kept place inv.size inv.place inv.behind inv.left there (inv.so_far view earlier) w.if-marks-place.false;
+                place_left_out (g.D.Tightenable.derived view) first marks all ds table kept place
+                inv.size inv.place inv.behind inv.left there (inv.so_far view earlier)
+                w.if-marks-place.false;
           }
     ]

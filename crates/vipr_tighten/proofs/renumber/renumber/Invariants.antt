@@ -10,5 +10,6 @@ invariant-loop-place g l = record {
   behind : l.kept ≤ l.place;
   left : drop l.place l.steps.items ≡ drop l.place l.fn.steps.items;
   so_far : (view : g.D.Tightenable.View) → NameEarlier l.first (map (g.D.Tightenable.derived view) l.fn.steps.items)
-      → SoFar l.first l.marks (map (g.D.Tightenable.derived view) l.fn.steps.items) l.table.items (map (g.D.Tightenable.derived view) (take l.kept l.steps.items));
+      → SoFar l.first l.marks (map (g.D.Tightenable.derived view) l.fn.steps.items) l.table.items
+      (map (g.D.Tightenable.derived view) (take l.kept l.steps.items));
 }

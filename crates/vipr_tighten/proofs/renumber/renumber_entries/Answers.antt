@@ -17,13 +17,20 @@ loop-i-preserved g c =
     let y = c.index_mut.result.now in
     let read = pair_read pair now c.loop-i.i y (search rules) c.index_mut.ensures.value in
     let other = pair_read pair now c.loop-i.i c.index.result.now (search rules) c.index.ensures in
-    let made = next_entry c.args.first c.args.table.now old c.loop-i.i (map pair now) inside c.loop-i.invariant (pair y) read in
-    let same = same_entry c.args.first c.args.table.now old c.loop-i.i (map pair now) inside c.loop-i.invariant (pair y) read (pair c.index.result.now) other in
+    let made = next_entry c.args.first c.args.table.now old c.loop-i.i (map pair now) inside
+    c.loop-i.invariant (pair y) read in
+    let same = same_entry c.args.first c.args.table.now old c.loop-i.i (map pair now) inside
+    c.loop-i.invariant (pair y) read (pair c.index.result.now) other in
     let there : c.index_of-moved.result ≡ index_by c.args.first c.args.table.now (pair y).0 =
-    c.index_of-moved.ensures ∙ ap (λ i. index_by c.args.first c.args.table.now i) c.index-in-loop-i.ensures ∙ ap (λ (e : ℕ × ℚ). index_by c.args.first c.args.table.now e.0) same in
-    let moved : pair c.set_index.new.self ≡ under c.args.first c.args.table.now (pair y) = c.set_index.ensures ∙ ap (λ n. (n, (pair y).1)) there in
-    subst (EntriesSoFar c.args.first c.args.table.now old (c.loop-i.i + 1)) (sym (map-set pair now c.loop-i.i c.set_index.new.self))
-    (subst (λ e. EntriesSoFar c.args.first c.args.table.now old (c.loop-i.i + 1) (slice_set (map pair now) c.loop-i.i e)) (sym moved) made)
+    c.index_of-moved.ensures
+    ∙ ap (λ i. index_by c.args.first c.args.table.now i) c.index-in-loop-i.ensures
+    ∙ ap (λ (e : ℕ × ℚ). index_by c.args.first c.args.table.now e.0) same in
+    let moved : pair c.set_index.new.self ≡ under c.args.first c.args.table.now (pair y) =
+    c.set_index.ensures ∙ ap (λ n. (n, (pair y).1)) there in
+    subst (EntriesSoFar c.args.first c.args.table.now old (c.loop-i.i + 1))
+    (sym (map-set pair now c.loop-i.i c.set_index.new.self))
+    (subst (λ e. EntriesSoFar c.args.first c.args.table.now old (c.loop-i.i + 1)
+    (slice_set (map pair now) c.loop-i.i e)) (sym moved) made)
 
 pub returns : goal.returns
 returns g c =
@@ -31,7 +38,10 @@ returns g c =
     let all = map pair c.args.entries.now.items in
     let old = map pair c.retain.new.self.items in
     let size = length-map c.retain.new.self.items pair in
-    let kept : old ≡ filter is_nonzero all = ap (map pair) (filter_same _ (λ e. is_nonzero (pair e)) _ (λ x r f' k. search rules) _ _ c.retain.ensures.filtered) ∙ pair_filter pair c.args.entries.now.items in
+    let kept : old ≡ filter is_nonzero all =
+    ap (map pair)
+    (filter_same _ (λ e. is_nonzero (pair e)) _ (λ x r f' k. search rules) _ _
+    c.retain.ensures.filtered) ∙ pair_filter pair c.args.entries.now.items in
     let past : length old < c.loop-i.i + 1 = omega arith in
     all_entries c.args.first c.args.table.now old c.loop-i.i (map pair c.loop-i.entries.items) c.loop-i.invariant past
     ∙ ap (λ l. map (under c.args.first c.args.table.now) l) kept

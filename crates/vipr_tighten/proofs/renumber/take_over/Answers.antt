@@ -22,5 +22,9 @@ returns-clause-kept g c = λ view x e.
     let moved_is : derived moved ≡ record (with_new_indices (index_by first table) (derived was)) { last = None } =
     grind (arith, c.index-back-0.is, c.set_last.ensures, c.renumber.ensures) in
     let referred = rw parts.front at (c.set_last_by.ensures view) in
-    subst (λ l. TakesOver (with_new_indices (index_by first table) (derived x)) (first + kept) first (map derived (take kept old)) (map derived (take (kept + 1) (changed ++ slice_set l 0 moved)))) (sym parts.back)
-    (taken_over derived first table old c.swap.new.self kept c.args.place c.requires.behind c.requires.there c.swap.ensures.len c.swap.ensures.by_index was moved is_was moved_is changed (c.set_last_by.auto.kept ∙ parts.front_len) referred x e)
+    subst (λ l. TakesOver (with_new_indices (index_by first table) (derived x)) (first + kept) first
+    (map derived (take kept old))
+    (map derived (take (kept + 1) (changed ++ slice_set l 0 moved)))) (sym parts.back)
+    (taken_over derived first table old c.swap.new.self kept c.args.place c.requires.behind
+    c.requires.there c.swap.ensures.len c.swap.ensures.by_index was moved is_was moved_is
+    changed (c.set_last_by.auto.kept ∙ parts.front_len) referred x e)

@@ -15,7 +15,10 @@ steps_of : (g : Over) (c : After-write_steps g) (P : Profile) (F : Form) (x : Ce
     → AreStepsOf (tightened_certificate x c.args.proof.now.report.goal) c.args.proof.now.problem
     c.as_slice-lines.result.now c.args.proof.now.statements c.deref-2.result.now
 steps_of g c P F x is =
-    rw (c.as_slice-lines.ensures, c.deref-2.ensures.value) (tight_steps P F x c.args.proof.now is c.cons-first.result.now c.cons-first.ensures.constraints c.tighten_derived.new.steps.items c.in_ok-tighten_derived.ensures)
+    rw (c.as_slice-lines.ensures, c.deref-2.ensures.value)
+    (tight_steps P F x c.args.proof.now is c.cons-first.result.now
+    c.cons-first.ensures.constraints c.tighten_derived.new.steps.items
+    c.in_ok-tighten_derived.ensures)
 
 pub tighten_derived-requires : goal.tighten_derived-requires
 tighten_derived-requires g c = grind (arith, few_steps)
@@ -36,8 +39,11 @@ returns-in-Ok-clause-text g c = λ P F x is.
     let all = c.in_ok-tighten_derived.ensures in
     let of = steps_of g (goal.at.returns-in-Ok-clause-text g c).After-write_steps P F x is in
     let size : c.len-kept.result ≡ length kept = search rules in
-    tightens_whole P F x k is c.cons-first.result.now c.cons-first.ensures.constraints kept all (c.in-Ok.ensures.law _ of)
-    (g.W.Sink.output c.args.sink.now) (g.W.Sink.output c.write_steps.new.sink) c.len-kept.result c.in_ok-peak_after.peak_after size (rw c.deref.ensures.value at c.in_ok-peak_after.ensures) (c.in-Ok.ensures.output _ of)
+    tightens_whole P F x k is c.cons-first.result.now c.cons-first.ensures.constraints kept all
+    (c.in-Ok.ensures.law _ of)
+    (g.W.Sink.output c.args.sink.now) (g.W.Sink.output c.write_steps.new.sink) c.len-kept.result
+    c.in_ok-peak_after.peak_after size (rw c.deref.ensures.value at c.in_ok-peak_after.ensures)
+    (c.in-Ok.ensures.output _ of)
 
 pub returns-in-Err-Memory-clause-text : goal.returns-in-Err-Memory-clause-text
 returns-in-Err-Memory-clause-text g c = λ P F x is.
@@ -45,7 +51,10 @@ returns-in-Err-Memory-clause-text g c = λ P F x is.
     let t = tightened_certificate x k.report.goal in
     let of = steps_of g (goal.at.returns-in-Err-Memory-clause-text g c).After-write_steps P F x is in
     let h = rw c.in-Err-Memory.field-0-is at c.in-Err-Memory.ensures in
-    rw c.in-Err-Memory.field-0-is (written_not P F x (g.W.Sink.output c.args.sink.now) (g.W.Sink.output c.write_steps.new.sink) (text_in k.statements.form t) c.in-Err-Memory.taken (h.part t of) (h.output t of))
+    rw c.in-Err-Memory.field-0-is
+    (written_not P F x (g.W.Sink.output c.args.sink.now)
+    (g.W.Sink.output c.write_steps.new.sink) (text_in k.statements.form t) c.in-Err-Memory.taken
+    (h.part t of) (h.output t of))
 
 pub returns-in-Err-Write-clause-text : goal.returns-in-Err-Write-clause-text
 returns-in-Err-Write-clause-text g c = λ P F x is.
@@ -55,8 +64,11 @@ returns-in-Err-Write-clause-text g c = λ P F x is.
     let t = tightened_certificate x k.report.goal in
     let of = steps_of g (goal.at.returns-in-Err-Write-clause-text g c).After-write_steps P F x is in
     let h = rw c.in-Err-Write.field-0-is at c.in-Err-Write.ensures in
-    rw c.in-Err-Write.field-0-is (tightens_part P F x k is c.cons-first.result.now c.cons-first.ensures.constraints kept all (h.law t of)
-    (g.W.Sink.output c.args.sink.now) (g.W.Sink.output c.write_steps.new.sink) c.in-Err-Write.taken (h.part t of) (h.output t of))
+    rw c.in-Err-Write.field-0-is
+    (tightens_part P F x k is c.cons-first.result.now c.cons-first.ensures.constraints kept all
+    (h.law t of)
+    (g.W.Sink.output c.args.sink.now) (g.W.Sink.output c.write_steps.new.sink) c.in-Err-Write.taken
+    (h.part t of) (h.output t of))
 
 pub returns-in-Ok-clause-failures : goal.returns-in-Ok-clause-failures
 returns-in-Ok-clause-failures g c =

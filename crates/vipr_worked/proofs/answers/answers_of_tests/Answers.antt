@@ -14,7 +14,13 @@ use Rattle.vipr_spec.specs.{Tests.numbered_tests, Verdict.found_in, Verdict.item
 use Rattle.vipr_worked.proofs.answers.answers_of_tests.Goals as goal
 
 pub returns : goal.returns
-unfolding gcd over ◌+ℚ◌ ◌*ℚ◌ tokens_from tokens_after_front is_white token_here is_cut natural_after natural_of number_read count_of derivation_count_of variable_of new_variable_of reference_of last_of bound_of spelled_sense spelled_direction has_range_of rule_of first_token read_each pair_read pairs_read counted_read vector_read row_read constraint_read version_read names_read integers_read objective_read constraints_read range_read claim_read problem_read solution_read derivations_read entry_read entries_read by_read reason_read derivation_read end_of entry_tests items_read numbered_tests found_in
+unfolding gcd over ◌+ℚ◌ ◌*ℚ◌ tokens_from tokens_after_front is_white token_here is_cut natural_after
+    natural_of number_read count_of derivation_count_of variable_of new_variable_of reference_of
+    last_of bound_of spelled_sense spelled_direction has_range_of rule_of first_token read_each
+    pair_read pairs_read counted_read vector_read row_read constraint_read version_read names_read
+    integers_read objective_read constraints_read range_read claim_read problem_read solution_read
+    derivations_read entry_read entries_read by_read reason_read derivation_read end_of entry_tests
+    items_read numbered_tests found_in
 returns c = record {
   answer_of_test_is = refl;
   last_tests_is = (refl, refl);

@@ -6,7 +6,8 @@ use Rattle.vipr_spec.specs.{Digits.natural_after, Digits.natural_of, Gcd.gcd, Nu
 use Rattle.vipr_worked.proofs.kinds.choices.Goals as goal
 
 pub returns : goal.returns
-unfolding gcd over ◌+ℚ◌ ◌*ℚ◌ natural_after natural_of number_read bound_of spelled_sense spelled_direction has_range_of rule_of
+unfolding gcd over ◌+ℚ◌ ◌*ℚ◌ natural_after natural_of number_read bound_of spelled_sense
+    spelled_direction has_range_of rule_of
 returns c = record {
   number_cause_is = refl;
   or_cause_is = refl;

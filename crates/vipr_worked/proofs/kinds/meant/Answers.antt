@@ -6,7 +6,8 @@ use Rattle.vipr_spec.specs.{Digits.natural_after, Digits.natural_of, Gcd.gcd}
 use Rattle.vipr_worked.proofs.kinds.meant.Goals as goal
 
 pub returns : goal.returns
-unfolding gcd over ◌+ℚ◌ ◌*ℚ◌ natural_after natural_of count_of derivation_count_of variable_of new_variable_of reference_of last_of
+unfolding gcd over ◌+ℚ◌ ◌*ℚ◌ natural_after natural_of count_of derivation_count_of variable_of
+    new_variable_of reference_of last_of
 returns c = record {
   word_of_is = (refl, refl);
   name_of_is = refl;

@@ -10,5 +10,9 @@ use Rattle.vipr_spec.specs.{Digits.natural_after, Digits.natural_of, Gcd.gcd, Nu
 use Rattle.vipr_worked.proofs.reading.heads.Goals as goal
 
 pub returns : goal.returns
-unfolding gcd over ◌+ℚ◌ ◌*ℚ◌ tokens_from tokens_after_front is_white token_here is_cut natural_after natural_of number_read count_of variable_of new_variable_of bound_of spelled_sense spelled_direction has_range_of first_token read_each pair_read pairs_read counted_read vector_read row_read constraint_read version_read names_read integers_read objective_read constraints_read range_read claim_read problem_read
+unfolding gcd over ◌+ℚ◌ ◌*ℚ◌ tokens_from tokens_after_front is_white token_here is_cut natural_after
+    natural_of number_read count_of variable_of new_variable_of bound_of spelled_sense
+    spelled_direction has_range_of first_token read_each pair_read pairs_read counted_read
+    vector_read row_read constraint_read version_read names_read integers_read objective_read
+    constraints_read range_read claim_read problem_read
 returns c = assumption

@@ -7,5 +7,7 @@ use Rattle.vipr_spec.specs.{Digits.natural_after, Digits.natural_of, Gcd.gcd, Nu
 use Rattle.vipr_worked.proofs.reading.parts.Goals as goal
 
 pub returns : goal.returns
-unfolding gcd over ◌+ℚ◌ ◌*ℚ◌ tokens_from tokens_after_front is_white token_here is_cut natural_after natural_of number_read count_of variable_of new_variable_of spelled_sense first_token pair_read pairs_read counted_read vector_read row_read constraint_read solution_read
+unfolding gcd over ◌+ℚ◌ ◌*ℚ◌ tokens_from tokens_after_front is_white token_here is_cut natural_after
+    natural_of number_read count_of variable_of new_variable_of spelled_sense first_token pair_read
+    pairs_read counted_read vector_read row_read constraint_read solution_read
 returns c = assumption

@@ -9,5 +9,9 @@ use Rattle.vipr_spec.specs.{Digits.natural_after, Digits.natural_of, Gcd.gcd, Nu
 use Rattle.vipr_worked.proofs.reading.steps.Goals as goal
 
 pub returns : goal.returns
-unfolding gcd over ◌+ℚ◌ ◌*ℚ◌ tokens_from tokens_after_front is_white token_here is_cut natural_after natural_of number_read count_of derivation_count_of variable_of new_variable_of reference_of last_of spelled_sense rule_of first_token read_each pair_read pairs_read counted_read row_read constraint_read derivations_read entry_read entries_read by_read reason_read derivation_read end_of
+unfolding gcd over ◌+ℚ◌ ◌*ℚ◌ tokens_from tokens_after_front is_white token_here is_cut natural_after
+    natural_of number_read count_of derivation_count_of variable_of new_variable_of reference_of
+    last_of spelled_sense rule_of first_token read_each pair_read pairs_read counted_read row_read
+    constraint_read derivations_read entry_read entries_read by_read reason_read derivation_read
+    end_of
 returns c = assumption

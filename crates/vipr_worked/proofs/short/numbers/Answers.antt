@@ -15,11 +15,27 @@ returns c = record {
     (codes "7", 7, ((lit< tt, (lit< tt, tt)), refl), inr (refl, refl)),
   );
   Number_is = (
-    (codes "-1", codes "2", negsuc 0, 2,
+    (
+      codes "-1",
+      codes "2",
+      negsuc 0,
+      2,
       (codes "1", 1, ((lit< tt, (lit< tt, tt)), refl), inr (refl, refl)),
-      ((lit< tt, (lit< tt, tt)), refl), lit< tt, refl, inl refl),
-    (codes "5", codes "1", pos 5, 1,
+      ((lit< tt, (lit< tt, tt)), refl),
+      lit< tt,
+      refl,
+      inl refl,
+    ),
+    (
+      codes "5",
+      codes "1",
+      pos 5,
+      1,
       (codes "5", 5, ((lit< tt, (lit< tt, tt)), refl), inl (inl refl, refl)),
-      ((lit< tt, (lit< tt, tt)), refl), lit< tt, refl, inr (refl, refl)),
+      ((lit< tt, (lit< tt, tt)), refl),
+      lit< tt,
+      refl,
+      inr (refl, refl),
+    ),
   );
 }

@@ -6,4 +6,6 @@ use Rattle.vipr_write.proofs.Weighing.{Weighs}
 use Rattle.vipr_write.proofs.countable.more_constraints.Given as goal
 
 abbrev pub invariant-loop-constraint : goal.invariant-loop-constraint
-invariant-loop-constraint l = Weighs (λ (x : Named Constraint). suc (length (given_words (named_of constraint_of x)))) l.cons l.constraint-index l.total-2 l.total
+invariant-loop-constraint l =
+    Weighs (λ (x : Named Constraint). suc (length (given_words (named_of constraint_of x)))) l.cons
+    l.constraint-index l.total-2 l.total

@@ -6,4 +6,6 @@ use Rattle.vipr_write.proofs.Weighing.{Weighs}
 use Rattle.vipr_write.proofs.countable.more_solutions.Given as goal
 
 abbrev pub invariant-loop-solution : goal.invariant-loop-solution
-invariant-loop-solution l = Weighs (λ (x : Named Solution). suc (length (solution_words (solution_of x)))) l.solutions l.solution-index l.total-2 l.total
+invariant-loop-solution l =
+    Weighs (λ (x : Named Solution). suc (length (solution_words (solution_of x)))) l.solutions
+    l.solution-index l.total-2 l.total

@@ -16,6 +16,13 @@ loop-gap-preserved g c =
     let piece = slice_range c.as_slice-text.result.now at end in
     let row = c.deref.result.now in
     let tail = expanded f.spelled.items (drop (i + 1) f.gaps.items) (drop end f.text.bytes.items) in
-    let next = next_gap f.spelled.items f.gaps.items f.text.bytes.items c.deref-gap-items.result.now c.as_slice-text.result.now row i at c.deref-gap-items.ensures.value c.as_slice-text.ensures c.deref.ensures.value c.loop-gap-test.true c.loop-gap.invariant.within in
-    let put = subst (λ t. PutUpTo g.O.Out.carries c.args.out.now c.loop-gap.out t (full f)) next.0 c.loop-gap.invariant.put in
-    record { within = next.1; put = up_to_more row tail (up_to_more piece (row ++ tail) put c.put.ensures) c.put-in-loop-gap.ensures }
+    let next = next_gap f.spelled.items f.gaps.items f.text.bytes.items c.deref-gap-items.result.now
+    c.as_slice-text.result.now row i at c.deref-gap-items.ensures.value c.as_slice-text.ensures
+    c.deref.ensures.value c.loop-gap-test.true c.loop-gap.invariant.within in
+    let put = subst (λ t. PutUpTo g.O.Out.carries c.args.out.now c.loop-gap.out t (full f)) next.0
+    c.loop-gap.invariant.put in
+    record {
+      within = next.1;
+      put = up_to_more row tail (up_to_more piece (row ++ tail) put c.put.ensures)
+          c.put-in-loop-gap.ensures;
+    }

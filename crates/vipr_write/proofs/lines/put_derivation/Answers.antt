@@ -11,4 +11,6 @@ returns g c =
     puts_then (puts_same (ap (λ w. 32 ∷ w) (c.as_bytes.ensures.value ∙ c.word.ensures.word)) c.put_word-2.ensures)
     (puts_same (ap (λ rs. words_after_spaces (reference_words rs)) c.references.ensures) c.put_references.ensures) in
     puts_same (sym (derivation_parts_in c.args.form c.args.objective.now [] (derivation_of c.args.derivation.now)))
-    (puts_then (puts_then (puts_then (puts_then (puts_then c.put_stated.ensures c.put_word.ensures) reason) c.put_word-3.ensures) c.put_last.ensures) c.push.ensures)
+    (puts_then (puts_then
+    (puts_then (puts_then (puts_then c.put_stated.ensures c.put_word.ensures) reason)
+    c.put_word-3.ensures) c.put_last.ensures) c.push.ensures)

@@ -8,5 +8,11 @@ use Rattle.vipr_write.proofs.sections.put_constraints.Goals as goal
 
 pub returns : goal.returns
 returns g c =
-    let f = λ (x : Named Constraint). line_text (given_words_in c.args.form c.args.objective.now (named_of constraint_of x)) in
-    puts_same (sym (headed [] (constraints_heading c.args.bound_count) (given_words_in c.args.form c.args.objective.now) (named_of constraint_of) c.args.cons.now)) (puts_then c.put_counts.ensures (puts_all f c.args.cons.now c.loop-constraint.constraint-index c.loop-constraint-test.false c.loop-constraint.invariant))
+    let f = λ (x : Named Constraint).
+    line_text (given_words_in c.args.form c.args.objective.now (named_of constraint_of x)) in
+    puts_same (sym
+    (headed [] (constraints_heading c.args.bound_count)
+    (given_words_in c.args.form c.args.objective.now) (named_of constraint_of) c.args.cons.now))
+    (puts_then c.put_counts.ensures
+    (puts_all f c.args.cons.now c.loop-constraint.constraint-index c.loop-constraint-test.false
+    c.loop-constraint.invariant))

@@ -6,4 +6,7 @@ use Rattle.vipr_bytes.specs.Puts.{Puts}
 use Rattle.vipr_write.proofs.sections.put_derivations.Given as goal
 
 abbrev pub invariant-loop-derivation : goal.invariant-loop-derivation
-invariant-loop-derivation g l = Puts g.O.Out.carries l.initial.out l.out (flat_map (λ (d : Derivation). line_text (derivation_words_in l.form l.objective (derivation_of d))) (take l.derivation-index l.derivations))
+invariant-loop-derivation g l = Puts g.O.Out.carries l.initial.out l.out
+    (flat_map (λ (d : Derivation).
+    line_text (derivation_words_in l.form l.objective (derivation_of d)))
+    (take l.derivation-index l.derivations))

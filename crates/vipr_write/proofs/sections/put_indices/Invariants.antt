@@ -5,4 +5,5 @@ use Rattle.vipr_bytes.specs.Puts.{Puts}
 use Rattle.vipr_write.proofs.sections.put_indices.Given as goal
 
 abbrev pub invariant-loop-index : goal.invariant-loop-index
-invariant-loop-index g l = Puts g.O.Out.carries l.initial.out l.out (flat_map (λ j. line_text (decimal j ∷ [])) (take l.index-index l.indices))
+invariant-loop-index g l = Puts g.O.Out.carries l.initial.out l.out
+    (flat_map (λ j. line_text (decimal j ∷ [])) (take l.index-index l.indices))

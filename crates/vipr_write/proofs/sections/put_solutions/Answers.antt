@@ -10,4 +10,8 @@ use Rattle.vipr_write.proofs.sections.put_solutions.Goals as goal
 pub returns : goal.returns
 returns g c =
     let f = λ (s : Named Solution). line_text (solution_words (solution_of s)) in
-    puts_same (sym (headed [] (heading (codes "SOL")) solution_words solution_of c.args.solutions.now)) (puts_then c.put_heading.ensures (puts_all f c.args.solutions.now c.loop-solution.solution-index c.loop-solution-test.false c.loop-solution.invariant))
+    puts_same (sym
+    (headed [] (heading (codes "SOL")) solution_words solution_of c.args.solutions.now))
+    (puts_then c.put_heading.ensures
+    (puts_all f c.args.solutions.now c.loop-solution.solution-index c.loop-solution-test.false
+    c.loop-solution.invariant))

@@ -7,4 +7,6 @@ use Rattle.vipr_bytes.specs.Puts.{Puts}
 use Rattle.vipr_write.proofs.sections.put_solutions.Given as goal
 
 abbrev pub invariant-loop-solution : goal.invariant-loop-solution
-invariant-loop-solution g l = Puts g.O.Out.carries l.initial.out l.out (flat_map (λ (s : Named Solution). line_text (solution_words (solution_of s))) (take l.solution-index l.solutions))
+invariant-loop-solution g l = Puts g.O.Out.carries l.initial.out l.out
+    (flat_map (λ (s : Named Solution). line_text (solution_words (solution_of s)))
+    (take l.solution-index l.solutions))

@@ -11,6 +11,11 @@ loop-index-preserved c =
     let x = c.loop-index-item.result in
     let so_far = c.loop-index.invariant in
     record {
-      entries = one_more c.loop-index.short.items _ all i c.in-Some.entry x c.loop-index-test.true c.loop-index-item.is c.in_ok-push-in-Some.ensures.items c.in-Some.ensures.entry so_far.entries;
-      are_short = All-more (λ (e : ℕ × ℚ). IsShort e.1) all i x c.loop-index-test.true so_far.are_short (subst (λ (e : ℕ × ℚ). IsShort e.1) c.loop-index-item.is (c.in-Some.ensures.short.0 refl));
+      entries = one_more c.loop-index.short.items _ all i c.in-Some.entry x c.loop-index-test.true
+          c.loop-index-item.is c.in_ok-push-in-Some.ensures.items c.in-Some.ensures.entry
+          so_far.entries;
+      are_short = All-more (λ (e : ℕ × ℚ). IsShort e.1) all i x c.loop-index-test.true
+          so_far.are_short
+          (subst (λ (e : ℕ × ℚ). IsShort e.1) c.loop-index-item.is
+          (c.in-Some.ensures.short.0 refl));
     }

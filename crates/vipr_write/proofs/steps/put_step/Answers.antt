@@ -11,6 +11,11 @@ returns g c =
     let s = c.args.step.now in
     let own = puts_same c.own_bytes.ensures c.put.ensures in
     let row = puts_same c.row_bytes.ensures c.put-2.ensures in
-    let reason = puts_then c.put_rule.ensures (puts_same (ap (λ rs. words_after_spaces (reference_words rs)) c.references.ensures) c.put_step_references.ensures) in
-    puts_same (step_parts (own_bytes t s.stated) (row_bytes t.spelled.items s.stated) (words_after_spaces (reason_words (kept_reason_of s.reason))) (last_word s.last))
-    (puts_then (puts_then (puts_then (puts_then (puts_then own row) reason) c.put-3.ensures) c.put_last.ensures) c.push.ensures)
+    let reason =
+    puts_then c.put_rule.ensures
+    (puts_same (ap (λ rs. words_after_spaces (reference_words rs)) c.references.ensures)
+    c.put_step_references.ensures) in
+    puts_same (step_parts (own_bytes t s.stated) (row_bytes t.spelled.items s.stated)
+    (words_after_spaces (reason_words (kept_reason_of s.reason))) (last_word s.last))
+    (puts_then (puts_then (puts_then (puts_then (puts_then own row) reason) c.put-3.ensures)
+    c.put_last.ensures) c.push.ensures)

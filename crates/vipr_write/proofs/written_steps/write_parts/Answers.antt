@@ -11,4 +11,6 @@ returns g c = λ x of short.
     let text = text_in c.args.statements.now.form x in
     let all = puts_same (steps_are x c.args.problem.now c.args.solutions.now c.args.statements.now c.args.steps.now of)
     (puts_then (puts_then c.put_problem.ensures c.put.ensures) c.put_steps.ensures) in
-    put_and_finished _ c.put_steps.new.out c.finish.new.self text _ start c.finish.result all (c.requires start) c.finish.ensures.sink (c.finish.ensures.end start text short) (search rules)
+    put_and_finished _ c.put_steps.new.out c.finish.new.self text _ start c.finish.result all
+    (c.requires start) c.finish.ensures.sink (c.finish.ensures.end start text short)
+    (search rules)

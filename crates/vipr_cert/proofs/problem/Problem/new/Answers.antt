@@ -11,10 +11,18 @@ of_parts-requires c =
     let known = rw (c.deref.ensures.value, c.deref-2.ensures.value) at c.are_within.ensures in
     record {
       shape = (known.shape c.args.sense c.args.bound_count c.args.claim).0 t;
-      fits = record { objective = known.objective; constraints = known.constraints t; bound_count = bound_count; claim = claim };
+      fits = record {
+        objective = known.objective;
+        constraints = known.constraints t;
+        bound_count = bound_count;
+        claim = claim;
+      };
     }
 
 pub returns-then-not-are_within-clause-shape : goal.returns-then-not-are_within-clause-shape
 returns-then-not-are_within-clause-shape c =
-    let known = rw (c.deref.ensures.value, c.deref-2.ensures.value) at c.are_within.ensures in
-    (λ t. absurd (false≢true t), λ h. sym c.if-not-are_within.true ∙ (known.shape c.args.sense c.args.bound_count c.args.claim).1 h)
+    let known = rw (c.deref.ensures.value, c.deref-2.ensures.value) at c.are_within.ensures in (
+      λ t. absurd (false≢true t),
+      λ h. sym c.if-not-are_within.true
+          ∙ (known.shape c.args.sense c.args.bound_count c.args.claim).1 h,
+    )

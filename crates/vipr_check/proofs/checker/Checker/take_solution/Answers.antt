@@ -11,7 +11,9 @@ use Rattle.vipr_check.proofs.checker.Checker.take_solution.Goals as goal
 pub invariant_of-self : goal.invariant_of-self
 invariant_of-self g c =
     let s = solution_of c.args.solution in
-    reached_listed _ c.args.self.now c.solution-tested.new.self _ s c.self.view_is (rw c.in_default.is at c.go_on.ensures) c.requires.phase c.self.invariant (λ ss has. (c.in-Ok.ensures.next ss s has refl).1)
+    reached_listed _ c.args.self.now c.solution-tested.new.self _ s c.self.view_is
+    (rw c.in_default.is at c.go_on.ensures) c.requires.phase c.self.invariant
+    (λ ss has. (c.in-Ok.ensures.next ss s has refl).1)
 
 pub invariant_of-self-in-Err-tested : goal.invariant_of-self-in-Err-tested
 invariant_of-self-in-Err-tested g c =
@@ -20,11 +22,17 @@ invariant_of-self-in-Err-tested g c =
     let n = c.solutions-number.result in
     let h = c.at_solution.result in
     let halted = solution_halted n s.name c.in-Err-tested.error h c.at_solution.ensures in
-    let unstopped : c.self.inside.halt ≡ None = ap (λ v. v.halt) c.self.view_is ∙ runs_of c.args.self.now.halt _ (rw c.in_default.is at c.go_on.ensures) in
+    let unstopped : c.self.inside.halt ≡ None = ap (λ v. v.halt) c.self.view_is
+    ∙ runs_of c.args.self.now.halt _ (rw c.in_default.is at c.go_on.ensures) in
     let phase : c.self.inside.in_solutions ≡ true = ap (λ v. v.in_solutions) c.self.view_is ∙ c.requires.phase in
     let r = c.self.invariant.solutions (λ m. absurd (cc (unstopped, m))) phase in
-    let shows = subst (CanShowHalt k.problem) (sym c.stop.ensures.halt) (solution_can_show k.problem s.item n s.name c.in-Err-tested.error h (c.in-Err-tested.ensures.next r.0 s r.1 refl) halted) in
-    subst (λ x. IsReached x c.self.inside.in_solutions c.stop.new.halt) (sym c.in-Err-tested.ensures.err) (reached_still k c.self.inside.in_solutions c.self.inside.halt c.stop.new.halt unstopped shows c.self.invariant)
+    let shows = subst (CanShowHalt k.problem) (sym c.stop.ensures.halt)
+    (solution_can_show k.problem s.item n s.name c.in-Err-tested.error h
+    (c.in-Err-tested.ensures.next r.0 s r.1 refl) halted) in
+    subst (λ x. IsReached x c.self.inside.in_solutions c.stop.new.halt)
+    (sym c.in-Err-tested.ensures.err)
+    (reached_still k c.self.inside.in_solutions c.self.inside.halt c.stop.new.halt unstopped
+    shows c.self.invariant)
 
 pub returns-in-Ok-clause-next : goal.returns-in-Ok-clause-next
 returns-in-Ok-clause-next g c = λ ss halted has.
@@ -47,6 +55,10 @@ returns-in-Err-tested-clause-next g c = λ ss unhalted has.
     let h = c.at_solution.result in
     let halted = solution_halted n s.name c.in-Err-tested.error h c.at_solution.ensures in (
       h,
-      halts_same _ c.args.self.now c.solution-tested.new.self c.stop.new.halt h c.stop.result c.self.view_is c.in-Err-tested.ensures.err c.stop.ensures.halt c.stop.ensures.answer,
-      subst (λ (x : Progress). StopsSolution x.problem ss s h) same (stops_solution k.problem ss s n c.in-Err-tested.error h (is.solutions ∙ sym c.solutions-number.ensures) halted (c.in-Err-tested.ensures.next ss s is refl)),
+      halts_same _ c.args.self.now c.solution-tested.new.self c.stop.new.halt h c.stop.result
+          c.self.view_is c.in-Err-tested.ensures.err c.stop.ensures.halt c.stop.ensures.answer,
+      subst (λ (x : Progress). StopsSolution x.problem ss s h) same
+          (stops_solution k.problem ss s n c.in-Err-tested.error h
+          (is.solutions ∙ sym c.solutions-number.ensures) halted
+          (c.in-Err-tested.ensures.next ss s is refl)),
     )

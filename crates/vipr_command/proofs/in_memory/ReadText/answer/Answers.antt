@@ -12,7 +12,10 @@ returns-in_err-verdict c =
     let i = input_of t.bytes.items t.has_failed in
     let e = c.in_err-verdict.field-0.0 in
     let r = c.reader.ensures in
-    unanswered (TellsWhole j.command P j.is_long j.has_sum i) P (known_by i) e c.from_residual.result c.from_residual.ensures.1 ((checked_of _ _ _ _ r.bytes r.end P (Err e) c.in_err-verdict.ensures.verdict).exact r.short)
+    unanswered (TellsWhole j.command P j.is_long j.has_sum i) P
+    (known_by i) e c.from_residual.result c.from_residual.ensures.1
+    ((checked_of _ _ _ _ r.bytes r.end P (Err e) c.in_err-verdict.ensures.verdict).exact
+    r.short)
 
 pub returns : goal.returns
 returns c =
@@ -21,7 +24,9 @@ returns c =
       c.in_ok-verdict.verdict,
       record {
         x = c.in_ok-verdict.detail;
-        explained = said_of _ _ _ _ r.bytes r.end P (Ok (c.in_ok-verdict.verdict, c.in_ok-verdict.detail)) r.short c.in_ok-verdict.ensures.detail;
+        explained = said_of _ _ _ _ r.bytes r.end P
+            (Ok (c.in_ok-verdict.verdict, c.in_ok-verdict.detail)) r.short
+            c.in_ok-verdict.ensures.detail;
         checked = checked_of _ _ _ _ r.bytes r.end P (Ok c.in_ok-verdict.verdict) c.in_ok-verdict.ensures.verdict;
         short = r.short;
         printed = c.in_ok-text.ensures;

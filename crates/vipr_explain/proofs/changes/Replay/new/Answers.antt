@@ -8,5 +8,6 @@ use Rattle.vipr_explain.proofs.changes.Replay.new.Goals as goal
 pub returns-in-Ok : goal.returns-in-Ok
 returns-in-Ok c = record {
   below = subst (DerivedBelow (variables c.args.problem.now)) (sym c.new-in-Ok.ensures) (DerivedBelow-empty _ _);
-  scratch = ap (λ a. length a.sums) c.in-Ok.ensures ∙ length-replicate (length c.names.result.now) zero_ℚ ∙ ap length c.names.ensures.names;
+  scratch = ap (λ a. length a.sums) c.in-Ok.ensures
+      ∙ length-replicate (length c.names.result.now) zero_ℚ ∙ ap length c.names.ensures.names;
 }

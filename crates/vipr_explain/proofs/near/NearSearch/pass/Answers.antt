@@ -12,7 +12,14 @@ pub returns-in-Ok : goal.returns-in-Ok
 returns-in-Ok c =
     let p = c.args.problem.now in
     let entry = c.in_ok-entry.entry in
-    let step : NamesBelow (variables p) (at entry.constraint.row) = grind (arith, c.names_below.ensures, c.names.ensures.names, c.in_ok-entry.ensures, c.if-not-names_below.false) in
+    let step : NamesBelow (variables p) (at entry.constraint.row) =
+    grind (
+      arith,
+      c.names_below.ensures,
+      c.names.ensures.names,
+      c.in_ok-entry.ensures,
+      c.if-not-names_below.false,
+    ) in
     on_ok c.place.result _ _ (λ placed. record {
       below = rw placed (DerivedBelow-step (variables p) _ entry (rw c.keep.ensures c.requires.below) step);
       scratch = ap (λ r. length r.scratch.sums) c.keep.ensures ∙ c.requires.scratch;

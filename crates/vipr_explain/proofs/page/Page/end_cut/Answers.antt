@@ -1,4 +1,5 @@
-use Rattle.std.proofs.Common.{◌≡◌, ℕ, ◌+◌, ◌≤◌, true, Bool, cond, List, ◌++◌, length, refl, sym, subst, ap, arith, rules}
+use Rattle.std.proofs.Common.{◌≡◌, ℕ, ◌+◌, ◌≤◌, true, Bool, cond, List, ◌++◌, length}
+use Rattle.std.proofs.Common.{refl, sym, subst, ap, arith, rules}
 use Rattle.std.proofs.Common.{false, codes}
 use Rattle.std.proofs.lemmas.List.{length-append, length-take}
 use Rattle.std.proofs.lemmas.List.Elements.{All-append, All-take}
@@ -25,5 +26,16 @@ pub invariant_of-self : goal.invariant_of-self
 invariant_of-self c =
     let before : IsPage c.args.self.now.bytes.items = search rules in
     let front = c.truncate.new.self.items in
-    let shown : All (λ b. is_shown b ≡ true) front = rw c.truncate.ensures.items (All-take (λ b. is_shown b ≡ true) _ _ before.shown) in
-    record { is_page = cut_page _ front _ shown (omega (arith, ap length c.truncate.ensures.items, length-take {A = ℕ}, c.lines_end-end.ensures)) (rw c.as_bytes.ensures.value at c.extend_from_slice.ensures.items) }
+    let shown : All (λ b. is_shown b ≡ true) front =
+    rw c.truncate.ensures.items (All-take (λ b. is_shown b ≡ true) _ _ before.shown) in
+    record {
+      is_page =
+          cut_page _ front _ shown
+          (omega (
+            arith,
+            ap length c.truncate.ensures.items,
+            length-take {A = ℕ},
+            c.lines_end-end.ensures,
+          ))
+          (rw c.as_bytes.ensures.value at c.extend_from_slice.ensures.items);
+    }

@@ -12,7 +12,12 @@ result_is c =
     let bounded = c.numer.ensures.bounded in
     to_z-of_z w128 c.div_euclid.result (record { sfits = c.div_euclid.type_inv })
     ∙ c.div_euclid.ensures
-    ∙ rw (c.numer.ensures.value, c.denom.ensures.value, as-is c.args.self.numer bounded.0, as-is (pos c.args.self.denom) bounded.1)
+    ∙ rw (
+      c.numer.ensures.value,
+      c.denom.ensures.value,
+      as-is c.args.self.numer bounded.0,
+      as-is (pos c.args.self.denom) bounded.1,
+    )
 
 pub returns-clause-floor : goal.returns-clause-floor
 returns-clause-floor c = subst (λ k. IsFloor c.args.self k) (sym (result_is c)) (IsFloor-quotient c.args.self)

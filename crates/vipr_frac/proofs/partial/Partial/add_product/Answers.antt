@@ -20,14 +20,20 @@ module _ (c : After-from-then-are_short-2) where
   r_word = subst (λ z. FitsSigned w64 z) r_back (c.are_short-then-are_short.ensures.0 c.if-are_short-2.true).0
 
   p_is : to_z w128 (of_z w128 c.from.result) ≡ c.parts-p.result.0
-  p_is = to_z-of_z w128 c.from.result (record { sfits = c.from.type_inv }) ∙ c.from.ensures ∙ rw p_back (to_z-of_z w64 c.parts-p.result.0 p_word)
+  p_is = to_z-of_z w128 c.from.result (record { sfits = c.from.type_inv }) ∙ c.from.ensures
+      ∙ rw p_back (to_z-of_z w64 c.parts-p.result.0 p_word)
 
   r_is : to_z w128 (of_z w128 c.from-then-are_short-2.result) ≡ c.parts-r.result.0
-  r_is = to_z-of_z w128 c.from-then-are_short-2.result (record { sfits = c.from-then-are_short-2.type_inv }) ∙ c.from-then-are_short-2.ensures ∙ rw r_back (to_z-of_z w64 c.parts-r.result.0 r_word)
+  r_is = to_z-of_z w128 c.from-then-are_short-2.result
+      (record { sfits = c.from-then-are_short-2.type_inv }) ∙ c.from-then-are_short-2.ensures
+      ∙ rw r_back (to_z-of_z w64 c.parts-r.result.0 r_word)
 
-  short : IsShortProduct c.args.multiplier c.args.coefficient (c.parts-p.result.0 *ℤ c.parts-r.result.0) (c.parts-p.result.1 * c.parts-r.result.1)
-  short = short_product _ _ _ _ _ _ _ _ c.parts-p.ensures.numer c.parts-p.ensures.denom c.parts-r.ensures.numer c.parts-r.ensures.denom p_word r_word
-      (c.are_short.ensures.0 c.if-are_short.true).1 (c.are_short-then-are_short.ensures.0 c.if-are_short-2.true).1 refl refl
+  short : IsShortProduct c.args.multiplier c.args.coefficient
+      (c.parts-p.result.0 *ℤ c.parts-r.result.0) (c.parts-p.result.1 * c.parts-r.result.1)
+  short = short_product _ _ _ _ _ _ _ _ c.parts-p.ensures.numer c.parts-p.ensures.denom
+      c.parts-r.ensures.numer c.parts-r.ensures.denom p_word r_word
+      (c.are_short.ensures.0 c.if-are_short.true).1
+      (c.are_short-then-are_short.ensures.0 c.if-are_short-2.true).1 refl refl
 
   fits : FitsSigned w128 (c.parts-p.result.0 *ℤ c.parts-r.result.0)
   fits = fits_signed_from_abs w128 _ (let h = short.numer in omega arith)
@@ -63,7 +69,9 @@ returns-then-add_short-clause-sum c =
 -- the parts that are passed on are those of the factors
 pub returns-else-add_short : goal.returns-else-add_short
 returns-else-add_short c =
-    let left = passed-on c.args.multiplier _ _ c.parts-p.ensures.numer c.parts-p.ensures.denom c.parts-p.ensures.reduced in
-    let right = passed-on c.args.coefficient _ _ c.parts-r.ensures.numer c.parts-r.ensures.denom c.parts-r.ensures.reduced in
+    let left = passed-on c.args.multiplier _ _ c.parts-p.ensures.numer c.parts-p.ensures.denom
+    c.parts-p.ensures.reduced in
+    let right = passed-on c.args.coefficient _ _ c.parts-r.ensures.numer c.parts-r.ensures.denom
+    c.parts-r.ensures.reduced in
     let h = rw (left, right, c.add_short.ensures.kept c.if-add_short.false) at c.add_exact.ensures in
     record { fits = h.fits; sum = h.sum; kept = h.kept }

@@ -17,12 +17,15 @@ crossed x p q some = (
 pub returns-in-Some-Some : goal.returns-in-Some-Some
 returns-in-Some-Some c =
     let x = c.args.fraction in
-    let f : Facts x c.parts-r.result.0 c.parts-r.result.1 = facts_of _ _ _ c.parts-r.ensures.numer c.parts-r.ensures.denom c.parts-r.ensures.reduced in
+    let f : Facts x c.parts-r.result.0 c.parts-r.result.1 =
+    facts_of _ _ _ c.parts-r.ensures.numer c.parts-r.ensures.denom c.parts-r.ensures.reduced in
     let a = c.in-Some-Some.ensures in
     let b = c.in-Some-Some.ensures' in
     let p_word : FitsSigned w64 c.in-Some-Some.p = search rules in
     let r_word : FitsSigned w64 c.in-Some-Some.r = search rules in
-    let p_is : to_z w64 (of_z w64 c.in-Some-Some.p) ≡ c.self.inside.p = to_z-of_z w64 c.in-Some-Some.p p_word ∙ a.1 ∙ as-is c.self.inside.p c.self.invariant.numer_bounded in
+    let p_is : to_z w64 (of_z w64 c.in-Some-Some.p) ≡ c.self.inside.p =
+    to_z-of_z w64 c.in-Some-Some.p p_word ∙ a.1
+    ∙ as-is c.self.inside.p c.self.invariant.numer_bounded in
     let r_is : to_z w64 (of_z w64 c.in-Some-Some.r) ≡ x.numer = to_z-of_z w64 c.in-Some-Some.r r_word ∙ b.1 ∙ f.back in
     let s_is : c.in-Some-Some.s ≡ x.denom = b.2 ∙ f.denom in
     let h = rw (p_is, r_is, a.2, s_is) at c.are_equal.ensures in

@@ -17,7 +17,8 @@ none_of : (p : ℤ) (q : ℕ) → 0 < q → over p q ≡ zero_ℚ → p ≡ pos 
 none_of p q some e =
     let h : Is zero_ℚ p q = subst (λ x. Is x p q) e (is_over p q some) in
     let k : Is zero_ℚ (pos 0) q = is_zero q some in
-    let same : p *ℤ pos 1 ≡ pos 0 *ℤ pos 1 = subst (λ n. p *ℤ pos n ≡ pos 0 *ℤ pos n) zero_denom (sym h.cross ∙ k.cross) in
+    let same : p *ℤ pos 1 ≡ pos 0 *ℤ pos 1 = subst (λ n. p *ℤ pos n ≡ pos 0 *ℤ pos n) zero_denom
+    (sym h.cross ∙ k.cross) in
     omega (arith, ints, same)
 
 pub returns : goal.returns

@@ -6,4 +6,9 @@ pub returns : goal.returns
 returns c =
     let x = c.args.fraction in
     let bounded = c.numer.ensures.bounded in
-    rw (c.numer.ensures.value, c.denom.ensures.value, as-is x.numer bounded.0, as-is (pos x.denom) bounded.1) (over-self x)
+    rw (
+      c.numer.ensures.value,
+      c.denom.ensures.value,
+      as-is x.numer bounded.0,
+      as-is (pos x.denom) bounded.1,
+    ) (over-self x)

@@ -8,7 +8,8 @@ use Rattle.vipr_linear.proofs.display.RowDisplay.fmt.Goals as goal
 pub loop-entry-preserved : goal.loop-entry-preserved
 loop-entry-preserved g c = λ plain.
     let now = c.loop-entry.invariant plain in
-    has_written_of_eq _ _ _ _ _ (behind_more _ _ _ _ _ c.loop-entry-test.true c.entry-item.is) (has_written_append _ _ _ _ _ _ now (search rules))
+    has_written_of_eq _ _ _ _ _ (behind_more _ _ _ _ _ c.loop-entry-test.true c.entry-item.is)
+    (has_written_append _ _ _ _ _ _ now (search rules))
 
 pub returns-clause-writes : goal.returns-clause-writes
 returns-clause-writes g c = λ plain ok.

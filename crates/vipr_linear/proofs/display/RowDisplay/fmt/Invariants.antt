@@ -7,4 +7,5 @@ use Rattle.vipr_linear.proofs.display.RowDisplay.fmt.Given as goal
 abbrev pub invariant-loop-entry : goal.invariant-loop-entry
 invariant-loop-entry g l =
     IsPlainFormatter l.fn.f
-    → HasWritten g.W.Write.write_str_gives l.fn.f (decimal (length l.entries) ++ entries_text (take l.entry-index l.entries)) l.f
+    → HasWritten g.W.Write.write_str_gives l.fn.f
+    (decimal (length l.entries) ++ entries_text (take l.entry-index l.entries)) l.f

@@ -17,6 +17,7 @@ returns-in-Some c =
 pub returns-in-None : goal.returns-in-None
 returns-in-None c =
     let e = c.is_ok.ensures.value
-    ∙ found c.self.inside.indices.items c.args.variable _ c.self.invariant.rising (rw c.deref-in-None.ensures.value at c.binary_search.ensures.position)
+    ∙ found c.self.inside.indices.items c.args.variable _ c.self.invariant.rising
+    (rw c.deref-in-None.ensures.value at c.binary_search.ensures.position)
     ∙ ap (λ s. contains s c.args.variable) c.self.view_is in
     (λ t. sym e ∙ t, λ t. e ∙ t)

@@ -6,7 +6,8 @@ use Rattle.vipr_linear.proofs.places.Places.add_terms.Goals as goal
 
 pub returns-in_err-add_term-clause-fits : goal.returns-in_err-add_term-clause-fits
 returns-in_err-add_term-clause-fits c =
-    let fits = next_fits c.loop-entry.self c.args.multiplier c.args.entries.now c.loop-entry.entry-index c.entry-item.result (omega arith) c.entry-item.is in (
+    let fits = next_fits c.loop-entry.self c.args.multiplier c.args.entries.now
+    c.loop-entry.entry-index c.entry-item.result (omega arith) c.entry-item.is in (
       λ o. absurd (not_both _ c.from_residual.ensures.0 o),
       λ h. absurd (false≢true (c.in_err-add_term.ensures.fits.1 (fits.0 (c.loop-entry.invariant.fits.0 h)).0)),
     )
@@ -27,11 +28,19 @@ loop-entry-preserved c =
         λ h. subst (λ xs. TermsFitIn xs m (drop (i + 1) es)) (sym new) (fits.0 (before.fits.0 h)).1,
         λ h. before.fits.1 (fits.1 (fit, subst (λ xs. TermsFitIn xs m (drop (i + 1) es)) new h)),
       );
-      sums = ap (λ xs. with_terms xs m (drop (i + 1) es)) new ∙ sym (next_sums was m es i c.entry-item.result (omega arith) c.entry-item.is) ∙ before.sums;
+      sums = ap (λ xs. with_terms xs m (drop (i + 1) es)) new
+          ∙ sym (next_sums was m es i c.entry-item.result (omega arith) c.entry-item.is)
+          ∙ before.sums;
     }
 
 pub returns-clause-fits : goal.returns-clause-fits
-returns-clause-fits c = (λ _. c.loop-entry.invariant.fits.1 (all_fit _ _ _ c.loop-entry.entry-index c.loop-entry-test.false), λ _. refl)
+returns-clause-fits c = (
+  λ _. c.loop-entry.invariant.fits.1
+      (all_fit _ _ _ c.loop-entry.entry-index c.loop-entry-test.false),
+  λ _. refl,
+)
 
 pub returns-clause-sums : goal.returns-clause-sums
-returns-clause-sums c = sym (no_more _ c.args.multiplier c.args.entries.now c.loop-entry.entry-index c.loop-entry-test.false) ∙ c.loop-entry.invariant.sums
+returns-clause-sums c =
+    sym (no_more _ c.args.multiplier c.args.entries.now c.loop-entry.entry-index
+    c.loop-entry-test.false) ∙ c.loop-entry.invariant.sums

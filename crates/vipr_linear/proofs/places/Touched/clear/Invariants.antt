@@ -5,5 +5,6 @@ use Rattle.vipr_linear.proofs.places.Touched.clear.Given as goal
 abbrev pub invariant-loop-place : goal.invariant-loop-place
 invariant-loop-place l = record {
   places : length l.self-inside.1.0.items ≡ length l.fn.self;
-  marks : (j : ℕ) → get_or l.self-inside.1.0.items j false ≡ true → list_any (nat_eq j) (drop l.place-index l.place-items) ≡ true;
+  marks : (j : ℕ) → get_or l.self-inside.1.0.items j false ≡ true
+      → list_any (nat_eq j) (drop l.place-index l.place-items) ≡ true;
 }

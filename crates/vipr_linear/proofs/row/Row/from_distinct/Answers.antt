@@ -4,7 +4,11 @@ use Rattle.vipr_linear.proofs.Rows.{row_kept, row_seen, entries_fit}
 use Rattle.vipr_linear.proofs.row.Row.from_distinct.Goals as goal
 
 kept : (c : goal.After-drop_zeros) → AreEntries c.drop_zeros.new.pairs.items
-kept c = record { rising = rw c.drop_zeros.ensures.kept (row_kept _ c.distinct_in_order-entries.ensures.rising); bounded = c.drop_zeros.ensures.bounded }
+kept c = record {
+  rising =
+      rw c.drop_zeros.ensures.kept (row_kept _ c.distinct_in_order-entries.ensures.rising);
+  bounded = c.drop_zeros.ensures.bounded;
+}
 
 pub invariant_of-result : goal.invariant_of-result
 invariant_of-result c = kept c

@@ -6,17 +6,30 @@ use Rattle.vipr_linear.proofs.row.Row.of_one.Goals as goal
 
 pub returns-then-is_zero-clause-row : goal.returns-then-is_zero-clause-row
 returns-then-is_zero-clause-row c =
-    let zero : is_nonzero (c.args.variable, c.args.coefficient) ≡ false = ap not (sym c.is_zero.ensures.zero ∙ c.if-is_zero.true) in
-    rw c.new.ensures.items (ap (from_sorted {R = nat_cmp}) (sym (one_fails (c.args.variable, c.args.coefficient) zero)) ∙ one_seen (c.args.variable, c.args.coefficient))
+    let zero : is_nonzero (c.args.variable, c.args.coefficient) ≡ false =
+    ap not (sym c.is_zero.ensures.zero ∙ c.if-is_zero.true) in
+    rw c.new.ensures.items
+    (ap (from_sorted {R = nat_cmp}) (sym (one_fails (c.args.variable, c.args.coefficient) zero))
+    ∙ one_seen (c.args.variable, c.args.coefficient))
 
 pub returns-then-is_zero-clause-fits : goal.returns-then-is_zero-clause-fits
-returns-then-is_zero-clause-fits c = rw c.new.ensures.items (entries_fit [] (record { rising = tt; bounded = λ k d l. absurd (omega arith) }))
+returns-then-is_zero-clause-fits c =
+    rw c.new.ensures.items
+    (entries_fit [] (record { rising = tt; bounded = λ k d l. absurd (omega arith) }))
 
 pub invariant_of-result-2 : goal.invariant_of-result-2
-invariant_of-result-2 c = one_kept (c.args.variable, c.args.coefficient) (ap not (sym c.is_zero.ensures.zero ∙ c.if-is_zero.false)) c.is_zero.ensures.bounded
+invariant_of-result-2 c = one_kept (c.args.variable, c.args.coefficient)
+    (ap not (sym c.is_zero.ensures.zero ∙ c.if-is_zero.false)) c.is_zero.ensures.bounded
 
 pub returns-clause-row : goal.returns-clause-row
-returns-clause-row c = ap (from_sorted {R = nat_cmp}) (sym (one_passes (c.args.variable, c.args.coefficient) (ap not (sym c.is_zero.ensures.zero ∙ c.if-is_zero.false)))) ∙ one_seen (c.args.variable, c.args.coefficient)
+returns-clause-row c =
+    ap (from_sorted {R = nat_cmp})
+    (sym (one_passes (c.args.variable, c.args.coefficient)
+    (ap not (sym c.is_zero.ensures.zero ∙ c.if-is_zero.false))))
+    ∙ one_seen (c.args.variable, c.args.coefficient)
 
 pub returns-clause-fits : goal.returns-clause-fits
-returns-clause-fits c = entries_fit _ (one_kept (c.args.variable, c.args.coefficient) (ap not (sym c.is_zero.ensures.zero ∙ c.if-is_zero.false)) c.is_zero.ensures.bounded)
+returns-clause-fits c =
+    entries_fit _
+    (one_kept (c.args.variable, c.args.coefficient)
+    (ap not (sym c.is_zero.ensures.zero ∙ c.if-is_zero.false)) c.is_zero.ensures.bounded)

@@ -17,7 +17,9 @@ add_solution-requires c =
     record {
       columns = (
         p.objective,
-        subst (AreColumns p.objective _ (length c.args.self.now.sums)) (sym c.deref.ensures.value) (subst₂ (λ cs n. AreColumns p.objective cs n c.args.self.now.columns.items) (sym given) (sym many) c.requires.columns.columns),
+        subst (AreColumns p.objective _ (length c.args.self.now.sums)) (sym c.deref.ensures.value)
+            (subst₂ (λ cs n. AreColumns p.objective cs n c.args.self.now.columns.items) (sym given)
+            (sym many) c.requires.columns.columns),
       );
     }
 
@@ -26,7 +28,8 @@ are_nonzero-requires c =
     let p = c.args.problem.now in
     let many = ap length c.requires.columns.sums ∙ length-replicate (length p.constraints) zero_ℚ in
     let now = ap length c.sums.ensures ∙ c.add_solution.ensures.constraints ∙ many in
-    subst₂ (λ n xs. All (λ i. i < n) xs) (sym now) (sym c.deref-then-is_ok.ensures.value) (all_within _ _ _ _ c.requires.columns.false_at_zero)
+    subst₂ (λ n xs. All (λ i. i < n) xs) (sym now) (sym c.deref-then-is_ok.ensures.value)
+    (all_within _ _ _ _ c.requires.columns.false_at_zero)
 
 pub returns-clause-met : goal.returns-clause-met
 returns-clause-met c = λ t. elim c.if-are_nonzero.branch [
@@ -44,14 +47,26 @@ returns-clause-met c = λ t. elim c.if-are_nonzero.branch [
         let given = given_same p cons c.cons-cons.ensures.constraints in
         let count = count_same p cons c.cons-cons.ensures.constraints in
         let many = ap length c.requires.columns.sums ∙ length-replicate (length p.constraints) zero_ℚ in
-        let columns = subst (AreColumns o _ (length old)) (sym c.deref.ensures.value) (subst₂ (λ cs n. AreColumns o cs n c.args.self.now.columns.items) (sym given) (sym many) c.requires.columns.columns) in
+        let columns = subst (AreColumns o _ (length old)) (sym c.deref.ensures.value)
+        (subst₂ (λ cs n. AreColumns o cs n c.args.self.now.columns.items) (sym given)
+        (sym many) c.requires.columns.columns) in
         let start = sums_start o (given_of cons) x old (length p.constraints) c.requires.columns.sums in
-        let summed = known_ok c.add_solution.result (AreSums o (given_of cons) x (length c.deref.result.now) sums) c.is_ok.result c.is_ok.ensures.value w.if-is_ok.true (c.add_solution.ensures.sums o columns start) in
-        let at_zero = subst₂ (λ cs n. AreFalseAtZero o cs n indices) (sym given) (sym (as_many cons ∙ count)) c.requires.columns.false_at_zero in
-        let nonzero = subst₂ (λ xs is. All (λ i. get_or xs i zero_ℚ ≢ zero_ℚ) is) w.sums.ensures w.deref-then-is_ok.ensures.value (w.are_nonzero.ensures (sym w.value-is ∙ v.if-are_nonzero.true)) in
-        let all = met o (given_of cons) (length c.deref.result.now) x sums indices (c.add_solution.ensures.constraints ∙ many ∙ sym (as_many cons ∙ count)) summed at_zero nonzero (v.all_true-met.ensures (sym v.met-is ∙ t)) in
+        let summed =
+        known_ok c.add_solution.result
+        (AreSums o (given_of cons) x (length c.deref.result.now) sums) c.is_ok.result
+        c.is_ok.ensures.value w.if-is_ok.true (c.add_solution.ensures.sums o columns start) in
+        let at_zero = subst₂ (λ cs n. AreFalseAtZero o cs n indices) (sym given)
+        (sym (as_many cons ∙ count)) c.requires.columns.false_at_zero in
+        let nonzero = subst₂ (λ xs is. All (λ i. get_or xs i zero_ℚ ≢ zero_ℚ) is) w.sums.ensures
+        w.deref-then-is_ok.ensures.value
+        (w.are_nonzero.ensures (sym w.value-is ∙ v.if-are_nonzero.true)) in
+        let all = met o (given_of cons) (length c.deref.result.now) x sums indices
+        (c.add_solution.ensures.constraints ∙ many ∙ sym (as_many cons ∙ count)) summed at_zero
+        nonzero (v.all_true-met.ensures (sym v.met-is ∙ t)) in
         let variables_same = ap length c.deref.ensures.value ∙ c.requires.columns.variables in
         all_met p c.args.solution.now.0 (subst₂ (λ cs n. AreMet o cs n x) given variables_same all)
-        c.requires.room c.args.self.now.bounds c.requires.columns.bounds (subst (LiesWithin c.args.self.now.bounds) c.requires.value (c.admit.ensures.0 c.if-not-admit.false))
+        c.requires.room c.args.self.now.bounds c.requires.columns.bounds
+        (subst (LiesWithin c.args.self.now.bounds) c.requires.value
+        (c.admit.ensures.0 c.if-not-admit.false))
   ]
 ]

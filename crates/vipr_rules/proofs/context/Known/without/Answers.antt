@@ -5,4 +5,5 @@ use Rattle.vipr_table.proofs.Laws.{remove_none}
 use Rattle.vipr_rules.proofs.context.Known.without.Goals as goal
 
 pub returns-in-Given : goal.returns-in-Given
-returns-in-Given c = c.empty.ensures ∙ remove_none c.args.index ∙ ap (λ k. remove (set_of k) c.args.index) (sym c.in-Given.is)
+returns-in-Given c = c.empty.ensures ∙ remove_none c.args.index
+    ∙ ap (λ k. remove (set_of k) c.args.index) (sym c.in-Given.is)

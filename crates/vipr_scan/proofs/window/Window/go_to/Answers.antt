@@ -12,4 +12,6 @@ returns g c =
     let short : length (at_hand c.args.self.now) ≤ c.args.self.now.ready - c.args.self.now.start = part_short _ _ _ in
     let within : c.args.self.now.ready ≤ c.args.self.now.end = ready_within c.args.self.now in
     let ordered = c.args.self.now.ordered in
-    gone c.args.self.now.place c.args.self.now.buf.value c.args.self.now.start c.args.self.now.end c.args.self.now.offset m n (source_left g.R.Source.input c.args.self.now) (omega arith) (omega arith)
+    gone c.args.self.now.place c.args.self.now.buf.value c.args.self.now.start c.args.self.now.end
+    c.args.self.now.offset m n (source_left g.R.Source.input c.args.self.now) (omega arith)
+    (omega arith)

@@ -14,7 +14,8 @@ placed : (buf : List ℕ) (start end gap len : ℕ) → gap ≤ length (slice_ra
     ≡ take len (drop gap (slice_range buf start end))
 placed buf start end gap len within more =
     let short : length (slice_range buf start end) ≤ end - start = part_short buf start end in
-    let size : length (drop gap (slice_range buf start end)) ≡ length (slice_range buf start end) - gap = length-drop gap (slice_range buf start end) in
+    let size : length (drop gap (slice_range buf start end)) ≡ length (slice_range buf start end) -
+    gap = length-drop gap (slice_range buf start end) in
     part_front buf (start + gap) end len (omega arith) ∙ ap (take len) (narrowed buf start end gap (omega arith))
 
 -- what is left behind it and the white space that ends it
@@ -24,12 +25,15 @@ cut : (buf : List ℕ) (start end gap len : ℕ) → gap ≤ length (slice_range
     ≡ drop (len + 1) (drop gap (slice_range buf start end))
 cut buf start end gap len within more =
     let short : length (slice_range buf start end) ≤ end - start = part_short buf start end in
-    let size : length (drop gap (slice_range buf start end)) ≡ length (slice_range buf start end) - gap = length-drop gap (slice_range buf start end) in
+    let size : length (drop gap (slice_range buf start end)) ≡ length (slice_range buf start end) -
+    gap = length-drop gap (slice_range buf start end) in
     let e : start + gap + len + 1 ≡ start + gap + (len + 1) = omega arith in
-    rw e (narrowed buf (start + gap) end (len + 1) (omega arith)) ∙ ap (drop (len + 1)) (narrowed buf start end gap (omega arith))
+    rw e (narrowed buf (start + gap) end (len + 1) (omega arith))
+    ∙ ap (drop (len + 1)) (narrowed buf start end gap (omega arith))
 
 pub returns-clause-bytes : goal.returns-clause-bytes
-returns-clause-bytes g c = placed c.args.self.now.buf.value c.args.self.now.start c.args.self.now.end c.args.gap c.args.len c.requires.gap.within c.requires.token.within
+returns-clause-bytes g c = placed c.args.self.now.buf.value c.args.self.now.start
+    c.args.self.now.end c.args.gap c.args.len c.requires.gap.within c.requires.token.within
 
 pub returns-clause-read : goal.returns-clause-read
 returns-clause-read g c =
@@ -39,14 +43,22 @@ returns-clause-read g c =
     let short : length (slice_range buf start end) ≤ end - start = part_short buf start end in
     let offset = c.saturating_add-offset.result in
     let moved : ℕ = min (c.args.self.now.offset + (start + c.args.gap + c.args.len + 1)) (2 ^ 64 - 1) in
-    let at : offset ≡ min (front_offset c.args.self.now + c.args.gap) (2 ^ 64 - 1) = omega (arith, c.saturating_add-offset.ensures) in
+    let at : offset ≡ min (front_offset c.args.self.now + c.args.gap) (2 ^ 64 - 1) =
+    omega (arith, c.saturating_add-offset.ensures) in
     let past : moved ≡ min (offset + (c.args.len + 1)) (2 ^ 64 - 1) = omega (arith, c.saturating_add-offset.ensures) in
-    let found : Found = record { start = start + c.args.gap; len = c.args.len; offset = c.saturating_add-offset.result; long = false } in
+    let found : Found = record {
+      start = start + c.args.gap;
+      len = c.args.len;
+      offset = c.saturating_add-offset.result;
+      long = false;
+    } in
     let behind = cut buf start end c.args.gap c.args.len c.requires.gap.within c.requires.token.within in
     let source = source_left g.R.Source.input c.args.self.now in
     rw c.requires.gap.place (short_known _ _ (view_of_found buf found)
     (rw (placed buf start end c.args.gap c.args.len c.requires.gap.within c.requires.token.within)
-    (passed_answer source (front_offset c.args.self.now) c.saturating_add-offset.result (unread c.args.self.now) c.args.gap c.args.len
+    (passed_answer source (front_offset c.args.self.now) c.saturating_add-offset.result
+    (unread c.args.self.now) c.args.gap c.args.len
     c.requires.gap.within c.requires.gap.tokens c.requires.token (omega arith) at)) refl
-    (passed_left source (front_offset c.args.self.now) c.saturating_add-offset.result moved (unread c.args.self.now) _ c.args.gap c.args.len
+    (passed_left source (front_offset c.args.self.now) c.saturating_add-offset.result moved
+    (unread c.args.self.now) _ c.args.gap c.args.len
     c.requires.gap.within c.requires.gap.tokens c.requires.token (omega arith) at past behind))

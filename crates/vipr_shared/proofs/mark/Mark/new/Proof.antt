@@ -38,14 +38,17 @@ new_spec 𝓤 𝓛 𝓜 𝓡 wired Y laws =
     let hs : Stays En₀.signature.params En₀.kept = (stay_dropped (slot_at 0 En₀.signature.params) En₀.kept.0, tt) in
     let C = (tables 𝓤 H 𝓜 𝓡 𝓡.env).C in
     let Λ = (tables 𝓤 H 𝓜 𝓡 𝓡.env).Λ in
-    proved_at 𝓛 En₀ hs c 𝓜 𝓡 (Goes-dropped 𝓛 2 (slot_at 0 En₀.signature.params) En₀.kept.0 (λ κs x f. refl), tt) (#self args) fn (compiled.unfolded 𝓤 H 𝓜 𝓡 wired (Y, tt)) (λ z are.
+    proved_at 𝓛 En₀ hs c 𝓜 𝓡
+    (Goes-dropped 𝓛 2 (slot_at 0 En₀.signature.params) En₀.kept.0 (λ κs x f. refl), tt)
+    (#self args) fn (compiled.unfolded 𝓤 H 𝓜 𝓡 wired (Y, tt)) (λ z are.
     let Post : Val → SProp 𝓤 = (walk_of 𝓛 En₀ hs c).post z in
     let a = z.0.3 in
     let vss = z.0.4 in
     let F : RattleType = inside.the_row (param 0 Y) in
     let x = a.0.now in
     let v : Val = mark_val 0 in
-    qed 𝓛 ((raw (alive 𝓛 En₀.signature z.0.0 z.0.1) ⊛ ‵ (owns (types_at En₀.signature.params z.0.0) a vss)) ∷ raw ((c z.0.0 a).requires z.1) ∷ []) ∵
+    qed 𝓛 ((raw (alive 𝓛 En₀.signature z.0.0 z.0.1) ⊛ ‵
+    (owns (types_at En₀.signature.params z.0.0) a vss)) ∷ raw ((c z.0.0 a).requires z.1) ∷ []) ∵
     move ! (1 ∷ []) $ drop ! $ split ! $ move ! (1 ∷ []) $ drop ! $
     regoal ! (λ (us : List Val). prop (WpFn 𝓤 H C Λ fn us Post)) (λ i. are.0.0 i ++ []) refl $
     enter ! C Λ fn (vptr a.0.ref_ptr.0 a.0.ref_ptr.1 ∷ []) Post $
@@ -57,5 +60,6 @@ new_spec 𝓤 𝓛 𝓜 𝓡 wired Y laws =
     use0 𝓛 (‵ (F.own_val (record { word = 0; marker = record {} }) (v ∷ []))) (mark_made 𝓛 0 (lit< tt)) $ fjoin ! $
     fpack ! F.Denot (λ i. fsep (F.own_val i (v ∷ [])) (is_zero i.word)) (record { word = 0; marker = record {} }) $
     nothing ! $ fpack ! (Typed F.mir (v ∷ [])) (λ _. ftrue) (mark_typed 0 (lit< tt), tt) $ fjoin ! $
-    use0 𝓛 (raw (fact 𝓤 (x ≡ x))) (fact_i 𝓤 (x ≡ x) (emp 𝓤) refl) $ nothing ! $ nothing ! $ fjoin ! $ move ! (3 ∷ 0 ∷ 2 ∷ 1 ∷ []) $
+    use0 𝓛 (raw (fact 𝓤 (x ≡ x))) (fact_i 𝓤 (x ≡ x) (emp 𝓤) refl) $ nothing ! $ nothing ! $ fjoin !
+    $ move ! (3 ∷ 0 ∷ 2 ∷ 1 ∷ []) $
     by ! (leaves 𝓛 En₀ hs c z v x (tt, tt) (tt, tt))))

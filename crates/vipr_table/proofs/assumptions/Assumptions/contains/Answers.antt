@@ -18,4 +18,5 @@ returns-in-One c =
 pub returns-in-Many : goal.returns-in-Many
 returns-in-Many c =
     c.is_in.ensures ∙ sym (contains-from_list_nat c.front_of.result.now c.args.index)
-    ∙ ap (λ s. contains s c.args.index) (ap from_list c.front_of.ensures ∙ sym (ap listed_set c.in-Many.is) ∙ c.self.view_is)
+    ∙ ap (λ s. contains s c.args.index) (ap from_list c.front_of.ensures
+    ∙ sym (ap listed_set c.in-Many.is) ∙ c.self.view_is)

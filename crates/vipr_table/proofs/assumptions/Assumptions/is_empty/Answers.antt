@@ -14,4 +14,5 @@ pub returns-in-Many : goal.returns-in-Many
 returns-in-Many c =
     let e = c.is_empty.ensures in
     let test : c.is_empty.result ≡ nat_eq (length c.front_of.result.now) 0 = grind (arith, nat_tests) in
-    listed_empty _ c.front_of.result.now _ (ap from_list c.front_of.ensures ∙ sym (ap listed_set c.in-Many.is) ∙ c.self.view_is) test
+    listed_empty _ c.front_of.result.now _ (ap from_list c.front_of.ensures
+    ∙ sym (ap listed_set c.in-Many.is) ∙ c.self.view_is) test

@@ -9,4 +9,6 @@ of_rising-requires c =
     deduped_rising _ _ c.sort_unstable.ensures.sorted c.dedup.ensures.filtered below
 
 pub returns : goal.returns
-returns c = IfOk-weaker c.of_rising.result _ _ (λ s e. e ∙ deduped_set _ _ _ c.sort_unstable.ensures.permutation c.dedup.ensures.filtered) c.of_rising.ensures
+returns c = IfOk-weaker c.of_rising.result _ _
+    (λ s e. e ∙ deduped_set _ _ _ c.sort_unstable.ensures.permutation c.dedup.ensures.filtered)
+    c.of_rising.ensures

@@ -7,13 +7,16 @@ use Rattle.vipr_table.proofs.assumptions.Assumptions.union.Goals as goal
 
 pub returns-then-is_empty : goal.returns-then-is_empty
 returns-then-is_empty c =
-    let same = union_none c.args.self.now ∙ ap (union c.args.self.now) (sym (c.is_empty.ensures.0 c.if-is_empty.true)) in
+    let same = union_none c.args.self.now
+    ∙ ap (union c.args.self.now) (sym (c.is_empty.ensures.0 c.if-is_empty.true)) in
     MatchResult-weaker c.clone.result c.clone.ensures.cases (λ s e. e ∙ same) (λ _ _. tt)
 
 pub returns-then-is_empty-2 : goal.returns-then-is_empty-2
 returns-then-is_empty-2 c =
-    let same = sym (none_union c.args.other.now) ∙ ap (λ s. union s c.args.other.now) (sym (c.is_empty-2.ensures.0 c.if-is_empty-2.true)) in
-    MatchResult-weaker c.clone-then-is_empty-2.result c.clone-then-is_empty-2.ensures.cases (λ s e. e ∙ same) (λ _ _. tt)
+    let same = sym (none_union c.args.other.now)
+    ∙ ap (λ s. union s c.args.other.now) (sym (c.is_empty-2.ensures.0 c.if-is_empty-2.true)) in
+    MatchResult-weaker c.clone-then-is_empty-2.result c.clone-then-is_empty-2.ensures.cases
+    (λ s e. e ∙ same) (λ _ _. tt)
 
 pub returns-then-is_one : goal.returns-then-is_one
 returns-then-is_one c =
@@ -27,4 +30,7 @@ returns-then-has_all-2 c =
 
 pub returns-in_ok-items-in-Some-Some : goal.returns-in_ok-items-in-Some-Some
 returns-in_ok-items-in-Some-Some c =
-    IfOk-weaker c.of_rising.result _ _ (λ s e. e ∙ union_seen _ _ _ c.in_ok-items-in-Some-Some.ensures ∙ ap₂ union c.in-Some-Some.ensures.is_set c.in-Some-Some.ensures'.is_set) c.of_rising.ensures
+    IfOk-weaker c.of_rising.result _ _
+    (λ s e. e ∙ union_seen _ _ _ c.in_ok-items-in-Some-Some.ensures
+    ∙ ap₂ union c.in-Some-Some.ensures.is_set c.in-Some-Some.ensures'.is_set)
+    c.of_rising.ensures

@@ -9,8 +9,11 @@ pub returns-then-not-is_empty : goal.returns-then-not-is_empty
 returns-then-not-is_empty c = (
   λ h. absurd (let e = h in cc),
   λ none. absurd (
-      let none_here = one_of_none c.args.fronts.now c.loop-front.front-index c.front-item.result c.loop-front-test.true c.front-item.is none in
-      let zero : length c.as_slice.result.now ≡ 0 = length_of_none c.front-item.result c.as_slice.result.now c.as_slice.ensures.is_set none_here in
+      let none_here = one_of_none c.args.fronts.now c.loop-front.front-index c.front-item.result
+      c.loop-front-test.true c.front-item.is none in
+      let zero : length c.as_slice.result.now ≡ 0 =
+      length_of_none c.front-item.result c.as_slice.result.now c.as_slice.ensures.is_set
+      none_here in
       let e = c.is_empty.ensures in
       let t = c.if-not-is_empty.true in
       grind (arith, nat_tests)),
@@ -22,5 +25,6 @@ loop-front-preserved c =
     let t = c.if-not-is_empty.false in
     let zero : length c.as_slice.result.now ≡ 0 = grind (arith, nat_tests) in
     more_united c.args.fronts.now c.loop-front.front-index c.front-item.result c.loop-front-test.true c.front-item.is
-    ∙ ap₂ union c.loop-front.invariant (none_listed c.front-item.result c.as_slice.result.now c.as_slice.ensures.is_set zero)
+    ∙ ap₂ union c.loop-front.invariant
+    (none_listed c.front-item.result c.as_slice.result.now c.as_slice.ensures.is_set zero)
     ∙ sym (union_none empty)

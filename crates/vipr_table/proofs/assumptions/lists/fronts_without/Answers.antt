@@ -15,4 +15,6 @@ loop-front-preserved c =
     ∙ one_below c.loop-front.rest.items c.in_ok-without.field-0
     ∙ ap₂ union c.loop-front.invariant c.in_ok-without.ensures
     ∙ sym (remove_union _ c.front-item.result k)
-    ∙ ap (λ s. remove s k) (sym (more_united c.args.fronts.now c.loop-front.front-index c.front-item.result c.loop-front-test.true c.front-item.is))
+    ∙ ap (λ s. remove s k)
+    (sym (more_united c.args.fronts.now c.loop-front.front-index c.front-item.result
+    c.loop-front-test.true c.front-item.is))

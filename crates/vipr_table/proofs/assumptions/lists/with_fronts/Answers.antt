@@ -14,4 +14,6 @@ loop-front-preserved c =
     ∙ appended c.loop-front.indices.items c.as_slice.result.now
     ∙ ap₂ union c.loop-front.invariant c.as_slice.ensures.is_set
     ∙ last_two _ first c.front-item.result
-    ∙ ap (λ t. union t first) (sym (more_united c.args.fronts.now c.loop-front.front-index c.front-item.result c.loop-front-test.true c.front-item.is))
+    ∙ ap (λ t. union t first)
+    (sym (more_united c.args.fronts.now c.loop-front.front-index c.front-item.result
+    c.loop-front-test.true c.front-item.is))

@@ -7,14 +7,17 @@ use Rattle.vipr_table.proofs.assumptions.merge.has_all.Goals as goal
 
 -- what is at the front of a list, or at its end, is in it
 front : (n q : ℕ) (xs : List ℕ) → has (take n xs) q ≡ true → has xs q ≡ true
-front n q xs h = subst (λ l. has l q ≡ true) (take-append-drop n xs) (list_any-append (λ x. nat_eq x q) (take n xs) (drop n xs) ∙ ap (λ b. b || has (drop n xs) q) h)
+front n q xs h = subst (λ l. has l q ≡ true) (take-append-drop n xs)
+    (list_any-append (λ x. nat_eq x q) (take n xs) (drop n xs) ∙ ap (λ b. b || has (drop n xs) q) h)
 
 or_true : (b : Bool) → (b || true) ≡ true
 or_true true = refl
 or_true false = refl
 
 back : (n q : ℕ) (xs : List ℕ) → has (drop n xs) q ≡ true → has xs q ≡ true
-back n q xs h = subst (λ l. has l q ≡ true) (take-append-drop n xs) (list_any-append (λ x. nat_eq x q) (take n xs) (drop n xs) ∙ ap (λ b. has (take n xs) q || b) h ∙ or_true (has (take n xs) q))
+back n q xs h = subst (λ l. has l q ≡ true) (take-append-drop n xs)
+    (list_any-append (λ x. nat_eq x q) (take n xs) (drop n xs) ∙ ap (λ b. has (take n xs) q || b) h
+    ∙ or_true (has (take n xs) q))
 
 pub returns-then-is_same : goal.returns-then-is_same
 returns-then-is_same c = λ _ q h.

@@ -4,4 +4,6 @@ use Rattle.vipr_table.proofs.SetLemmas.{found}
 use Rattle.vipr_table.proofs.assumptions.merge.is_in.Goals as goal
 
 pub returns : goal.returns
-returns c = c.is_ok.ensures.value ∙ found c.args.xs.now c.args.index _ c.requires c.binary_search.ensures.position ∙ contains-from_list_nat c.args.xs.now c.args.index
+returns c = c.is_ok.ensures.value
+    ∙ found c.args.xs.now c.args.index _ c.requires c.binary_search.ensures.position
+    ∙ contains-from_list_nat c.args.xs.now c.args.index

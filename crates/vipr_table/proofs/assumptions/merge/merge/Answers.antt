@@ -13,5 +13,12 @@ loop-i-preserved c =
 pub returns : goal.returns
 returns c =
     let over : c.loop-i.i < length c.args.xs.now → length c.args.ys.now ≤ c.loop-i.j =
-    elim c.loop-i-test.branch [ then-loop-i-test+else-j-ys w ↦ λ h. w.if-j-ys.false | else-loop-i-test w ↦ λ h. absurd (let past = w.loop-i-test.false in omega (arith, past, h)) ] in
-    IfOk-weaker c.extended.result _ _ (λ v e. merge_end _ _ c.loop-i.i c.loop-i.j _ _ c.loop-i.invariant over (rw (← to_end c.loop-i.i c.args.xs.now, ← to_end c.loop-i.j c.args.ys.now) e)) c.extended.ensures
+    elim c.loop-i-test.branch [
+      | then-loop-i-test+else-j-ys w ↦ λ h. w.if-j-ys.false
+      | else-loop-i-test w ↦ λ h. absurd (let past = w.loop-i-test.false in
+          omega (arith, past, h))
+    ] in
+    IfOk-weaker c.extended.result _ _
+    (λ v e. merge_end _ _ c.loop-i.i c.loop-i.j _ _ c.loop-i.invariant over
+    (rw (← to_end c.loop-i.i c.args.xs.now, ← to_end c.loop-i.j c.args.ys.now) e))
+    c.extended.ensures

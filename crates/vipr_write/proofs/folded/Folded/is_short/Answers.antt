@@ -9,4 +9,5 @@ returns-in-Some-matches c =
     let row : c.len.result ≡ length f.spelled.items = search rules in
     let text = ap length c.as_slice.ensures in
     let short = c.in-Some-matches.ensures.0 in
-    λ is. short_by f c.in-Some.n c.requires (c.in-Some.ensures.1 ∙ ap (λ n. n * c.len.result) marks ∙ ap (λ n. length f.gaps.items * n) row) (omega arith)
+    λ is. short_by f c.in-Some.n c.requires (c.in-Some.ensures.1 ∙ ap (λ n. n * c.len.result) marks
+    ∙ ap (λ n. length f.gaps.items * n) row) (omega arith)

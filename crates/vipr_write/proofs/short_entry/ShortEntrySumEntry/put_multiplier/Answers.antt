@@ -9,5 +9,7 @@ pub returns : goal.returns
 returns g c =
     let e = c.args.self.now in
     let fits : SFits w32 e.numer = search rules in
-    let same = to_z-of_z w64 c.from.result (record { sfits = c.from.type_inv }) ∙ c.from.ensures ∙ to_z-of_z w32 e.numer fits in
-    puts_same (ap (λ t. 32 ∷ t) (ap (λ p. parts_text p e.denom) same ∙ short_text e)) (puts_then c.push.ensures c.put_parts.ensures)
+    let same = to_z-of_z w64 c.from.result (record { sfits = c.from.type_inv }) ∙ c.from.ensures
+    ∙ to_z-of_z w32 e.numer fits in
+    puts_same (ap (λ t. 32 ∷ t) (ap (λ p. parts_text p e.denom) same ∙ short_text e))
+    (puts_then c.push.ensures c.put_parts.ensures)

@@ -12,13 +12,24 @@ pub returns-clause-kept : goal.returns-clause-kept
 returns-clause-kept c = λ ss ds kept.
     let t = c.args.self.now in
     let d = derivation_of c.args.derivation.now in
-    let u : Statements = record { form = t.form; objective = t.objective; spelled = t.spelled; text = c.put_other_row-is_cut.new.text; ends = c.push.new.self } in
+    let u : Statements = record {
+      form = t.form;
+      objective = t.objective;
+      spelled = t.spelled;
+      text = c.put_other_row-is_cut.new.text;
+      ends = c.push.new.self;
+    } in
     let is_cut = c.put_other_row-is_cut.result in
     let first = words_text (stated_words d.name d.stated) in
     let row = cond is_cut [] (words_after_spaces (row_words t.form t.objective d.stated.row)) in
     let place : Statement = record { index = c.in-Ok.index; is_cut = is_cut } in
     let s : Step = record { stated = place; reason = c.in_ok-of.field-0; last = c.args.derivation.now.last } in
-    let text = (grown t.text u.text (first ++ row) (puts_then c.put_start.ensures c.put_other_row-is_cut.ensures.text) (cc)).1 in
-    let ends : u.ends ≡ t.ends ++ length u.text.bytes.items ∷ [] = c.in_ok-push.ensures ∙ ap (λ (l : List ℕ). t.ends ++ length l ∷ []) c.as_slice.ensures in
+    let text = (grown t.text u.text (first ++ row)
+    (puts_then c.put_start.ensures c.put_other_row-is_cut.ensures.text) (cc)).1 in
+    let ends : u.ends ≡ t.ends ++ length u.text.bytes.items ∷ [] = c.in_ok-push.ensures
+    ∙ ap (λ (l : List ℕ). t.ends ++ length l ∷ []) c.as_slice.ensures in
     let index : c.in-Ok.index ≡ length t.ends = c.in-Ok.ensures.1 ∙ c.len.ensures in
-    kept_more t u (first ++ row) s d ss ds refl refl refl text ends index (λ spelled. words_are t.form t.objective t.spelled.items d.name d.stated is_cut spelled (λ is. ap (row_words t.form t.objective) (c.put_other_row-is_cut.ensures.row is))) c.in_ok-of.ensures.reason refl kept
+    kept_more t u (first ++ row) s d ss ds refl refl refl text ends index
+    (λ spelled. words_are t.form t.objective t.spelled.items d.name d.stated is_cut spelled
+    (λ is. ap (row_words t.form t.objective) (c.put_other_row-is_cut.ensures.row is)))
+    c.in_ok-of.ensures.reason refl kept

@@ -7,7 +7,9 @@ use Rattle.vipr_table.proofs.assumptions.lists.Lists.is_empty.Goals as goal
 
 pub returns-then-are_empty : goal.returns-then-are_empty
 returns-then-are_empty c =
-    let none : union_of_all c.self.inside.fronts.items ≡ empty = ap union_of_all (sym c.as_slice.ensures.value) ∙ c.are_empty.ensures.0 c.if-are_empty.true in
+    let none : union_of_all c.self.inside.fronts.items ≡ empty =
+    ap union_of_all (sym c.as_slice.ensures.value)
+    ∙ c.are_empty.ensures.0 c.if-are_empty.true in
     let e = c.is_empty.ensures in
     let test : c.is_empty.result ≡ nat_eq (length c.self.inside.more.items) 0 = grind (arith, nat_tests) in
     lists_empty c.self.inside.fronts.items c.self.inside.more.items _ _ c.self.view_is none test

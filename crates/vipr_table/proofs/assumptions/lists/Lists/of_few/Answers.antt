@@ -6,5 +6,6 @@ use Rattle.vipr_table.proofs.assumptions.lists.Lists.of_few.Goals as goal
 
 pub returns : goal.returns
 returns c =
-    ap₂ (λ ss xs. union (union_of_all ss) (from_list xs)) c.new.ensures.items (c.in_ok-to_vec.ensures.items_if_clones_equal (λ x y e. e))
+    ap₂ (λ ss xs. union (union_of_all ss) (from_list xs)) c.new.ensures.items
+    (c.in_ok-to_vec.ensures.items_if_clones_equal (λ x y e. e))
     ∙ none_union (from_list c.args.items.now)

@@ -6,6 +6,9 @@ use Rattle.vipr_table.proofs.assumptions.lists.Lists.shared.Goals as goal
 
 pub returns : goal.returns
 returns c =
-    ap₂ (λ s xs. union s (from_list xs)) (ap union_of_all c.in_ok-push.ensures.items ∙ one_below c.self.inside.fronts.items c.in_ok-of.field-0 ∙ ap (union (union_of_all c.self.inside.fronts.items)) c.in_ok-of.ensures) c.new.ensures.items
+    ap₂ (λ s xs. union s (from_list xs)) (ap union_of_all c.in_ok-push.ensures.items
+    ∙ one_below c.self.inside.fronts.items c.in_ok-of.field-0
+    ∙ ap (union (union_of_all c.self.inside.fronts.items)) c.in_ok-of.ensures)
+    c.new.ensures.items
     ∙ sym (union_none _)
     ∙ c.self.view_is

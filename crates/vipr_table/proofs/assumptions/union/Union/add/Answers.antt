@@ -14,10 +14,13 @@ returns-then-is_empty-clause-union c =
 gathered : {A E : Type 0} (r : Result A E) (rest more : FinSet nat_cmp) (old few new : List ℕ)
     → new ≡ (if is_ok r then old ++ few else old) → from_list few ≡ more
     → OnOk r (union rest (from_list new) ≡ union (union rest (from_list old)) more)
-gathered (Ok x) rest more old few new e f = ap (λ l. union rest (from_list l)) e ∙ few_put rest old few ∙ ap (union (union rest (from_list old))) f
+gathered (Ok x) rest more old few new e f = ap (λ l. union rest (from_list l)) e
+    ∙ few_put rest old few ∙ ap (union (union rest (from_list old))) f
 gathered (Err d) rest more old few new e f = tt
 
 pub returns-in-Some-clause-union : goal.returns-in-Some-clause-union
 returns-in-Some-clause-union c =
     let old = c.args.self.now in
-    gathered c.extend_from_slice.result (union (union_of_all old.below.items) old.last) c.args.more.now old.few.items c.in-Some.few.now _ c.extend_from_slice.ensures.items c.in-Some.ensures
+    gathered c.extend_from_slice.result (union (union_of_all old.below.items) old.last)
+    c.args.more.now old.few.items c.in-Some.few.now _ c.extend_from_slice.ensures.items
+    c.in-Some.ensures

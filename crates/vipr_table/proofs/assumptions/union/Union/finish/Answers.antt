@@ -16,7 +16,11 @@ returns c =
 pub returns-then-is_empty-2 : goal.returns-then-is_empty-2
 returns-then-is_empty-2 c =
     let u = c.args.self in
-    let no_below : length u.below.items ≡ 0 = let e = c.is_empty.ensures in let t = c.if-is_empty.true in grind (arith, nat_tests) in
-    let no_more : length u.few.items ≡ 0 = let e = c.is_empty-then-is_empty.ensures in let t = c.if-is_empty-2.true in grind (arith, nat_tests) in
+    let no_below : length u.below.items ≡ 0 = let e = c.is_empty.ensures in
+    let t = c.if-is_empty.true in
+    grind (arith, nat_tests) in
+    let no_more : length u.few.items ≡ 0 = let e = c.is_empty-then-is_empty.ensures in
+    let t = c.if-is_empty-2.true in
+    grind (arith, nat_tests) in
     sym (none_union u.last) ∙ ap (λ ss. union (union_of_all ss) u.last) (sym (no_sets u.below.items no_below))
     ∙ no_few (union (union_of_all u.below.items) u.last) u.few.items no_more

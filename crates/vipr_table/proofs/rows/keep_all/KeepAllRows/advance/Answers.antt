@@ -11,7 +11,9 @@ pub forget-requires : goal.forget-requires
 forget-requires c = due_within _ _ _ _ _ c.loop-index.invariant.kept _ _ _ c.in-Some.ensures.some.2
 
 pub overflow_sub-self : goal.overflow_sub-self
-overflow_sub-self c = rw c.forget.ensures.count (shown_held _ _ _ _ _ c.loop-index.invariant.kept _ _ _ c.in-Some.ensures.some.2)
+overflow_sub-self c =
+    rw c.forget.ensures.count
+    (shown_held _ _ _ _ _ c.loop-index.invariant.kept _ _ _ c.in-Some.ensures.some.2)
 
 pub loop-index-smaller : goal.loop-index-smaller
 loop-index-smaller c =
@@ -23,7 +25,8 @@ loop-index-preserved c =
     let removed = c.in-Some.ensures.some in
     record {
       kept = rw (c.forget.ensures.items, c.forget.ensures.count) (IsKept-removed _ _ _ _ _ inv.kept _ _ _ removed.2);
-      advances = rw (c.forget.ensures.items, forgotten _ _ _ _ _ inv.kept _ _ _ removed.2) (AdvancesTo-removed _ _ _ _ _ inv.advances _ _ _ removed.2 removed.1);
+      advances = rw (c.forget.ensures.items, forgotten _ _ _ _ _ inv.kept _ _ _ removed.2)
+          (AdvancesTo-removed _ _ _ _ _ inv.advances _ _ _ removed.2 removed.1);
     }
 
 pub returns : goal.returns

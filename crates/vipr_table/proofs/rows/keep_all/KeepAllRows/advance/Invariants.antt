@@ -8,7 +8,8 @@ invariant-loop-index l =
     let now = l.self-inside in
     record {
       kept : IsKept now.first now.next now.kept.items now.held (dues now.order.heap);
-      advances : AdvancesTo l.fn.self now.first now.next (entries_not_forgotten now.first now.kept.items) (dues now.order.heap);
+      advances : AdvancesTo l.fn.self now.first now.next
+          (entries_not_forgotten now.first now.kept.items) (dues now.order.heap);
     }
 
 abbrev pub decreases-loop-index : goal.decreases-loop-index

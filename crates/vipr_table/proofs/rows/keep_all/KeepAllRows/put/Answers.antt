@@ -30,5 +30,8 @@ returns-clause-ok c =
     let kept = c.self.invariant in
     let k : Kept = record { entry = c.args.entry; is_forgotten = false } in
     same_table _ _ refl refl
-    (ap (entries_not_forgotten c.self.inside.first) c.in_default-push.ensures.items ∙ kept_map-push c.self.inside.first c.self.inside.kept.items k refl ∙ ap (λ n. insert (entries_not_forgotten c.self.inside.first c.self.inside.kept.items) n c.args.entry) (sym kept.placed))
+    (ap (entries_not_forgotten c.self.inside.first) c.in_default-push.ensures.items
+    ∙ kept_map-push c.self.inside.first c.self.inside.kept.items k refl
+    ∙ ap (λ n. insert (entries_not_forgotten c.self.inside.first c.self.inside.kept.items) n
+    c.args.entry) (sym kept.placed))
     ∙ ap (λ t. put_entry t c.args.entry) c.self.view_is
