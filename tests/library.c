@@ -1,6 +1,7 @@
 /* Calls the library on a file, with a buffer of its own, and writes what the buffer holds and then a line of numbers.
  *
- * usage: library FILE CALL PROFILE COMPACT ROOM ..  CALL is check, report, explain, long, show, digest or tighten
+ * usage: library FILE CALL PROFILE COMPACT ROOM ..  CALL is verified, check, report, explain, long, show,
+ *                                              digest or tighten
  *        library name CAUSE ROOM ..
  *        library version ROOM
  *        library growths FILE
@@ -19,9 +20,9 @@
 
 #define ROOM 4096
 
-enum call { CHECK, REPORT, EXPLAIN, EXPLAIN_LONG, SHOW, DIGEST, TIGHTEN, CALLS };
+enum call { IS_VERIFIED, CHECK, REPORT, EXPLAIN, EXPLAIN_LONG, SHOW, DIGEST, TIGHTEN, CALLS };
 
-static const char *const NAMES[] = {"check", "report", "explain", "long", "show", "digest", "tighten"};
+static const char *const NAMES[] = {"verified", "check", "report", "explain", "long", "show", "digest", "tighten"};
 
 /* What a call is asked, and what it answers. */
 struct job {
@@ -82,8 +83,10 @@ static int32_t run(struct job *it)
     memset(it->buffer, '.', it->room + 1);
     memset(&it->answer, 0xFF, sizeof it->answer);
     memset(&it->figures, 0xFF, sizeof it->figures);
-    it->length = it->call == CHECK ? 0 : 12345;
+    it->length = it->call == IS_VERIFIED || it->call == CHECK ? 0 : 12345;
     switch (it->call) {
+    case IS_VERIFIED:
+        return vipr_is_verified(it->text, it->size);
     case CHECK:
         return vipr_check(it->text, it->size, &it->answer);
     case REPORT:
@@ -178,16 +181,35 @@ static int all_growths(const uint8_t *text, size_t size)
     return 0;
 }
 
+/* A place by the header's words for it. */
+static const char *place_name(uint32_t place)
+{
+    switch (place) {
+    case VIPR_NOWHERE:
+        return "nowhere";
+    case VIPR_BYTE:
+        return "byte";
+    case VIPR_SOLUTION:
+        return "solution";
+    case VIPR_DERIVATION:
+        return "derivation";
+    case VIPR_END:
+        return "end";
+    default:
+        return "unknown";
+    }
+}
+
 static void print(const struct job *it, int32_t status)
 {
     fwrite(it->buffer, 1, it->room, stdout);
     printf("\n%sstatus %d length %zu", it->buffer[it->room] == '.' ? "" : "overrun ", status, it->length);
     if (has_answer(it))
-        printf(" answer %u %u %llu %u %u %llu %u %u", it->answer.cause, it->answer.place,
+        printf(" answer %u %s %llu %u %u %llu %u %u", it->answer.cause, place_name(it->answer.place),
                (unsigned long long)it->answer.number, it->answer.solutions, it->answer.derived,
                (unsigned long long)it->answer.peak, it->answer.has_goal, it->answer.goal);
     if (it->call == TIGHTEN)
-        printf(" figures %u %u %llu %u %u %llu %llu", it->figures.cause, it->figures.place,
+        printf(" figures %u %s %llu %u %u %llu %llu", it->figures.cause, place_name(it->figures.place),
                (unsigned long long)it->figures.number, it->figures.kept, it->figures.removed,
                (unsigned long long)it->figures.peak_before, (unsigned long long)it->figures.peak_after);
     printf("\n");
@@ -218,7 +240,7 @@ static int print_name(const char *cause, const char *room)
 /* A call on the text of a file, as four words have it. */
 static int print_call(char **words, const char *file, const uint8_t *text, size_t size)
 {
-    struct job it = {CHECK, number(words[1]), number(words[2]), file, text, size, number(words[3]), 0, NULL, {0}, {0}};
+    struct job it = {IS_VERIFIED, number(words[1]), number(words[2]), file, text, size, number(words[3]), 0, NULL, {0}, {0}};
     while (it.call < CALLS - 1 && strcmp(words[0], NAMES[it.call]) != 0)
         it.call++;
     if (!has_buffer(&it))

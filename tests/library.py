@@ -4,7 +4,7 @@
 usage: tests/library.py [PROGRAM]     crates/vipr/out/vipr without it
 
 `make install-lib` installs it into a folder. tests/library.c, with the archive alone, makes each call on all examples,
-by both profiles, in both forms and with less room than they need, on beginnings of each and on a text of 20 MB; the call
+by both profiles, in both forms and with less room than they need, on beginnings of each and on a text of 20 MB; vipr_is_verified on every conformance case; the call
 that checks on one of 300 MB; and with each of its growths refused. The callers of examples/c, cpp, python and rust check
 all examples with the shared library, and so do those in C, C++ and Rust with the archive. Memcheck and helgrind, if they
 are there, look at some of it. `make uninstall-lib` removes all of it. Prints each difference, and last `library: N texts,
@@ -170,7 +170,10 @@ def texts(room):
 def refusal(line):
     """Cause, place and number of a refusal."""
     found = re.match(rb'refused (\d+) at (?:(byte|SOL|DER) (\d+)|end)$', line)
-    return [int(found[1]), {b'byte': 1, b'SOL': 2, b'DER': 3}.get(found[2], 4), int(found[3] or 0)] if found else [0, 0, 0]
+    if not found:
+        return [0, 'nowhere', 0]
+    place = {b'byte': 'byte', b'SOL': 'solution', b'DER': 'derivation'}.get(found[2], 'end')
+    return [int(found[1]), place, int(found[3] or 0)]
 
 
 def figures(line):
@@ -184,12 +187,13 @@ def answer(lines):
     if not found:
         return [*refusal(lines.split(b'\n')[0]), *[0] * 5]
     goal = [0, 0] if found[4] == b'none' else [1, int(found[4])]
-    return [0, 0, 0, *map(int, found.groups()[:3]), *goal]
+    return [0, 'nowhere', 0, *map(int, found.groups()[:3]), *goal]
 
 
 def calls(path, whole):
     """The calls on a file: their words, and what each has to give: the status, the text and the numbers."""
     said = run([PROGRAM, 'explain', path])
+    yield ['verified', 1, 0], (said.returncode, b'', [])
     yield ['check', 1, 0], (said.returncode, b'', ['answer', *answer(said.stdout)])
     for profile in (1, 2) if whole else (1,):
         said, explained = (run([PROGRAM, call, '--profile', profile, path]) for call in ('check', 'explain'))
@@ -205,10 +209,10 @@ def calls(path, whole):
         yield ['show', 1, compact], (said.returncode, said.stdout, ['answer', *refusal(said.stderr.rstrip()), *[0] * 5])
     if whole:
         for profile in (0, 3):
-            yield ['report', profile, 0], (2, b'', ['answer', *[0] * 8])
+            yield ['report', profile, 0], (2, b'', ['answer', 0, 'nowhere', *[0] * 6])
             yield ['explain', profile, 0], (2, b'', [])
             yield ['long', profile, 0], (2, b'', [])
-        yield ['tighten', 3, 0], (2, b'', ['figures', *[0] * 7])
+        yield ['tighten', 3, 0], (2, b'', ['figures', 0, 'nowhere', *[0] * 5])
 
 
 def answered(room, status, text, numbers):
@@ -247,6 +251,21 @@ def look_at_calls(program, path, whole):
     compare([program, path], rows)
 
 
+def look_at_verified(program):
+    """The call with the shortest statement, on every conformance case."""
+    cases = sorted((TOP / 'conformance').rglob('*.vipr'))
+
+    def answers(path):
+        verdict = run([PROGRAM, 'check', path]).returncode
+        said = run([program, path, 'verified', 1, 0, 0]).stdout
+        return verdict in (0, 1) and said == answered(0, verdict, b'', [])
+    with ThreadPoolExecutor(os.cpu_count()) as pool:
+        for path, agrees in zip(cases, pool.map(answers, cases)):
+            if not agrees:
+                fail(f'{path}: vipr_is_verified and `vipr check` differ')
+    return len(cases)
+
+
 def look_at_names(program):
     names = dict(re.findall(r'^\| (\d+) \| ([A-Z]\w+) \|', (TOP / 'docs/FORMAT.md').read_text(), re.M))
     rows = []
@@ -279,7 +298,7 @@ def look_at_memory(program, room):
         return
     front = ['valgrind', '-q', '--error-exitcode=9']
     for path in (TOP / 'examples/branch_and_bound.vipr', TOP / 'examples/overflow.vipr', room / 'infeasible.10'):
-        words = [word for call in ('check', 'report', 'explain', 'long', 'show', 'digest', 'tighten') for word in (call, 1, 1, 100)]
+        words = [word for call in ('verified', 'check', 'report', 'explain', 'long', 'show', 'digest', 'tighten') for word in (call, 1, 1, 100)]
         said = run([*front, '--leak-check=full', '--show-leak-kinds=all', program, path, *words], timeout=LONG)
         if said.returncode or said.stderr:
             fail(f'memcheck of {path.name}: {said.stderr!r}')
@@ -303,6 +322,7 @@ def look_at_texts(prefix, room):
     with ThreadPoolExecutor(os.cpu_count()) as pool:
         jobs = [pool.submit(look_at_calls, program, *it) for it in texts(room)]
         count = len([job.result() for job in jobs])
+    count += look_at_verified(program)
     look_at_names(program)
     look_at_length(program, room)
     return count

@@ -70,6 +70,7 @@ def _library() -> ctypes.CDLL:
     buffer: List[Any] = [_TEXT, _SIZE, ctypes.POINTER(_SIZE)]
     try:
         library = ctypes.CDLL(name)
+        library.vipr_is_verified.argtypes = text
         library.vipr_report.argtypes = [_NUMBER, *text, *buffer, ctypes.POINTER(_Answer)]
         library.vipr_explain.argtypes = [_NUMBER, *text, *buffer]
         library.vipr_explain_long.argtypes = [_NUMBER, *text, *text, *buffer]
@@ -170,6 +171,16 @@ def _word(name: str, *text: Union[bytes, int]) -> str:
     buffer = ctypes.create_string_buffer(65)
     getattr(_library(), name)(*text, buffer, len(buffer))
     return buffer.value.decode()
+
+
+def is_verified(text: Text) -> bool:
+    """Whether the text is verified by the rules of the first profile: the call with the shortest proved statement. If it is,
+    the text states a problem, and of whatever problem it states the claim is true. Raises LibraryMissing and OutOfMemory."""
+    whole = as_bytes(text)
+    status = _library().vipr_is_verified(whole, len(whole))
+    if status == 3:
+        raise OutOfMemory('vipr: memory was refused')
+    return bool(status == 0)
 
 
 def digest(text: Text) -> str:
