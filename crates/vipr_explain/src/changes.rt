@@ -1,14 +1,15 @@
 //! Changes of one entry with which a refused sum follows, each tried by the rule.
-ghost use Rattle.std.specs.Prelude.{◌≡◌, IfOk, length};
+ghost use Rattle.std.specs.Prelude.{◌≡◌, IfOk, IfSome, IsTrue, length};
 ghost use Rattle.vipr_spec.specs.Certificate.{variables};
+ghost use Rattle.vipr_cert.specs.Items.{reason_of};
 ghost use Rattle.vipr_table.specs.Table.{DerivedBelow};
+ghost use Rattle.vipr_explain.specs.Changes.{FollowEach, FollowsWith, changed, changed_entries};
 ghost use Rattle.vipr_explain.specs.Replays.{IsReplayOf};
 
 use crate::near::Join;
 use crate::page::Page;
 use crate::shown::PlacedItems;
-use crate::sought::{Candidates, Ranking, Sum};
-use crate::text::Subject;
+use crate::sought::{Candidates, Ranking, Refused};
 use std::alloc::{AllocError, Global};
 use vipr_cert::{Derivation, Problem, Reason, References};
 use vipr_check::Table;
@@ -18,7 +19,7 @@ use vipr_rules::{Rows, RuleError, apply_in};
 
 /// A change of a reason.
 #[derive(Clone, Copy)]
-pub(crate) enum Change {
+pub enum Change {
     /// At this position of a sum an entry of a constraint with a multiplier, in place of another
     /// one, or behind the last one.
     Entry(usize, u32, Frac),
@@ -31,10 +32,10 @@ pub(crate) enum Change {
 /// Changes with which a refused derivation follows: another multiplier, another constraint with the
 /// same one or another join, and one more entry.
 #[derive(Clone, Copy)]
-pub(crate) struct Changes {
-    pub(crate) multiplier: Option<Change>,
-    pub(crate) exchange: Option<Change>,
-    pub(crate) addition: Option<Change>,
+pub struct Changes {
+    pub multiplier: Option<Change>,
+    pub exchange: Option<Change>,
+    pub addition: Option<Change>,
 }
 
 /// The derivations before one that is refused, as the rules keep them.
@@ -164,35 +165,25 @@ impl Replay {
             Err(error) => Err(error),
         }
     }
-
-    /// Changes of the derivation behind those that were passed.
-    pub(crate) fn changes_of(
-        &mut self,
-        subject: Subject<'_>,
-        problem: &Problem,
-        step: &Derivation,
-    ) -> Result<Changes, AllocError>
-        requires { IsReplayOf (variables problem.now) self.old }
-    {
-        let sum = Sum {
-            subject,
-            problem,
-            rows: &self.rows,
-            step,
-        };
-        try_all(sum, &mut self.scratch)
-    }
 }
 
-// Tries changes of each kind.
-fn try_all(sum: Sum<'_>, scratch: &mut Combination) -> Result<Changes, AllocError>
-    requires below { DerivedBelow (variables sum.problem.now) sum.rows.now }
-    requires scratch { length scratch.old.sums ≡ variables sum.problem.now }
+/// Changes with which a refused derivation follows, at most one of each kind. Each was tried by the
+/// rule.
+///
+/// `scratch` is made for the problem's number of variables; what it holds doesn't matter.
+///
+/// # Errors
+///
+/// A growth that was refused.
+pub fn changes_of(refused: Refused<'_>, scratch: &mut Combination) -> Result<Changes, AllocError>
+    requires rows { DerivedBelow (variables refused.problem.now) refused.rows.now }
+    requires variables { length scratch.old.sums ≡ variables refused.problem.now }
+    ensures { IfOk result (FollowEach refused.entry) }
 {
-    let candidates = Candidates::find(sum, scratch)?;
-    let multiplier = first_that_follows(sum, scratch, &candidates.multipliers)?;
-    let exchange = first_that_follows(sum, scratch, &candidates.exchanges)?;
-    let addition = first_that_follows(sum, scratch, &candidates.additions)?;
+    let candidates = Candidates::find(refused, scratch)?;
+    let multiplier = first_that_follows(refused, scratch, &candidates.multipliers)?;
+    let exchange = first_that_follows(refused, scratch, &candidates.exchanges)?;
+    let addition = first_that_follows(refused, scratch, &candidates.additions)?;
     Ok(Changes {
         multiplier,
         exchange,
@@ -202,17 +193,18 @@ fn try_all(sum: Sum<'_>, scratch: &mut Combination) -> Result<Changes, AllocErro
 
 // The first change with which a sum follows.
 fn first_that_follows(
-    sum: Sum<'_>,
+    refused: Refused<'_>,
     scratch: &mut Combination,
     candidates: &Ranking,
 ) -> Result<Option<Change>, AllocError>
-    requires below { DerivedBelow (variables sum.problem.now) sum.rows.now }
-    requires scratch { length scratch.old.sums ≡ variables sum.problem.now }
-    ensures { length scratch.new.sums ≡ length scratch.old.sums }
+    requires rows { DerivedBelow (variables refused.problem.now) refused.rows.now }
+    requires variables { length scratch.old.sums ≡ variables refused.problem.now }
+    ensures variables { length scratch.new.sums ≡ length scratch.old.sums }
+    ensures follows { IfOk result (λ found. IfSome found (FollowsWith refused.entry)) }
 {
     for known in &candidates.0 {
         if let Some(change) = known.1 {
-            if follows(sum, scratch, &change)? {
+            if follows(refused, scratch, &change)? {
                 return Ok(Some(change));
             }
         }
@@ -221,15 +213,28 @@ fn first_that_follows(
 }
 
 // Whether a sum follows with a change, by the rule.
-fn follows(sum: Sum<'_>, scratch: &mut Combination, change: &Change) -> Result<bool, AllocError>
-    requires below { DerivedBelow (variables sum.problem.now) sum.rows.now }
-    requires scratch { length scratch.old.sums ≡ variables sum.problem.now }
-    ensures { length scratch.new.sums ≡ length scratch.old.sums }
+fn follows(
+    refused: Refused<'_>,
+    scratch: &mut Combination,
+    change: &Change,
+) -> Result<bool, AllocError>
+    requires rows { DerivedBelow (variables refused.problem.now) refused.rows.now }
+    requires variables { length scratch.old.sums ≡ variables refused.problem.now }
+    ensures variables { length scratch.new.sums ≡ length scratch.old.sums }
+    ensures follows { IfOk result (λ is. IsTrue is → FollowsWith refused.entry change.now) }
 {
-    let alloc = sum.subject.alloc;
-    let profile = sum.subject.profile;
-    let step = changed_step(alloc, sum.step, change)?;
-    let kept = apply_in(alloc, profile, sum.problem, None, sum.rows, scratch, &step);
+    let alloc = refused.subject.alloc;
+    let profile = refused.subject.profile;
+    let step = changed_step(alloc, refused.step, change)?;
+    let kept = apply_in(
+        alloc,
+        profile,
+        refused.problem,
+        None,
+        refused.rows,
+        scratch,
+        &step,
+    );
     drop(step);
     match kept {
         Ok(entry) => {
@@ -245,11 +250,11 @@ fn follows(sum: Sum<'_>, scratch: &mut Combination, change: &Change) -> Result<b
 }
 
 // A derivation with its reason changed.
-fn changed_step(
-    alloc: Global,
-    step: &Derivation,
-    change: &Change,
-) -> Result<Derivation, AllocError> {
+fn changed_step(alloc: Global, step: &Derivation, change: &Change) -> Result<Derivation, AllocError>
+    ensures stated { IfOk result (λ d. d.constraint ≡ step.now.constraint) }
+    ensures reason { IfOk result
+        (λ d. reason_of d.reason ≡ changed change.now (reason_of step.now.reason)) }
+{
     let reason = changed_reason(alloc, &step.reason, change)?;
     let constraint = or_drop!(step.constraint.clone(), reason);
     let mut changed = Derivation::blank(alloc);
@@ -259,7 +264,9 @@ fn changed_step(
 }
 
 // A reason with a change.
-fn changed_reason(alloc: Global, reason: &Reason, change: &Change) -> Result<Reason, AllocError> {
+fn changed_reason(alloc: Global, reason: &Reason, change: &Change) -> Result<Reason, AllocError>
+    ensures { IfOk result (λ r. reason_of r ≡ changed change.now (reason_of reason.now)) }
+{
     match (reason, *change) {
         (Reason::Lin(entries), Change::Word) => {
             Ok(Reason::Rnd(changed_entries(alloc, entries, change)?))
@@ -280,7 +287,9 @@ fn changed_entries(
     alloc: Global,
     entries: &[(u32, Frac)],
     change: &Change,
-) -> Result<Vec<(u32, Frac)>, AllocError> {
+) -> Result<Vec<(u32, Frac)>, AllocError>
+    ensures { IfOk result (λ es. es.items ≡ changed_entries change.now entries.now) }
+{
     let mut changed = Vec::new(alloc);
     changed.extend_from_slice(entries)?;
     if let Change::Entry(position, index, multiplier) = *change {

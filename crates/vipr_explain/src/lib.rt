@@ -40,6 +40,10 @@ mod wanted_words;
 mod whole;
 mod words;
 
+pub use changes::{Change, Changes, changes_of};
+pub use near::Join;
 pub use page::{Page, with_page};
+pub use sought::Refused;
 pub use stranger::StrangeBytes;
+pub use text::Subject;
 pub use whole::page_for;

@@ -1,7 +1,6 @@
 //! Finds the constraints that come nearest to a claim, and the assumptions that they rest on.
 ghost use Rattle.std.specs.Prelude.{◌≡◌, ◌≤◌, IfOk, OnOk, length, unsigned_abs};
-ghost use Rattle.vipr_spec.specs.Certificate.{variables};
-ghost use Rattle.vipr_spec.specs.Fraction.{most};
+ghost use Rattle.vipr_spec.specs.{Certificate.variables, Fraction.most};
 ghost use Rattle.vipr_table.specs.Table.{step as table_step};
 ghost use Rattle.vipr_explain.specs.Replays.{IsReplayOf};
 
@@ -43,11 +42,11 @@ pub(crate) struct Near {
 
 /// What `uns i1 l1 i2 l2` names.
 #[derive(Clone, Copy)]
-pub(crate) struct Join {
-    pub(crate) i1: u32,
-    pub(crate) l1: u32,
-    pub(crate) i2: u32,
-    pub(crate) l2: u32,
+pub struct Join {
+    pub i1: u32,
+    pub l1: u32,
+    pub i2: u32,
+    pub l2: u32,
 }
 
 impl Display for Join {

@@ -24,13 +24,14 @@ const MOST_COEFFICIENTS: usize = 100_000;
 /// How many changes of a kind are tried.
 const MOST_TRIED: usize = 8;
 
-/// A derivation, and what is before it.
+/// A derivation that is refused, and what is before it.
 #[derive(Clone, Copy)]
-pub(crate) struct Sum<'a> {
-    pub(crate) subject: Subject<'a>,
-    pub(crate) problem: &'a Problem,
-    pub(crate) rows: &'a Table,
-    pub(crate) step: &'a Derivation,
+pub struct Refused<'a> {
+    pub subject: Subject<'a>,
+    pub problem: &'a Problem,
+    /// The derived constraints that are live.
+    pub rows: &'a Table,
+    pub step: &'a Derivation,
 }
 
 /// Changes of each kind.
@@ -57,8 +58,11 @@ struct Replacement {
 
 impl Candidates {
     /// Finds changes with which the rows are the same, and the sides look so.
-    pub(crate) fn find(sum: Sum<'_>, scratch: &mut Combination) -> Result<Candidates, AllocError>
-        requires { length scratch.old.sums ≡ variables sum.problem.now }
+    pub(crate) fn find(
+        refused: Refused<'_>,
+        scratch: &mut Combination,
+    ) -> Result<Candidates, AllocError>
+        requires { length scratch.old.sums ≡ variables refused.problem.now }
         ensures { length scratch.new.sums ≡ length scratch.old.sums }
     {
         let mut found = Candidates {
@@ -66,10 +70,10 @@ impl Candidates {
             exchanges: Ranking::new(),
             additions: Ranking::new(),
         };
-        match sum.step.reason.references() {
-            References::Entries(entries) => found.add_changes(sum, entries, scratch)?,
+        match refused.step.reason.references() {
+            References::Entries(entries) => found.add_changes(refused, entries, scratch)?,
             References::Branches { i1, l1, i2, l2 } => {
-                add_joins(&mut found.exchanges, sum, Join { i1, l1, i2, l2 });
+                add_joins(&mut found.exchanges, refused, Join { i1, l1, i2, l2 });
             }
             References::Nothing => {}
         }
@@ -79,20 +83,20 @@ impl Candidates {
     // Adds those of a sum of these entries.
     fn add_changes(
         &mut self,
-        sum: Sum<'_>,
+        refused: Refused<'_>,
         entries: &[(u32, Frac)],
         scratch: &mut Combination,
     ) -> Result<(), AllocError>
-        requires { length scratch.old.sums ≡ variables sum.problem.now }
+        requires { length scratch.old.sums ≡ variables refused.problem.now }
         ensures { length scratch.new.sums ≡ length scratch.old.sums }
     {
-        let stated = &sum.step.constraint;
-        let Some(missing) = less_sum(sum, scratch, stated, Frac::one(), entries)? else {
+        let stated = &refused.step.constraint;
+        let Some(missing) = less_sum(refused, scratch, stated, Frac::one(), entries)? else {
             return Ok(());
         };
-        add_multipliers(&mut self.multipliers, sum, entries, &missing);
-        let replacements = replacements(sum, entries, &missing, scratch)?;
-        self.add_others(sum, entries, &missing, replacements.as_slice());
+        add_multipliers(&mut self.multipliers, refused, entries, &missing);
+        let replacements = replacements(refused, entries, &missing, scratch)?;
+        self.add_others(refused, entries, &missing, replacements.as_slice());
         self.exchanges.0[MOST_TRIED].1 = Some(Change::Word);
         Ok(())
     }
@@ -101,18 +105,21 @@ impl Candidates {
     // more entry.
     fn add_others(
         &mut self,
-        sum: Sum<'_>,
+        refused: Refused<'_>,
         entries: &[(u32, Frac)],
         missing: &Constraint,
         replacements: &[Replacement],
     ) {
-        for index in 0..sum.rows.next() {
-            if let Some(constraint) = constraint_at(sum, index) {
+        for index in 0..refused.rows.next() {
+            if let Some(constraint) = constraint_at(refused, index) {
                 for replacement in replacements {
-                    add_exchange(&mut self.exchanges, sum, index, constraint, replacement);
+                    add_exchange(&mut self.exchanges, refused, index, constraint, replacement);
                 }
                 if let Some((multiplier, off)) = factor_for(constraint, missing) {
-                    if let (Some(rank), false) = (rank_of(sum, off), has_entry(entries, index)) {
+                    if let (Some(rank), false) = (
+                        rank_of(refused, off),
+                        has_entry(entries, index),
+                    ) {
                         let change = Change::Entry(entries.len(), index, multiplier);
                         self.additions.add(rank, change);
                     }
@@ -151,65 +158,65 @@ fn has_entry(entries: &[(u32, Frac)], index: u32) -> bool {
 
 // Joins of the same four constraints, and then those with another one in the place of one, the
 // last ones first.
-fn add_joins(ranking: &mut Ranking, sum: Sum<'_>, join: Join) {
+fn add_joins(ranking: &mut Ranking, refused: Refused<'_>, join: Join) {
     let Join { i1, l1, i2, l2 } = join;
     let named = [i1, l1, i2, l2];
     for i1 in named {
         for l1 in named {
             for i2 in named {
                 for l2 in named {
-                    add_join(ranking, sum, 0, Join { i1, l1, i2, l2 });
+                    add_join(ranking, refused, 0, Join { i1, l1, i2, l2 });
                 }
             }
         }
     }
-    let own = sum.rows.next();
+    let own = refused.rows.next();
     for index in 0..own {
         let rank = own - index;
-        if has_row_of(sum, index, &sum.step.constraint) {
-            add_join(ranking, sum, rank, Join { i1: index, ..join });
-            add_join(ranking, sum, rank, Join { i2: index, ..join });
+        if has_row_of(refused, index, &refused.step.constraint) {
+            add_join(ranking, refused, rank, Join { i1: index, ..join });
+            add_join(ranking, refused, rank, Join { i2: index, ..join });
         }
-        if is_other_side(sum, index, l2) {
-            add_join(ranking, sum, rank, Join { l1: index, ..join });
+        if is_other_side(refused, index, l2) {
+            add_join(ranking, refused, rank, Join { l1: index, ..join });
         }
-        if is_other_side(sum, index, l1) {
-            add_join(ranking, sum, rank, Join { l2: index, ..join });
+        if is_other_side(refused, index, l1) {
+            add_join(ranking, refused, rank, Join { l2: index, ..join });
         }
     }
 }
 
 // Adds a join, if each case rests on its own assumption, and not on that of the other one.
-fn add_join(ranking: &mut Ranking, sum: Sum<'_>, rank: u32, join: Join) {
+fn add_join(ranking: &mut Ranking, refused: Refused<'_>, rank: u32, join: Join) {
     let Join { i1, l1, i2, l2 } = join;
-    let is_own = rests_on(sum, i1, l1) && rests_on(sum, i2, l2);
-    if is_own && !rests_on(sum, i1, l2) && !rests_on(sum, i2, l1) {
+    let is_own = rests_on(refused, i1, l1) && rests_on(refused, i2, l2);
+    if is_own && !rests_on(refused, i1, l2) && !rests_on(refused, i2, l1) {
         ranking.add(u64::from(rank), Change::Join(join));
     }
 }
 
 // Whether a constraint rests on an assumption.
-fn rests_on(sum: Sum<'_>, index: u32, assumption: u32) -> bool {
-    match sum.rows.get(index) {
+fn rests_on(refused: Refused<'_>, index: u32, assumption: u32) -> bool {
+    match refused.rows.get(index) {
         Some(entry) => entry.assumptions.contains(assumption),
         None => false,
     }
 }
 
 // Whether a constraint has the row of another one.
-fn has_row_of(sum: Sum<'_>, index: u32, other: &Constraint) -> bool {
-    match sum.rows.get(index) {
+fn has_row_of(refused: Refused<'_>, index: u32, other: &Constraint) -> bool {
+    match refused.rows.get(index) {
         Some(entry) => entry.constraint.row.is_same(&other.row),
         None => false,
     }
 }
 
 // Whether two constraints bound a row from both sides.
-fn is_other_side(sum: Sum<'_>, index: u32, other: u32) -> bool {
-    match (sum.rows.get(index), sum.rows.get(other)) {
+fn is_other_side(refused: Refused<'_>, index: u32, other: u32) -> bool {
+    match (refused.rows.get(index), refused.rows.get(other)) {
         (Some(entry), Some(other)) => {
             is_turned(entry.constraint.sense, other.constraint.sense)
-                && has_row_of(sum, index, &other.constraint)
+                && has_row_of(refused, index, &other.constraint)
         }
         _ => false,
     }
@@ -218,24 +225,24 @@ fn is_other_side(sum: Sum<'_>, index: u32, other: u32) -> bool {
 // A multiple of a constraint less the sum of these entries, whatever their senses; none past the
 // limit.
 fn less_sum(
-    sum: Sum<'_>,
+    refused: Refused<'_>,
     scratch: &mut Combination,
     constraint: &Constraint,
     factor: Frac,
     entries: &[(u32, Frac)],
 ) -> Result<Option<Constraint>, AllocError>
-    requires { length scratch.old.sums ≡ variables sum.problem.now }
+    requires { length scratch.old.sums ≡ variables refused.problem.now }
     ensures { length scratch.new.sums ≡ length scratch.old.sums }
 {
     scratch.clear();
-    add_both_sides(sum, scratch, constraint, factor)?;
+    add_both_sides(refused, scratch, constraint, factor)?;
     for entry in entries {
-        if let Some(constraint) = constraint_at(sum, entry.0) {
-            add_both_sides(sum, scratch, constraint, entry.1.neg())?;
+        if let Some(constraint) = constraint_at(refused, entry.0) {
+            add_both_sides(refused, scratch, constraint, entry.1.neg())?;
         }
     }
-    match scratch.finish(sum.subject.alloc) {
-        Ok(sum) => Ok(Some(sum)),
+    match scratch.finish(refused.subject.alloc) {
+        Ok(left) => Ok(Some(left)),
         Err(CombError::Memory) => Err(AllocError),
         Err(_) => Ok(None),
     }
@@ -243,15 +250,18 @@ fn less_sum(
 
 // Adds the multiple of a constraint as if it were an equation.
 fn add_both_sides(
-    sum: Sum<'_>,
+    refused: Refused<'_>,
     scratch: &mut Combination,
     constraint: &Constraint,
     multiplier: Frac,
 ) -> Result<(), AllocError>
-    requires { length scratch.old.sums ≡ variables sum.problem.now }
+    requires { length scratch.old.sums ≡ variables refused.problem.now }
     ensures { length scratch.new.sums ≡ length scratch.old.sums }
 {
-    if constraint.row.names_below(sum.problem.names().len() as u32) {
+    if constraint
+        .row
+        .names_below(refused.problem.names().len() as u32)
+    {
         let equation = Constraint {
             row: constraint.row.clone()?,
             sense: Sense::E,
@@ -264,10 +274,10 @@ fn add_both_sides(
 }
 
 // The constraint of an index that a sum may have.
-fn constraint_at(sum: Sum<'_>, index: u32) -> Option<&Constraint> {
-    match sum.problem.cons().get(index as usize) {
+fn constraint_at(refused: Refused<'_>, index: u32) -> Option<&Constraint> {
+    match refused.problem.cons().get(index as usize) {
         Some(named) => Some(&named.item),
-        None => Some(&sum.rows.get(index)?.constraint),
+        None => Some(&refused.rows.get(index)?.constraint),
     }
 }
 
@@ -275,17 +285,17 @@ fn constraint_at(sum: Sum<'_>, index: u32) -> Option<&Constraint> {
 // sense.
 fn add_multipliers(
     ranking: &mut Ranking,
-    sum: Sum<'_>,
+    refused: Refused<'_>,
     entries: &[(u32, Frac)],
     missing: &Constraint,
 ) {
     for (position, entry) in entries.iter().enumerate() {
         let (index, present) = *entry;
-        if let Some(constraint) = constraint_at(sum, index) {
+        if let Some(constraint) = constraint_at(refused, index) {
             if let Some((factor, off)) = factor_for(constraint, missing) {
-                if let (Some(rank), Ok(multiplier)) = (rank_of(sum, off), present.add(factor)) {
+                if let (Some(rank), Ok(multiplier)) = (rank_of(refused, off), present.add(factor)) {
                     let sense = constraint.sense;
-                    let is_stated = sense == sum.step.constraint.sense;
+                    let is_stated = sense == refused.step.constraint.sense;
                     let is_right = sense == Sense::E || is_stated == (factor.numer() > 0);
                     let is_first = is_right && multiplier == present.neg();
                     let change = Change::Entry(position, index, multiplier);
@@ -298,26 +308,26 @@ fn add_multipliers(
 
 // For each entry the constraint that would be right in its place.
 fn replacements(
-    sum: Sum<'_>,
+    refused: Refused<'_>,
     entries: &[(u32, Frac)],
     missing: &Constraint,
     scratch: &mut Combination,
 ) -> Result<Vec<Replacement>, AllocError>
-    requires { length scratch.old.sums ≡ variables sum.problem.now }
+    requires { length scratch.old.sums ≡ variables refused.problem.now }
     ensures { length scratch.new.sums ≡ length scratch.old.sums }
 {
-    let bytes = sum.subject.text.len();
+    let bytes = refused.subject.text.len();
     let pairs = MOST_PAIRS.max(bytes / 4);
     let coefficients = MOST_COEFFICIENTS.max(bytes / 16);
-    let most = pairs / (sum.rows.next() as usize).max(1);
-    let mut found = Vec::new(sum.subject.alloc);
+    let most = pairs / (refused.rows.next() as usize).max(1);
+    let mut found = Vec::new(refused.subject.alloc);
     let mut size: usize = 0;
     let tried = &entries[..entries.len().min(most)];
     for (position, entry) in tried.iter().enumerate() {
         let (index, multiplier) = *entry;
         if let Some(factor) = inverse(multiplier) {
             let own = [(index, Frac::one().neg())];
-            if let Some(wanted) = less_sum(sum, scratch, missing, factor, &own)? {
+            if let Some(wanted) = less_sum(refused, scratch, missing, factor, &own)? {
                 size = size.saturating_add(wanted.row.entries().len());
                 found.push(Replacement {
                     position,
@@ -337,7 +347,7 @@ fn replacements(
 // Adds a constraint in the place of an entry, if it has the row that is wanted there.
 fn add_exchange(
     exchanges: &mut Ranking,
-    sum: Sum<'_>,
+    refused: Refused<'_>,
     index: u32,
     constraint: &Constraint,
     replacement: &Replacement,
@@ -349,7 +359,7 @@ fn add_exchange(
     let multiplier = replacement.multiplier;
     if let Ok(gap) = constraint.rhs.add(wanted.rhs.neg()) {
         if let Ok(off) = multiplier.mul(gap) {
-            if let Some(rank) = rank_of(sum, off) {
+            if let Some(rank) = rank_of(refused, off) {
                 let distance = u64::from(index.abs_diff(replacement.index));
                 let change = Change::Entry(replacement.position, index, multiplier);
                 exchanges.add(rank.saturating_add(distance), change);
@@ -393,10 +403,10 @@ fn inverse(number: Frac) -> Option<Frac> {
 
 // How likely a change is whose side is so far from the stated one: less is likelier, and none is no
 // change.
-fn rank_of(sum: Sum<'_>, off: Frac) -> Option<u64> {
-    let stated = &sum.step.constraint;
+fn rank_of(refused: Refused<'_>, off: Frac) -> Option<u64> {
+    let stated = &refused.step.constraint;
     let is_enough = stated.is_absurd()
-        || match (&sum.step.reason, stated.sense) {
+        || match (&refused.step.reason, stated.sense) {
             (_, Sense::E) => off.is_zero(),
             (Reason::Rnd(_), Sense::G) => compares(Sense::G, off, Frac::one().neg()),
             (Reason::Rnd(_), Sense::L) => compares(Sense::L, off, Frac::one()),

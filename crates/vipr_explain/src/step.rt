@@ -3,7 +3,7 @@ ghost use Rattle.vipr_spec.specs.Certificate.{variables};
 ghost use Rattle.vipr_explain.specs.Replays.{IsReplayOf};
 
 use crate::algebra::{Algebra, ShownName, sign_of};
-use crate::changes::{Changes, Replay};
+use crate::changes::{Changes, Replay, changes_of};
 use crate::decimal::write_if_past;
 use crate::differences::{Difference, row_differences, write_differences};
 use crate::faults::{RowFault, row_faults, write_faults};
@@ -13,6 +13,7 @@ use crate::page::Page;
 use crate::reason::{label_of, part_at_fault, step_indices, write_reason, write_sources};
 use crate::shown::{PlacedItems, write_last_use};
 use crate::solution::PAST_LIMIT;
+use crate::sought::Refused;
 use crate::text::{Reread, Subject};
 use std::alloc::{AllocError, Global};
 use vipr_cert::{Derivation, Problem, Reason, References};
@@ -152,7 +153,15 @@ fn find_behind(
         | cause::MIXED_SIGNS
         | cause::NOT_ROUNDABLE
         | cause::NOT_SPLIT
-        | cause::NOT_DOMINATED => replay.changes_of(subject, problem, step)?,
+        | cause::NOT_DOMINATED => {
+            let refused = Refused {
+                subject,
+                problem,
+                rows: &replay.rows,
+                step,
+            };
+            changes_of(refused, &mut replay.scratch)?
+        }
         _ => Changes::none(),
     };
     let wanted = step_indices(subject.alloc, fault, &step.reason, &changes)?;

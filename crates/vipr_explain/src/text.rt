@@ -9,10 +9,10 @@ pub(crate) type Reread<T> = Result<T, TextError>;
 
 /// What an explanation is about: a text, and the rules by which it was checked.
 #[derive(Clone, Copy)]
-pub(crate) struct Subject<'a> {
-    pub(crate) alloc: Global,
-    pub(crate) profile: Profile,
-    pub(crate) text: &'a [u8],
+pub struct Subject<'a> {
+    pub alloc: Global,
+    pub profile: Profile,
+    pub text: &'a [u8],
 }
 
 /// Bytes of a text: the offset of the first one, counted from 0, and how many they are.
