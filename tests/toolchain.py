@@ -5,7 +5,7 @@ It does as the file PLAN says, a word and what to do a line:
   proves CRATE HOW    `rt lib` or `rt run` of a crate: well, refused, killed, half (a line that is cut off), or nothing (no
                       program is left)
   gate HOW            `rt ci`: well, failed, killed, half, mute (a failure that it doesn't count), or nothing
-  edit NAME HOW       a check with an edit: goal (with values), search, open, type, name, field, limit, killed, proved, unread,
+  edit NAME HOW       a check with an edit: goal (with values), search, searched, open, type, name, field, limit, killed, proved, unread,
                       elsewhere (beside others the place is in another function), or the name of an edit whose function the
                       edited one calls
 What isn't named goes well, and an edit is refused at a goal with values. Each command is written into the file LOG, and each
@@ -112,6 +112,7 @@ SAYS = {
             'the facts known there allow values at which this goal is false',
     'search': 'note: src/lib.rt:1:1: it is not proved that this returns (`returns`); '
               '`search` gave up at one of its limits',
+    'searched': './proofs/one/Answers.antt:2:1: error: `returns`: `search`: no proof of `one ≡ two`',
     'open': 'note: src/lib.rt:1:1: it is not proved that this returns (`returns`)',
     'type': './proofs/one/Answers.antt:2:1: error: `returns`: the two types differ only where one has `0`',
     'name': 'proofs/one/Answers.antt:2:1: error: module `one.Goals` has no `gone`',

@@ -163,6 +163,7 @@ def kinds(place):
     for how, kind in (
         ("goal", "values"),
         ("search", "search"),
+        ("searched", "search"),
         ("open", "search"),
         ("type", "proof"),
     ):

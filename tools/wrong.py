@@ -73,8 +73,9 @@ NAMES = re.compile(
 # a proof file that answers a goal whose name is gone, and a goal that stayed open in the source
 GONE = re.compile(r"(?:\./)?proofs/(\S+?):\d+:\d+: error: .*: module `[^`]*\.Goals` has no `")
 OPEN = re.compile(r"note: src/(\S+?)\.rt:\d+:\d+:")
-# what a check says of an open goal
+# what a check says of an open goal, and of a search in a written proof
 AT_VALUES = "allow values at which this goal is false"
+GAVE_UP = re.compile(r"`(?:search|grind)`(?:: no proof| gave up)")
 # the head of a function, and the trait and the type of an `impl`
 FUNCTION = re.compile(
     r'(    )?(?:pub(?:\([^)]*\))? )?(?:const )?(?:unsafe )?(?:extern "C" )?fn (\w+)'
@@ -229,7 +230,7 @@ def kind_of(said):
         if AT_VALUES in line:
             return Outcome.VALUES, line
     for line in said:
-        if not PLACE.match(line)[1].startswith("proofs/"):
+        if GAVE_UP.search(line) or not PLACE.match(line)[1].startswith("proofs/"):
             return Outcome.SEARCH, line
     return (Outcome.PROOF, said[0]) if said else (None, "")
 
