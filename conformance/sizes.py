@@ -13,7 +13,7 @@ FOLDER = Path(__file__).resolve().parent
 # the longest token that vipr reads, in bytes
 LONGEST = 65535
 # how many items a certificate has that has many, and how many more than a machine counts in 16 bits
-MANY, WORD = 1050, 2**16 + 1
+MANY, WORD = 1030, 2**16 + 1
 # the branches of a whole tree lie below each other on so many levels
 LEVELS = 10
 # for each long case the shorter one that it is made of, what is replaced in it, and by what
@@ -86,6 +86,17 @@ def many_variables():
     }
     yield "last-variable-rounded", certificate(MANY, shuffled(range(MANY)), **half)
     yield "last-variable-not-rounded", certificate(MANY, shuffled(others), **half)
+    ones, same = [(index, 1) for index in range(MANY)], [(index, 1) for index in range(last)]
+    for name, integers, value in (
+        ("row-of-many-rounded", range(MANY), 1),
+        ("row-of-many-last-continuous", others, 1),
+        ("row-of-many-last-fraction", range(MANY), "1/2"),
+    ):
+        rounded = vector(same + [(last, value)])
+        problem, derivation = f"a G 1/2 {rounded}", f"d G 1 {rounded} {{ rnd 1 0 1 }} -1"
+        yield name, certificate(MANY, integers, problem=[problem], derivations=[derivation])
+    solution = [f"s {vector(same + [(last, '1/2')])}"]
+    yield "last-value-fraction", certificate(MANY, range(MANY), solutions=solution)
     yield "row-of-many", certificate(MANY, problem=[f"a G 1 {vector(row)}"], derivations=[stated])
     yield "row-of-many-in-any-order", certificate(
         MANY, problem=[f"a G 1 {vector(shuffled(row))}"], derivations=[stated]
@@ -96,12 +107,9 @@ def many_variables():
     yield "row-last-missing", certificate(
         MANY, problem=[f"a G 1 {vector(almost)}"], derivations=[stated]
     )
-    for name, value in ("satisfied", 0), ("violated", -1):
-        solution = [f"s {vector([(index, 1) for index in range(last)] + [(last, value)])}"]
-        ones = vector([(index, 1) for index in range(MANY)])
-        yield f"sum-of-many-{name}", certificate(
-            MANY, problem=[f"a G {last} {ones}"], solutions=solution
-        )
+    solution = [f"s {vector(same + [(last, -1)])}"]
+    problem = [f"a G {last} {vector(ones)}"]
+    yield "sum-of-many-violated", certificate(MANY, problem=problem, solutions=solution)
     doubled = {
         "problem": [f"a G 2 {vector([(index, 2 * value) for index, value in row])}"],
         "derivations": [stated.replace("lin 1 0 1 }", "lin 1 0 1/2 }")],
@@ -154,11 +162,9 @@ def many_constraints():
 def many_derivations():
     """Many derivations, of which the last one decides."""
     lower = {"objective": "min\n1 0 1", "problem": ["a G 4 1 0 2"], "claim": "range 2 inf"}
-    for name, last in ("chain", 2), ("chain-breaks-at-the-end", 3):
-        steps = [f"d G 4 1 0 2 {{ lin 1 {place} 1 }} {place + 2}" for place in range(MANY)]
-        yield name, certificate(
-            1, **lower, derivations=[*steps, f"d G {last} 1 0 1 {{ lin 1 {MANY} 1/2 }} -1"]
-        )
+    steps = [f"d G 4 1 0 2 {{ lin 1 {place} 1 }} {place + 2}" for place in range(MANY)]
+    steps += [f"d G 2 1 0 1 {{ lin 1 {MANY} 1/2 }} -1"]
+    yield "chain", certificate(1, **lower, derivations=steps)
     weak = ["d G 1 1 0 2 { lin 1 0 1 } -1"] * MANY
     yield "last-derivation-proves", certificate(
         1, **lower, derivations=[*weak, "d G 2 1 0 1 { lin 1 0 1/2 } -1"]

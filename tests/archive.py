@@ -35,7 +35,7 @@ import build_manual  # noqa: E402
 VERSION = re.search(r'VIPR_VERSION "(.*)"', (TOP / 'include/vipr.h').read_text())[1]
 PATH = '/usr/sbin:/usr/bin:/sbin:/bin'
 EXAMPLE = 'share/doc/vipr/examples/infeasible.vipr'
-CASES = 'vipr-conformance-1.0'
+CASES = f'vipr-conformance-{(TOP / "conformance/VERSION").read_text().strip()}'
 VERDICT = 'verified infeas\nsolutions 0 derived 1 peak 1\n'
 # what a name may do to a shell or to make; each runs `touch PWNED` if it is run
 NAMES = ['a`touch PWNED`.vipr', 'b$(shell touch PWNED).vipr', 'c"; touch PWNED; ".vipr', "d'; touch PWNED; '.vipr",

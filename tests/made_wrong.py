@@ -13,7 +13,8 @@ from functools import partial
 from pathlib import Path
 
 SOURCE = Path(__file__).resolve().parent.parent / "bench/plain_check.py"
-# what a wrong version is called, the lines of the source that it changes, and what makes it
+# what a wrong version is called, the lines of the source that it changes (None if each case reaches them), whether it may be
+# wrong past some number of things, and what makes it
 Version = namedtuple("Version", "name lines is_of_size make")
 # functions that make no difference to the verdict, and what tests the limits of numbers, which are vipr's choice
 PRINTING = {"readable", "written", "hold", "explained", "main", "name_ahead", "refuse"}
@@ -43,7 +44,8 @@ ORDERS = {ast.Lt: "lt", ast.LtE: "le", ast.Gt: "gt", ast.GtE: "ge", ast.Eq: "eq"
 
 def in_bits(bits, number):
     """The nearest number with so many binary digits."""
-    scale = Fraction(2) ** (bits - abs(number.numerator).bit_length() + number.denominator.bit_length())
+    size = abs(number.numerator).bit_length() - number.denominator.bit_length()
+    scale = Fraction(2) ** (bits - size - (abs(number) >= Fraction(2) ** size))
     return Fraction(round(number * scale)) / scale
 
 
@@ -68,7 +70,7 @@ def machine(kind, value):
     """A number as a machine has it, or a row of such numbers."""
     if isinstance(value, dict):
         return {index: machine(kind, number) for index, number in value.items()}
-    return KINDS[kind](value) if isinstance(value, Fraction) else value
+    return KINDS[kind](Fraction(value)) if isinstance(value, (int, Fraction)) else value
 
 
 def within(slack, relative, order, left, right):
@@ -203,9 +205,9 @@ def is_left_alone(node, function):
         return code.split(" ")[0] in LIMITS
     if isinstance(node, ast.Call):
         return code.startswith(("Refused(", "refuse(", "bounded("))
-    # what is computed for the test of a limit alone, the cause in a call of `one_of`, and a text that is printed
+    # what is computed for the test of a limit alone, and what is printed
     in_sum = function == "add" and isinstance(node, ast.Assign)
-    return in_sum or isinstance(node, ast.JoinedStr) or isinstance(node, ast.Return) and "range {} {}" in code
+    return in_sum or isinstance(node, ast.JoinedStr) or code.startswith(("claim = ", "constraint = "))
 
 
 def places(node, function=""):
@@ -256,4 +258,4 @@ def versions():
             name += f" ({seen[name]})"
         is_of_size = "list(" in new and "[" in new
         make = partial(made, tree, node, put, other)
-        yield Version(name, header(placed), is_of_size, make)
+        yield Version(name, header(placed) if function else None, is_of_size, make)

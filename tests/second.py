@@ -126,7 +126,7 @@ def compared(first, named):
 def conforms():
     """Whether conformance/run.py finds no case on which the second checker disagrees."""
     for words in PROFILES:
-        done = run([sys.executable, TOP / 'conformance/run.py', *words, '--', SECOND, *words, '{}'], timeout=600)
+        done = run([sys.executable, TOP / 'conformance/run.py', *words, '--batch', '--', SECOND, *words, '{}'], timeout=600)
         CHECKS.check(done.returncode == 0, f'run.py {" ".join(words)}: {done.stdout.decode()}{done.stderr.decode()}')
 
 

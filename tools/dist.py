@@ -8,8 +8,8 @@ usage: tools/dist.py VERSION [FOLDER]     FOLDER is dist without it
 package that has the program and the library in it, and vipr-VERSION-linux-x86_64.tar.gz, whose files lie in a folder
 vipr-VERSION: bin, lib, include and share as `make install` lays them out, python, and debian, so that
 `dpkg-buildpackage -b` makes packages of them. SHA256SUMS has the sum of each file. BUILD, which is beside the pages, too, has
-the kit, its logic, the commit, and the sums of the program and the libraries. vipr-conformance-1.0.tar.xz has the folder
-conformance and the licence; its number is the format's version. The same files and commit give the same bytes. The exit
+the kit, its logic, the commit, and the sums of the program and the libraries. vipr-conformance-N.tar.xz has the folder
+conformance and the licence of its scripts; N is the version of the cases. The same files and commit give the same bytes. The exit
 status is 1 if a command fails.
 """
 import gzip
@@ -31,8 +31,8 @@ import kit
 TOP = Path(__file__).resolve().parent.parent
 # (the glibc is that of README)
 WHEEL_TAG = 'py3-none-manylinux_2_34_x86_64'
-# the version of the format, and not of the program
-FORMAT = '1.0'
+# the version of the cases, and not of the program
+CASES_VERSION = (TOP / 'conformance/VERSION').read_text().strip()
 INSTALL = '''vipr {version}, a proved checker of VIPR certificates, built for Linux on x86-64.
 
 It needs glibc 2.34 or later (Debian 12, Ubuntu 22.04), and nothing else: neither Rust nor the kit that proved it.
@@ -131,9 +131,9 @@ def main():
     version, folder = sys.argv[1], Path(sys.argv[2] if len(sys.argv) > 2 else TOP / 'dist')
     start = time.monotonic()
     folder.mkdir(parents=True, exist_ok=True)
-    archive, cases = folder / f'vipr-{version}-linux-x86_64.tar.gz', folder / f'vipr-conformance-{FORMAT}.tar.xz'
+    archive, cases = folder / f'vipr-{version}-linux-x86_64.tar.gz', folder / f'vipr-conformance-{CASES_VERSION}.tar.xz'
     with tempfile.TemporaryDirectory(prefix='vipr-dist-') as name:
-        tree, tree_of_cases = Path(name) / f'vipr-{version}', Path(name) / f'vipr-conformance-{FORMAT}'
+        tree, tree_of_cases = Path(name) / f'vipr-{version}', Path(name) / f'vipr-conformance-{CASES_VERSION}'
         try:
             day = lay_out(tree, version)
         except subprocess.CalledProcessError as fault:
