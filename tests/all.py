@@ -49,6 +49,7 @@ SCRIPTS = [
     ['tests/library.py'],
     ['tests/python.py'],
     ['tests/writer.py'],
+    ['tests/solver.py'],
     ['tests/browser.py'],
     ['tests/archive.py'],
     ['tests/pages.py'],

@@ -13,9 +13,13 @@ Prints each fault, and last `writer: N checks, F failed`; the exit status is 1 i
 import io
 import itertools
 import os
+import pickle
 import random
 import sys
+import tempfile
+from decimal import Decimal
 from fractions import Fraction
+from pathlib import Path
 
 from texts import TOP, Checks, program, run
 
@@ -134,6 +138,18 @@ def refused():
     for name in ('two words', '%', '\n', 'x' * 65536):
         refuses(f'the name {name[:20]!r}', ValueError, ('constraint', 'G', 1, row, name))
     refuses('a later constraint', ValueError, ('constraint', 'G', 1, row), ('lin', 'G', 1, row, {1: 1}))
+    refuses('a branch that is none', ValueError, ('constraint', 'G', 1, row), ('uns', 'G', 1, row, 0, 0, 0, 0))
+    refuses('a branch on what is no integer', ValueError, ('branch', row, 0))
+    refuses('a fraction as the bound of a branch', ValueError, ('branch', row, Fraction(1, 2)), integers=['x'])
+    refuses('a solution that breaks a constraint', ValueError, ('constraint', 'G', 1, row), ('solution', {'y': 2}))
+    refuses('a solution that breaks the bound of an objective row', ValueError, ('constraint', 'L', 1, vipr.OBJECTIVE), ('solution', {'x': 2}))
+    refuses('a solution that is no integer', ValueError, ('solution', {'x': Fraction(1, 2)}), integers=['x'])
+    refuses('a claim that no solution attains', ValueError, ('solution', {'x': 2}), ('claim', None, 1))
+    refuses('a claim without a solution', ValueError, ('claim', 0, 0))
+    refuses('bounds that cross', ValueError, ('claim', 2, 1))
+    refuses('a cutoff without a solution', ValueError, ('sol', 'L', 1))
+    refuses('bytes as a name', TypeError, ('constraint', 'G', 1, row, b'c'))
+    refuses('infinity as a Decimal', ValueError, ('constraint', 'G', Decimal('inf'), row))
     refuses('a negative index', ValueError, ('constraint', 'G', 1, row), ('lin', 'G', 1, row, {-1: 1}))
     refuses('a constraint behind a derivation', ValueError, ('asm', 'G', 1, row), ('constraint', 'G', 1, row))
     file = io.BytesIO()
@@ -143,6 +159,48 @@ def refused():
         check(False, 'no claim is taken')
     except ValueError:
         check(not file.getvalue(), f'no claim: {file.getvalue()}')
+
+
+def by_path(folder):
+    """A path that can't be written is known at once, an error leaves a file as it was, and a text stream is refused."""
+    for target, kind in ((f'{folder}/missing/a.vipr', OSError), (io.StringIO(), TypeError), (3, TypeError)):
+        try:
+            vipr.Writer(target, {'x': 1})
+            check(False, f'{target} is taken')
+        except kind as fault:
+            check(str(fault), fault)
+    path = Path(folder, 'a.vipr')
+    path.write_bytes(b'precious')
+    for fails in (True, False):
+        try:
+            with vipr.Writer(path, {'x': 1}) as proof:
+                proof.claim(None, None)
+                if fails:
+                    raise RuntimeError
+        except RuntimeError:
+            check(path.read_bytes() == b'precious', 'an error changes the file')
+    check(vipr.read(path.read_bytes()).problem.claim == vipr.Claim(False), f'{path.read_bytes()}')
+
+
+def calls():
+    """What the calls write, and what they give."""
+    file = io.BytesIO()
+    with vipr.Writer(file, {'x': 1, 'y': Decimal('0.25')}, integers=['x'], maximize=True) as proof:
+        x, y = proof.bounds('x', 0, 3), proof.bounds('y', None, Decimal('2.5'))
+        row, same = proof.sides(1, {'x': 1, 'y': 1}, 7, 'row'), proof.sides(2, {'x': 1, 'y': -1}, 2, 'same')
+        check((x, y, row, same) == ((0, 1), (None, 2), (3, 4), (5, 5)), f'{x} {y} {row} {same}')
+        check(repr(row.upper) == '<constraint 4 row_up>' and f'{x.lower}' == '0', repr(row.upper))
+        check(pickle.loads(pickle.dumps(x.upper)).name == 'x_up', 'a handle is pickled')
+        down, up = proof.branch({'x': 1}, 2)
+        ends = [proof.bound(Decimal('3.625'), {x.upper: 1, y.upper: Decimal('0.25')}) for _ in (down, up)]
+        proof.uns('L', Decimal('3.625'), vipr.OBJECTIVE, ends[0], down, ends[1], up)
+        never = proof.contradiction({x.upper: -1, proof.asm('G', 4, {'x': 1}): 1})
+        value = proof.solution({'x': 3, 'y': 1})
+        check((value, down, up, never) == (Fraction(13, 4), 6, 7, 12), f'{value} {down} {up} {never}')
+        proof.claim(value, Decimal('3.625'))
+    ran = run([program(sys.argv[1:]), 'check'], file.getvalue())
+    check(ran.stdout.startswith(b'verified range 13/4 29/8\n'), f'{ran} {file.getvalue()}')
+    check(vipr.read(file.getvalue()).problem.bounds == 3, 'the bounds are counted')
 
 
 def checked_by_the_library(rng):
@@ -170,6 +228,9 @@ def main():
             parts, optimum = make(rng)
             verified(vipr_program, f'{write.__name__} {number}, {parts}', written(write, *parts), optimum)
     refused()
+    calls()
+    with tempfile.TemporaryDirectory() as folder:
+        by_path(folder)
     library = next((TOP / 'crates/vipr_c/out').glob('libvipr.so.*'), None)
     if library:
         os.environ['VIPR_LIBRARY'] = str(library)

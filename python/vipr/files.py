@@ -53,6 +53,16 @@ def escaped(character: str) -> str:
     return f'\\u{code:04x}' if code < 0x10000 else f'\\U{code:08x}'
 
 
+def decoded(name: bytes) -> str:
+    """A name of a text as a str. Bytes that aren't UTF-8 are kept, as Python keeps them in the names of files."""
+    return name.decode('utf-8', 'surrogateescape')
+
+
+def encoded(name: str) -> bytes:
+    """The bytes of a name that `decoded` gave."""
+    return name.encode('utf-8', 'surrogateescape')
+
+
 def printable(name: Union[bytes, str]) -> str:
     """A name of a certificate or a file, as each is printed and stored: what isn't printable is escaped, so that it can't
     control a terminal or end a line. Two names have two such texts."""
