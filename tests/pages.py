@@ -8,7 +8,7 @@ In README.md, CONTRIBUTING.md and the pages of docs/ and examples/ it looks at
   of the repository, with the built program as `vipr` on the path. The lines below it are what is printed on standard output
   and standard error, in the order in which they come; after a command whose last line is `$ echo $?` stands its status.
   The home folder is empty, TMPDIR isn't set, and a variable that isn't set ends the shell. The commands of
-  docs/TUTORIAL.md are run in an empty folder, with the files of its blocks marked `vipr as NAME`;
+  docs/TUTORIAL.md are run in a folder with a link to the examples and the files of its blocks marked `vipr as NAME`;
 - blocks marked with a file's name, as `vipr examples/infeasible.vipr`: they are that file, or a part of it, line by line;
 - tables below a line `Changes of [..](..):`, with the columns `In place of`, `Write` and `Printed` last: each row changes
   one piece of the file that the line names, and `check` prints the last column as its first line;
@@ -444,6 +444,7 @@ def main():
         (room / 'vipr').symlink_to(PROGRAM)
         for folder in ('home', 'empty'):
             (room / folder).mkdir()
+        (room / 'empty/examples').symlink_to(TOP / 'examples')
         put_stand_ins(room, TOP)
         for page in PAGES:
             look_at(page, (TOP / page).read_text(), room)
