@@ -23,15 +23,16 @@ import sys
 import tempfile
 from pathlib import Path
 
-from texts import TOP, Checks, examples
+from texts import TOP, Checks, examples, text_of
+import families
 
 sys.path[:0] = [str(TOP / 'python'), str(TOP / 'examples/python')]
 import knapsack  # noqa: E402
 import vipr  # noqa: E402
 from vipr import proof as structure  # noqa: E402
-from vipr.algebra import constraint_text  # noqa: E402
 from vipr.files import printable  # noqa: E402
 from vipr.html import Page, verdict_of  # noqa: E402
+from vipr.picture import Picture  # noqa: E402
 
 CHECKS = Checks('browser')
 check = CHECKS.check
@@ -48,7 +49,7 @@ USE = '''
 const seen = [], say = what => seen.push(what), texts = () => [...document.querySelectorAll('.row')].map(it => it.textContent);
 const key = name => list.dispatchEvent(new KeyboardEvent('keydown', {key: name, bubbles: true}));
 const look = words => { element('find').value = words; element('find').dispatchEvent(new Event('input')); };
-say(document.title); say(items.length); say(texts().length); say(chosen); say(element('detail').textContent);
+say(document.title); say(count); say(texts().length); say(chosen); say(element('detail').textContent);
 say(document.querySelectorAll('script[src], link, img, iframe').length);
 USES
 const post = new XMLHttpRequest();
@@ -59,29 +60,55 @@ try { post.send(JSON.stringify(seen)); } catch (fault) { }  // (the answer is no
 
 def made(text, name='proof.vipr'):
     """The page of a certificate."""
-    return Page(vipr.read(text)).html(name, *verdict_of(text, name, 1))
+    return ''.join(Page(vipr.read(text)).html(name, *verdict_of(text, name, 1)))
 
 
 def data_of(page):
     return json.loads(re.search(r'<script type="application/json" id="data">(.*?)</script>', page, re.S)[1])
 
 
+# what a page says of its constraints
+TOLD = """lines.map((_, index) => ({name: nameOf(index), text: textOf(index), named: named[index], needed: isNeeded(index),
+  users: users[index] || [], reason: index < first ? '' : reasonOf(index),
+  rests: index < first ? [] : assumptions(rests[index - first]), size: index < first ? 0 : sizes[rests[index - first]]}))"""
+
+
+def told(page):
+    """What a page's script says of each constraint, and its rows: in node, if it is here, and else in a browser."""
+    if shutil.which('node'):
+        script = re.findall(r'<script>(.*?)</script>', page, re.S)[0].partition('\nfunction choose(')[0]
+        stub = f'const document = {{getElementById: id => id === "data" ? {{textContent: {json.dumps(json.dumps(data_of(page)))}}} : {{}}}};'
+        done = subprocess.run(['node', '-'], input=f"{stub}{script}\nconsole.log(JSON.stringify([{TOLD}, order]));".replace("'use strict';", ''),
+                              stdout=subprocess.PIPE, text=True, check=False)
+        return json.loads(done.stdout) if done.returncode == 0 else ([], [])
+    return next(browsed(page, f'say({TOLD}); say(order);'), [[], []])[-2:]
+
+
 def says_what_is_there(path, text):
-    """A page's data against the certificate."""
+    """What a page says against the certificate."""
     proof = vipr.read(text)
-    data, first = data_of(made(text)), len(proof.problem.constraints)
-    sets = structure.assumptions(proof)
-    goal = structure.goal(proof, sets)
-    needed = structure.needed(proof, goal)
-    check((data['first'], data['goal'], len(data['items'])) == (first, goal, first + len(proof.derivations)), f'{path}: another goal')
-    for index, it in enumerate(data['items']):
+    page, first = made(text), len(proof.problem.constraints)
+    data, (items, rows) = data_of(page), told(page)
+    sets = [structure.indices(it) for it in structure.assumptions(proof)]
+    found = structure.outline(proof)
+    check((data['first'], data['goal'], len(items)) == (first, found.goal, first + len(proof.derivations)), f'{path}: another goal')
+    users = {}
+    picture = Picture(proof, found)
+    for index, it in enumerate(items):
         own = proof.constraint(index)
-        check((it['name'], it['text'], it['needed']) == (printable(own.name), constraint_text(own, proof.problem.names), index in needed)
-              or 'objective ' in it['text'], f'{path}: {index} is {it}')
+        check((it['name'], it['text'], it['needed']) == (printable(own.name), picture.text(own), found.goal is None or bool(found.needed[index])),
+              f'{path}: {index} is {it}, and not {picture.text(own)}')
         if index >= first:
-            check((it['named'], it['rests']) == (structure.named(proof, index), sets[index - first].indices()), f'{path}: {index} is {it}')
-    rows = data['order']
-    check(sorted(it['index'] for it in rows) == list(range(first, len(data['items']))), f'{path}: a derivation has no row, or two')
+            names = structure.named(proof, index)
+            for other in names:
+                users.setdefault(other, []).append(index)
+            check((it['named'], it['rests'], it['size']) == (names, sets[index - first][:200], len(sets[index - first])), f'{path}: {index} is {it}')
+            check(it['reason'] == picture.reason(index), f'{path}: {index} is {it}, and not {picture.reason(index)}')
+    check(all(it['users'] == users.get(index, []) for index, it in enumerate(items)), f'{path}: other users')
+    tree = picture.tree(True)
+    check([rows[it['parent']]['index'] if it['parent'] >= 0 else None for it in rows]
+          == [first + tree.parents[it['index'] - first] if tree.parents[it['index'] - first] >= 0 else None for it in rows], f'{path}: another tree')
+    check(sorted(it['index'] for it in rows) == list(range(first, len(items))), f'{path}: a derivation has no row, or two')
     for at, it in enumerate(rows):
         below = [other for other in rows[at + 1:at + 1 + it['below']]]
         check(all(other['parent'] >= at for other in below) and all(other['parent'] < at for other in rows[at + 1 + it['below']:at + 2 + it['below']]),
@@ -143,7 +170,7 @@ def hostile():
         proof.claim(None, None)
     page = made(file.getvalue(), MARKUP[0])
     check(page.count('<script') == 2 and page.count('</script') == 2, 'a name adds a script')
-    for got in browsed(page, "element('all').click(); say(items.map(it => it.name));"):
+    for got in browsed(page, "element('all').click(); say(lines.map((_, index) => nameOf(index)));"):
         check(MARKUP[0] in got[0] and got[-1] == [*MARKUP, MARKUP[1]] and got[5] == 0, got)
 
 
@@ -181,6 +208,11 @@ def refused():
 
 
 def main():
+    odd = b'VER 1.0 VAR 2 x y INT 1 0 OBJ max 2 0 +6/4 1 -007 CON 2 0 { L 4/6 2 1 -03 0 0/5 OBJ L 7/1 2 0 -1 1 +1 RTP range -inf inf SOL 2 '
+    odd += b's 0 7 1 1 -1/2 DER 3 a G 0 OBJ { asm } 5 } G +0 0 { lin 3 0 0 02 -2/4 2 1/1 } -1 u E 3 1 1 1 { uns 3 2 3 2 } -1'
+    says_what_is_there('odd numbers and names', odd)
+    for family in families.growing, families.joined_sets, families.tree:
+        says_what_is_there(family.__name__, text_of(family, 30_000))
     for path, text in examples(20000):
         if isinstance(vipr.read(text), vipr.Certificate):
             says_what_is_there(path, text)

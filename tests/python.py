@@ -115,7 +115,8 @@ def agrees(text, what):
     """Whether the reader answers as `vipr show`."""
     _, said, status = run([PROGRAM, 'show'], text)
     got = vipr.read(text)
-    is_refused = isinstance(got, vipr.Refusal)
+    is_refused = not got
+    check(isinstance(got, vipr.Refused if is_refused else vipr.Certificate), f'{what}: {got!r:.200}')
     check(is_refused == (status == 1) and (not is_refused or str(got) == said.decode().rstrip('\n')), f'{what}: {got!r:.200}, {said}')
     front = vipr.read_problem(text)
     check(front == got or (is_refused and isinstance(front, vipr.Problem)) or (not is_refused and front == got.problem),
@@ -168,8 +169,8 @@ def calls(texts):
             for command, call in (('show', vipr.show), ('tighten', vipr.tighten)):
                 out, fault, status = run([PROGRAM, command, *words], text)
                 got = call(text, compact=compact)
-                if isinstance(got, vipr.Refusal):
-                    check(status == 1 and f'{got}\n'.encode() == fault, f'{command}: {got}, {fault}')
+                if not got:
+                    check(isinstance(got, vipr.Refused) and status == 1 and f'{got}\n'.encode() == fault, f'{command}: {got}, {fault}')
                 elif command == 'show':
                     check(got == out, 'show differs')
                 else:
@@ -282,10 +283,10 @@ def written_mps(problem):
     for at, name in enumerate(problem.names):
         word = 'INTORG' if at in problem.integers else ''
         out += [f" M 'MARKER' '{word}'"] if word else []
-        out += [f' {name.decode()} {row} {decimal(value)}' for row, value in columns[at]]
+        out += [f' {name} {row} {decimal(value)}' for row, value in columns[at]]
         out += [" M 'MARKER' 'INTEND'"] if word else []
     out += ['RHS', *(f' r{at} {decimal(it.bound)}' for at, it in enumerate(problem.constraints)), 'BOUNDS']
-    return '\n'.join([*out, *(f' FR {name.decode()}' for name in problem.names), 'ENDATA', '']).encode()
+    return '\n'.join([*out, *(f' FR {name}' for name in problem.names), 'ENDATA', '']).encode()
 
 
 def follows(wanted, conditions, whole):
@@ -330,8 +331,8 @@ def random_pair(dice):
         return all(j in integers and v.denominator == 1 for j, v in row)
     conditions = [[half for it in side for half in halves(*it)] for side in exact]
     same = all(follows(it, conditions[1 - at], whole) for at in (0, 1) for it in conditions[at])
-    problem = vipr.Problem([b'a', b'b'], set(integers), False, {}, 0,
-                           [vipr.Constraint(b'c', sense, bound, dict(row)) for row, sense, bound in exact[0]], vipr.Claim(True))
+    problem = vipr.Problem(['a', 'b'], set(integers), False, {}, 0,
+                           [vipr.Constraint('c', sense, bound, dict(row)) for row, sense, bound in exact[0]], vipr.Claim(True))
     body = f'VER 1.0 VAR 2 a b INT {len(integers)} {" ".join(map(str, integers))} OBJ min 0 CON {len(other)} 0 '
     body += ' '.join(f'c {sense} {bound} {len(row)} ' + ' '.join(f'{j} {v}' for j, v in row) for row, sense, bound in exact[1])
     return written_mps(problem), f'{body} RTP infeas SOL 0 DER 0\n'.encode(), same
@@ -488,7 +489,7 @@ def hostile(room, words):
 
 def sets_of_assumptions(dice):
     """Sets that share their parts are those that Python's own sets give."""
-    constraint = vipr.Constraint(b'c', 'G', 1, {})
+    constraint = vipr.Constraint('c', 'G', 1, {})
     for _ in range(60):
         first, count = dice.choice([0, 3, 255, 256, 70000]), dice.choice([5, 50, 700, 2000])
         derivations, plain = [], {}
@@ -506,14 +507,16 @@ def sets_of_assumptions(dice):
                 rests_on = (plain.get(pick[0], set()) - {pick[1]}) | (plain.get(pick[2], set()) - {pick[3]})
             plain[first + at] = rests_on
         problem = vipr.Problem([], set(), False, {}, 0, [constraint] * first, vipr.Claim(True))
-        found = structure.assumptions(vipr.Certificate(problem, [], derivations))
-        check([it.indices() for it in found] == [sorted(it) for it in plain.values()], 'sets of assumptions differ')
-        check([it.size for it in found] == [len(it) for it in plain.values()], 'sizes of sets of assumptions differ')
+        found = [(structure.indices(it), len(it)) for it in structure.assumptions(vipr.Certificate(problem, [], derivations))]
+        # (what is named no more isn't kept)
+        check([it for it, _ in found] == [sorted(it) for it in plain.values()], 'sets of assumptions differ')
+        check([size for _, size in found] == [len(it) for it in plain.values()], 'sizes of sets of assumptions differ')
 
 
 def drawn(text, boxes=picture.MOST_BOXES):
     """A picture of a text, and how many boxes it has, of which style."""
-    svg = picture.Picture(vipr.read(text)).svg(boxes, picture.MOST_SPLITS)
+    proof = vipr.read(text)
+    svg = picture.Picture(proof, structure.outline(proof)).svg(boxes, picture.MOST_SPLITS)
     root = xml.etree.ElementTree.fromstring(svg)
     return svg, [it.get('class').split() for it in root.iter('{http://www.w3.org/2000/svg}g')]
 
@@ -521,16 +524,16 @@ def drawn(text, boxes=picture.MOST_BOXES):
 def pictures(texts):
     for text in texts:
         proof = vipr.read(text)
-        if isinstance(proof, vipr.Refusal):
+        if not proof:
             continue
-        count, goal = len(proof.derivations), structure.goal(proof, structure.assumptions(proof))
+        found = structure.outline(proof)
+        count, goal = len(proof.derivations), found.goal
         boxes = drawn(text)[1]
         if count <= picture.MOST_BOXES:
             check(len(boxes) == count, f'{len(boxes)} boxes for {count} derivations')
             is_drawn = goal is not None and goal >= len(proof.problem.constraints)
             check(sum('goal' in it for it in boxes) == is_drawn, f'the goal {goal} is marked {boxes}')
-            needed = structure.needed(proof, goal)
-            spare = count - sum(it >= len(proof.problem.constraints) for it in needed) if goal is not None else 0
+            spare = count - sum(found.needed[len(proof.problem.constraints):]) if goal is not None else 0
             check(sum('spare' in it for it in boxes) == spare, f'{spare} are not needed: {boxes}')
         drawn(text, 0)
     drawn(NOT_THERE)

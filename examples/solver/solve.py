@@ -36,14 +36,14 @@ class Model:
     """
 
     def __init__(self, file, proof):
-        self.names = [name.decode() for name in file.columns]
+        self.names = list(file.columns)
         self.turn = -1 if file.maximizes else 1
         objective = file.entries[file.objective]
         self.costs = [Fraction(objective.get(j, 0)) * self.turn for j in range(len(self.names))]
         self.integers = [j for j, column in enumerate(file.columns.values()) if column.is_whole]
         self.rows, self.sides, self.reasons = [], [], []
         # Variables are free: each bound is a constraint like any other (FORMAT, "What surprises").
-        for j, (name, column) in enumerate(zip(self.names, file.columns.values())):
+        for j, (name, column) in enumerate(file.columns.items()):
             lower, upper = column.sides()
             if column.is_whole and lower is None and upper is None:
                 raise NoProof(f"the integer column {name} has no bound")
@@ -52,7 +52,7 @@ class Model:
         for name, (kind, _) in file.rows.items():
             if kind != "N":
                 row, (lower, upper) = file.entries[name], file.sides(name)
-                said = proof.sides(lower, self.named(row), upper, name.decode())
+                said = proof.sides(lower, self.named(row), upper, name)
                 self.add(row, lower, upper, said, is_bound=False)
 
     def add(self, row, lower, upper, said, is_bound=True):
@@ -228,8 +228,8 @@ def read_model(words):
 def prove(file, out, program):
     """Writes the certificate of a model to a stream. Raises NoProof."""
     objective = file.entries[file.objective]
-    costs = {name.decode(): objective.get(j, 0) for j, name in enumerate(file.columns)}
-    integers = [name.decode() for name, column in file.columns.items() if column.is_whole]
+    costs = {name: objective.get(j, 0) for j, name in enumerate(file.columns)}
+    integers = [name for name, column in file.columns.items() if column.is_whole]
     try:
         with vipr.Writer(out, costs, integers=integers, maximize=file.maximizes) as proof:
             model = Model(file, proof)

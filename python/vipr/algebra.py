@@ -17,7 +17,7 @@ def term(coefficient: Number, name: str, is_first: bool) -> str:
     return f'{sign}{size}{name}'
 
 
-def row_text(row: Row, names: List[bytes], most: Optional[int] = None) -> str:
+def row_text(row: Row, names: List[str], most: Optional[int] = None) -> str:
     """The sum of a row, its first terms if there are more than `most`; 0 for an empty one."""
     shown = sorted(row) if most is None else heapq.nsmallest(most, row)
     terms = [term(row[index], printable(names[index]), at == 0) for at, index in enumerate(shown)]
@@ -25,6 +25,6 @@ def row_text(row: Row, names: List[bytes], most: Optional[int] = None) -> str:
     return ' '.join(terms + rest) or '0'
 
 
-def constraint_text(it: Constraint, names: List[bytes], most: Optional[int] = None) -> str:
+def constraint_text(it: Constraint, names: List[str], most: Optional[int] = None) -> str:
     """A constraint, as `2 x + 4 y >= 7`."""
     return f'{row_text(it.row, names, most)} {SIGNS[it.sense]} {it.bound}'

@@ -1,30 +1,42 @@
 """A certificate's text as values, read by docs/FORMAT.md. Nothing proves this reader.
 
 It refuses what `vipr show` refuses, with the same cause and place: a text's faults. Whether the proof holds isn't tested.
-A number is an int if it is whole, and a Fraction otherwise.
+A number is an int if it is whole, and a Fraction otherwise. Names are str; bytes that aren't UTF-8 are kept in them as Python
+keeps those of file names.
+
+Constraints, solutions and derivations are read once to test the text, and again as they are asked for: what is kept is the
+text, and where each begins. Most are matched by one expression. What it doesn't match is read token by token, which says what
+is at fault.
 """
 from __future__ import annotations
 
+import functools
 import mmap
+import os
 import re
+from array import array
+from collections.abc import Sequence as AbstractSequence
 from dataclasses import dataclass
 from fractions import Fraction
 from itertools import islice
 from operator import length_hint
-from typing import Callable, Dict, List, Optional, Set, Tuple, TypeVar, Union
+from typing import Callable, Dict, Generic, Iterator, List, Match, Optional, Sequence, Set, Tuple, TypeVar, Union, overload
 
-from .verdict import Cause, Claim, Place, Refusal
+from .files import decoded, read_file as bytes_of_file
+from .verdict import Cause, Claim, Place, Refusal, Refused
 
 Text = Union[bytes, bytearray, memoryview, mmap.mmap]
 Number = Union[int, Fraction]
 Row = Dict[int, Number]
 Part = TypeVar('Part')
+Progress = Callable[[int], None]
 
 LARGEST = 2**127 - 1
 LARGEST_COUNT = 2**32 - 1
 LONGEST_TOKEN = 65535
-MOST_KNOWN, MOST_INDICES = 1 << 16, 1 << 18
-PIECE = 1 << 16
+MOST_KNOWN, MOST_INDICES = 1 << 12, 1 << 12
+LEAST_PIECE, MOST_PIECE = 1 << 9, 1 << 16
+STEP = 1 << 12  # of how many items the progress is told
 SENSES = {word.encode(): word for word in ('E', 'L', 'G')}
 REASONS = {word.encode(): word for word in ('asm', 'lin', 'rnd', 'uns', 'sol')}
 _COMMENTS = re.compile(rb'[\t-\r ]*(?:%[^\n]*(?:\n|$)[\t-\r ]*)*')
@@ -33,11 +45,26 @@ _WHITE = re.compile(rb'[\t-\r ]')
 _NUMBER = re.compile(rb'([+-]?)([0-9]+)(?:/([0-9]+))?')
 
 
+def _pattern(text: bytes) -> re.Pattern[bytes]:
+    """An expression over tokens, with ` ` for white space and a word for each kind of token that needs no second look."""
+    words = {b'NAME': rb'[^\t-\r ]{1,65535}', b'NUMBER': rb'[+-]?[0-9]{1,38}(?:/[1-9][0-9]{0,37})?', b'INDEX': rb'[0-9]{1,9}'}
+    text = text.replace(b'PAIRS', rb'(?: INDEX NUMBER)*').replace(b' ', rb'[\t-\r ]+')
+    for word, meaning in words.items():
+        text = text.replace(word, meaning)
+    return re.compile(rb'[\t-\r ]*' + text + rb'(?![^\t-\r ])')
+
+
+_STATED = rb'(NAME) ([ELG]) (NUMBER) (?:OBJ|(INDEX)(PAIRS))'
+_CONSTRAINT = _pattern(_STATED)
+_SOLUTION = _pattern(rb'(NAME) (INDEX)(PAIRS)')
+_LENGTH = _pattern(rb'NAME [ELG] NAME (NAME)')
+_DERIVATION = _pattern(_STATED + rb' \{ (?:(asm|sol)|(lin|rnd) (INDEX)(PAIRS)|uns ((?:INDEX ){3}INDEX)) \} (-1|INDEX)')
+
+
 @dataclass(frozen=True)
 class Constraint:
     """A name, a sense (`G` at least, `L` at most, `E` equal), a right-hand side, and the nonzero coefficients by variable."""
-    __slots__ = 'name', 'sense', 'bound', 'row'
-    name: bytes
+    name: str
     sense: str
     bound: Number
     row: Row
@@ -61,19 +88,19 @@ class Derivation:
 @dataclass(frozen=True)
 class Solution:
     """A listed solution: the nonzero values by variable."""
-    name: bytes
+    name: str
     values: Row
 
 
 @dataclass(frozen=True)
 class Problem:
     """The problem of a certificate, with its claim. `bounds` is how many of the constraints it counts as bounds."""
-    names: List[bytes]
+    names: List[str]
     integers: Set[int]
     maximizes: bool
     objective: Row
     bounds: int
-    constraints: List[Constraint]
+    constraints: Sequence[Constraint]
     claim: Claim
 
 
@@ -81,13 +108,217 @@ class Problem:
 class Certificate:
     """A problem, solutions and derivations. The first derived constraint has the index len(problem.constraints)."""
     problem: Problem
-    solutions: List[Solution]
-    derivations: List[Derivation]
+    solutions: Sequence[Solution]
+    derivations: Sequence[Derivation]
 
     def constraint(self, index: int) -> Constraint:
         """A constraint by its index, of the problem or derived."""
         count = len(self.problem.constraints)
-        return self.problem.constraints[index] if index < count else self.derivations[index - count].constraint
+        if index < count:
+            return self.problem.constraints[index]
+        found = self.derivations
+        return found.constraint(index - count) if isinstance(found, Derivations) else found[index - count].constraint
+
+    def length(self, at: int) -> int:
+        """How many coefficients a derivation is written with."""
+        found = self.derivations
+        return found.length(at) if isinstance(found, Derivations) else len(found[at].constraint.row)
+
+    def lines(self) -> Iterator[str]:
+        """Each constraint as the text spells it, with one space between tokens; derived ones with their reasons, and without
+        their last references."""
+        for items in (self.problem.constraints, self.derivations):
+            if not isinstance(items, Items):
+                raise TypeError('a certificate that was not read has no text')
+            yield from items.lines()
+
+    @functools.cached_property
+    def references(self) -> References:
+        """What each derivation names."""
+        found = self.derivations
+        return found.references if isinstance(found, Derivations) else References.of(found)
+
+
+class References:
+    """What each derivation names, as `Derivation.named` gives it, and by which reason, in a few bytes. `numbers` is how many
+    coefficients and multipliers all of them have."""
+
+    def __init__(self) -> None:
+        self.reasons: List[str] = []
+        self.indices, self.ends = array('I'), array('Q', [0])
+        self.numbers = 0
+
+    @classmethod
+    def of(cls, derivations: Sequence[Derivation]) -> References:
+        """Those of derivations that weren't read."""
+        made = cls()
+        for derivation in derivations:
+            made.add(derivation)
+        return made
+
+    def add(self, derivation: Derivation, objective: Optional[Row] = None) -> None:
+        """Adds one. Its row counts for nothing if it is written `OBJ`."""
+        row = derivation.constraint.row
+        self.reasons.append(derivation.reason)
+        self.indices.extend(derivation.named())
+        self.ends.append(len(self.indices))
+        self.numbers += len(derivation.entries) + (0 if row is objective else len(row))
+
+    def __getitem__(self, at: int) -> array[int]:
+        """What a derivation names, by its place among the derivations."""
+        return self.indices[self.ends[at]:self.ends[at + 1]]
+
+
+class Items(AbstractSequence, Generic[Part]):  # type: ignore[type-arg]
+    """Parts of a text that are read as they are asked for, by where each begins."""
+
+    def __init__(self, text: bytes, problem: _Front, starts: array[int], end: int) -> None:
+        self.text, self.problem, self.starts, self.end = text, problem, starts, end
+
+    def part(self, start: int) -> Part:
+        """The part that begins there."""
+        raise NotImplementedError
+
+    def lines(self) -> Iterator[str]:
+        """Each as the text spells it, with one space between tokens."""
+        text = self.text
+        for start, end in zip(self.starts, [*self.starts[1:], self.end]):
+            yield decoded(b' '.join(text[start:end].split()))
+
+    def __len__(self) -> int:
+        return len(self.starts)
+
+    @overload
+    def __getitem__(self, at: int) -> Part: ...
+
+    @overload
+    def __getitem__(self, at: slice) -> List[Part]: ...
+
+    def __getitem__(self, at: Union[int, slice]) -> Union[Part, List[Part]]:
+        return [self.part(it) for it in self.starts[at]] if isinstance(at, slice) else self.part(self.starts[at])
+
+    def __iter__(self) -> Iterator[Part]:
+        return map(self.part, self.starts)
+
+    def __eq__(self, other: object) -> bool:
+        return isinstance(other, AbstractSequence) and len(self) == len(other) and all(map(_same, self, other))
+
+    def __repr__(self) -> str:
+        return f'<{len(self)} {type(self).__name__.lower()}>'
+
+
+def _same(one: object, other: object) -> bool:
+    return one == other
+
+
+class Constraints(Items[Constraint]):
+    """The constraints of a problem."""
+
+    def part(self, start: int) -> Constraint:
+        match = _CONSTRAINT.match(self.text, start)
+        found = match and _constraint(match, self.problem)
+        return found or _Reader(self.text, start).constraint(self.problem)
+
+
+class Solutions(Items[Solution]):
+    """The listed solutions."""
+
+    def part(self, start: int) -> Solution:
+        match = _SOLUTION.match(self.text, start)
+        values = _row(match[2], match[3]) if match else None
+        if match is None or values is None:
+            return _Reader(self.text, start).solution(self.problem)
+        return Solution(decoded(match[1]), values)
+
+
+class Derivations(Items[Derivation]):
+    """The derivations, and what each names."""
+
+    def __init__(self, text: bytes, problem: _Front, starts: array[int], end: int, references: References) -> None:
+        super().__init__(text, problem, starts, end)
+        self.references = references
+
+    def lines(self) -> Iterator[str]:
+        """Each as the text spells it, without its last reference."""
+        return (line.rpartition(' ')[0] for line in super().lines())
+
+    def part(self, start: int) -> Derivation:
+        match = _DERIVATION.match(self.text, start)
+        found = match and _derivation(match, self.problem)
+        return found or _Reader(self.text, start).derivation(self.problem)
+
+    def constraint(self, at: int) -> Constraint:
+        """What a derivation states. Its reason isn't read."""
+        match = _CONSTRAINT.match(self.text, self.starts[at])
+        found = match and _constraint(match, self.problem)
+        return found or _Reader(self.text, self.starts[at]).constraint(self.problem)
+
+    def length(self, at: int) -> int:
+        """How many coefficients are written in what a derivation states; those of the objective for `OBJ`."""
+        match = _LENGTH.match(self.text, self.starts[at])
+        assert match
+        return len(self.problem.objective) if match[1] == b'OBJ' else int(match[1])
+
+
+@dataclass(frozen=True)
+class _Front:
+    """What constraints are read by: how many variables there are, and the objective's row."""
+    variables: int
+    objective: Row
+
+
+# ---- what an expression matched
+
+@functools.lru_cache(maxsize=MOST_KNOWN)
+def _number(token: bytes) -> Number:
+    """The value of a number that an expression matched."""
+    above, slash, below = token.partition(b'/')
+    if not slash:
+        return int(above)
+    value = Fraction(int(above), int(below))
+    return value if value.denominator != 1 else value.numerator
+
+
+def _row(count: bytes, pairs: bytes) -> Optional[Row]:
+    """The row of so many pairs; None if others were matched, as those of tokens behind them."""
+    tokens = pairs.split()
+    if len(tokens) != 2 * int(count):
+        return None
+    if len(tokens) == 2:
+        value = _number(tokens[1])
+        return {int(tokens[0]): value} if value else {}
+    row = dict(zip(map(int, tokens[::2]), map(_number, tokens[1::2])))
+    return row if all(row.values()) else {index: value for index, value in row.items() if value}
+
+
+def _constraint(match: Match[bytes], front: _Front) -> Optional[Constraint]:
+    name, sense, bound, count, pairs = match.group(1, 2, 3, 4, 5)
+    row = front.objective if count is None else _row(count, pairs)
+    return None if row is None else Constraint(decoded(name), SENSES[sense], _number(bound), row)
+
+
+def _derivation(match: Match[bytes], front: _Front) -> Optional[Derivation]:
+    stated, (alone, word, pairs, four, last) = _constraint(match, front), match.group(6, 7, 9, 10, 11)
+    if stated is None:
+        return None
+    entries: Tuple[Tuple[int, Number], ...] = ()
+    if word:
+        tokens = pairs.split()
+        entries = tuple(zip(map(int, tokens[::2]), map(_number, tokens[1::2])))
+    return Derivation(stated, REASONS[alone or word or b'uns'], entries, tuple(map(int, four.split())) if four else (),
+                      None if last == b'-1' else int(last))
+
+
+def _has_row(match: Match[bytes], at: int, variables: int) -> bool:
+    """Whether the pairs from a group on are a row: as many as their count says, of variables that there are, each once."""
+    count = match[at]
+    if count is None or count == b'0':
+        return count is None or not match[at + 1]
+    tokens = match[at + 1].split()
+    if len(tokens) == 2 == 2 * int(count):
+        return int(tokens[0]) < variables
+    indices = set(map(int, tokens[::2]))
+    return len(tokens) == 2 * int(count) == 2 * len(indices) and max(indices, default=-1) < variables
 
 
 class _Fault(Exception):
@@ -99,15 +330,15 @@ class _Fault(Exception):
 
 
 class _Reader:
-    """The tokens of a text, one after the other. Short tokens that spell the same number give one object."""
+    """The tokens of a text from a place on, one after the other. Short tokens that spell the same number give one object."""
 
-    def __init__(self, text: bytes):
-        begin = _COMMENTS.match(text)
+    def __init__(self, text: bytes, start: int = 0) -> None:
         self.text = text
         # the tokens of a piece of the text: all of them and those that are to come, where it begins, and where it ends
         self.piece: List[bytes] = []
         self.tokens = iter(self.piece)
-        self.start = self.end = begin.end() if begin else 0
+        self.start = self.end = start
+        self.size = LEAST_PIECE
         self.known: Dict[bytes, Number] = {}
         self.indices: Dict[bytes, int] = {}
 
@@ -121,7 +352,8 @@ class _Reader:
         while not self.piece:
             if self.end == len(self.text):
                 raise _Fault(Cause.TRUNCATED, self.end)
-            white = _WHITE.search(self.text, self.end + PIECE)
+            white = _WHITE.search(self.text, self.end + self.size)
+            self.size = min(2 * self.size, MOST_PIECE)
             self.start, self.end = self.end, white.start() if white else len(self.text)
             self.piece = self.text[self.start:self.end].split()
         if max(map(len, self.piece)) > LONGEST_TOKEN:
@@ -140,6 +372,15 @@ class _Reader:
     def offset(self, at: int) -> int:
         """Where a token of the piece begins, by its number."""
         return next(islice(_TOKEN.finditer(self.text, self.start), at, None)).start()
+
+    def place(self) -> int:
+        """Where the token that was read last ends."""
+        return self.offset(self.last()) + len(self.piece[self.last()]) if self.piece else self.end
+
+    def goes_on(self, start: int) -> None:
+        """Goes on from another place."""
+        self.piece, self.size = [], LEAST_PIECE
+        self.tokens, self.start, self.end = iter(self.piece), start, start
 
     def last(self) -> int:
         """The number in the piece of the token that was read last."""
@@ -221,13 +462,13 @@ class _Reader:
             row[index] = self.number()
         return row if all(row.values()) else {index: value for index, value in row.items() if value}
 
-    def constraint(self, variables: int, objective: Row) -> Constraint:
+    def constraint(self, front: _Front) -> Constraint:
         name = self.next()
         sense = self.word(SENSES, Cause.BAD_SENSE)
         bound, token = self.number(), self.next()
         if token == b'OBJ':
-            return Constraint(name, sense, bound, objective)
-        return Constraint(name, sense, bound, self.vector(variables, self.count_of(token)))
+            return Constraint(decoded(name), sense, bound, front.objective)
+        return Constraint(decoded(name), sense, bound, self.vector(front.variables, self.count_of(token)))
 
     def bound(self, infinite: bytes) -> Optional[Fraction]:
         token = self.next()
@@ -237,27 +478,11 @@ class _Reader:
         word = self.word({b'infeas': 'infeas', b'range': 'range'}, Cause.BAD_CLAIM)
         return Claim(True) if word == 'infeas' else Claim(False, self.bound(b'-inf'), self.bound(b'inf'))
 
-    def problem(self) -> Problem:
-        self.keyword(b'VER')
-        self.word({b'1.0': ''}, Cause.UNSUPPORTED_VERSION)
-        self.keyword(b'VAR')
-        names = [self.next() for _ in range(self.count())]
-        self.keyword(b'INT')
-        integers = {self.whole(self.next(), Cause.BAD_INDEX, Cause.BAD_INDEX, len(names) - 1) for _ in range(self.count())}
-        self.keyword(b'OBJ')
-        direction = self.word({b'min': 'min', b'max': 'max'}, Cause.BAD_OBJECTIVE_SENSE)
-        objective = self.vector(len(names), self.count())
-        self.keyword(b'CON')
-        count, bounds = self.count(), self.count()
-        constraints = [self.constraint(len(names), objective) for _ in range(count)]
-        self.keyword(b'RTP')
-        return Problem(names, integers, direction == 'max', objective, bounds, constraints, self.claim())
+    def solution(self, front: _Front) -> Solution:
+        return Solution(decoded(self.next()), self.vector(front.variables, self.count()))
 
-    def solution(self, variables: int) -> Solution:
-        return Solution(self.next(), self.vector(variables, self.count()))
-
-    def derivation(self, variables: int, objective: Row) -> Derivation:
-        constraint = self.constraint(variables, objective)
+    def derivation(self, front: _Front) -> Derivation:
+        constraint = self.constraint(front)
         self.word({b'{': ''}, Cause.BAD_BRACE)
         reason = self.word(REASONS, Cause.BAD_REASON)
         entries: List[Tuple[int, Number]] = []
@@ -273,18 +498,109 @@ class _Reader:
         last = None if token == b'-1' else self.whole(token, Cause.BAD_REFERENCE, Cause.BAD_REFERENCE)
         return Derivation(constraint, reason, tuple(entries), tuple(indices), last)
 
+
+class _Text:
+    """A certificate's text that is read to its end once."""
+
+    def __init__(self, text: bytes, progress: Optional[Progress]) -> None:
+        begin = _COMMENTS.match(text)
+        self.text, self.progress = text, progress
+        self.reader = _Reader(text, begin.end() if begin else 0)
+
+    def alive(self, at: int, place: int) -> None:
+        """Says how far it is."""
+        if self.progress and at % STEP == 0:
+            self.progress(place)
+
+    def problem(self) -> Tuple[Problem, _Front]:
+        reader = self.reader
+        reader.keyword(b'VER')
+        reader.word({b'1.0': ''}, Cause.UNSUPPORTED_VERSION)
+        reader.keyword(b'VAR')
+        names = [decoded(reader.next()) for _ in range(reader.count())]
+        reader.keyword(b'INT')
+        integers = {reader.whole(reader.next(), Cause.BAD_INDEX, Cause.BAD_INDEX, len(names) - 1) for _ in range(reader.count())}
+        reader.keyword(b'OBJ')
+        direction = reader.word({b'min': 'min', b'max': 'max'}, Cause.BAD_OBJECTIVE_SENSE)
+        front = _Front(len(names), reader.vector(len(names), reader.count()))
+        reader.keyword(b'CON')
+        count, bounds = reader.count(), reader.count()
+        constraints = Constraints(self.text, front, *self.starts(count, _CONSTRAINT, 4, front, reader.constraint))
+        reader.keyword(b'RTP')
+        return Problem(names, integers, direction == 'max', front.objective, bounds, constraints, reader.claim()), front
+
+    def starts(self, count: int, pattern: re.Pattern[bytes], at: int, front: _Front,
+               read: Callable[[_Front], object]) -> Tuple[array[int], int]:
+        """Where each of so many constraints or solutions begins, and where the last one ends. What the expression doesn't match is read by tokens."""
+        found, place, text = array('Q'), self.reader.place(), self.text
+        for number in range(count):
+            self.alive(number, place)
+            found.append(place)
+            match = pattern.match(text, place)
+            if match and _has_row(match, at, front.variables):
+                place = match.end()
+            else:
+                self.reader.goes_on(place)
+                read(front)
+                place = self.reader.place()
+        self.reader.goes_on(place)
+        return found, place
+
+    def derivations(self, count: int, front: _Front) -> Derivations:
+        """The same for derivations, and what each names."""
+        starts, found = array('Q'), References()
+        place, text, variables = self.reader.place(), self.text, front.variables
+        reasons, indices, ends = found.reasons.append, found.indices, found.ends.append
+        for number in range(count):
+            self.alive(number, place)
+            starts.append(place)
+            match = _DERIVATION.match(text, place)
+            if match and _has_row(match, 4, variables):
+                row, alone, word, entries, pairs, four = match.group(4, 6, 7, 8, 9, 10)
+                if row:
+                    found.numbers += int(row)
+                if word:
+                    tokens = pairs.split()
+                    if len(tokens) == 2 * int(entries):
+                        found.numbers += int(entries)
+                        reasons(REASONS[word])
+                        if any(map(_is_zero, tokens[1::2])):
+                            indices.extend([int(it) for it, factor in zip(tokens[::2], tokens[1::2]) if not _is_zero(factor)])
+                        else:
+                            indices.extend(map(int, tokens[::2]))
+                        ends(len(indices))
+                        place = match.end()
+                        continue
+                else:
+                    reasons(REASONS[alone] if alone else 'uns')
+                    if four:
+                        indices.extend(map(int, four.split()))
+                    ends(len(indices))
+                    place = match.end()
+                    continue
+            self.reader.goes_on(place)
+            derivation = self.reader.derivation(front)
+            found.add(derivation, front.objective)
+            place = self.reader.place()
+        self.reader.goes_on(place)
+        return Derivations(text, front, starts, place, found)
+
     def certificate(self) -> Certificate:
-        problem = self.problem()
-        variables = len(problem.names)
-        self.keyword(b'SOL')
-        solutions = [self.solution(variables) for _ in range(self.count())]
-        self.keyword(b'DER')
-        count = self.count(LARGEST_COUNT - len(problem.constraints))
-        derivations = [self.derivation(variables, problem.objective) for _ in range(count)]
-        behind = _TOKEN.search(self.text, self.offset(self.last()) + len(self.piece[self.last()]))
-        if behind:
-            raise _Fault(Cause.TRAILING_TEXT, behind.start())
+        reader, (problem, front) = self.reader, self.problem()
+        reader.keyword(b'SOL')
+        solutions = Solutions(self.text, front, *self.starts(reader.count(), _SOLUTION, 2, front, reader.solution))
+        reader.keyword(b'DER')
+        derivations = self.derivations(reader.count(LARGEST_COUNT - len(problem.constraints)), front)
+        rest = _TOKEN.search(self.text, reader.place())
+        if rest:
+            raise _Fault(Cause.TRAILING_TEXT, rest.start())
         return Certificate(problem, solutions, derivations)
+
+
+@functools.lru_cache(maxsize=MOST_KNOWN)
+def _is_zero(factor: bytes) -> bool:
+    """Whether a number that an expression matched is 0."""
+    return _number(factor) == 0
 
 
 def as_bytes(text: Text) -> bytes:
@@ -296,18 +612,25 @@ def as_bytes(text: Text) -> bytes:
     raise TypeError(f'a certificate is bytes, not {type(text).__name__}: open its file in the mode rb')
 
 
-def _read(text: Text, part: Callable[[_Reader], Part]) -> Union[Part, Refusal]:
+def read(text: Text, progress: Optional[Progress] = None) -> Union[Certificate, Refused]:
+    """The certificate that a text spells, or the refusal of a text that spells none, which is false in a condition.
+
+    Now and then `progress` is told how many bytes were read.
+    """
     try:
-        return part(_Reader(as_bytes(text)))
+        return _Text(as_bytes(text), progress).certificate()
     except _Fault as fault:
-        return fault.refusal
+        return Refused(fault.refusal)
 
 
-def read(text: Text) -> Union[Certificate, Refusal]:
-    """The certificate that a text spells, or the refusal of a text that spells none."""
-    return _read(text, _Reader.certificate)
+def read_file(path: Union[str, os.PathLike[str]]) -> Union[Certificate, Refused]:
+    """The same of a file, which is unpacked if it is a .gz, .xz, .bz2 or .zst. Raises OSError."""
+    return read(bytes_of_file(os.path.join(os.curdir, path)))
 
 
-def read_problem(text: Text) -> Union[Problem, Refusal]:
+def read_problem(text: Text) -> Union[Problem, Refused]:
     """The problem at the front of a certificate's text, or the refusal of its first fault. The rest isn't read."""
-    return _read(text, _Reader.problem)
+    try:
+        return _Text(as_bytes(text), None).problem()[0]
+    except _Fault as fault:
+        return Refused(fault.refusal)

@@ -32,7 +32,7 @@ from .certificate import Number, Problem, Row, read_problem
 from .files import FAILED, REFUSED, VERIFIED, Parser, printable, read_file, run
 from .mps import Cause, MpsFile, Refused, Sides, decimal, read_mps
 from .proof import whole_row
-from .verdict import Claim, Refusal
+from .verdict import Claim
 
 LEAST_INFINITY = 10**10
 Key = Tuple[Tuple[int, ...], Tuple[Number, ...]]
@@ -114,18 +114,18 @@ class Comparison:
         self.index = self.indices()
         self.variables = [self.index[name] for name in file.columns]
         self.rows = Rows(problem)
-        self.objective = self.row(file.objective or b'')
+        self.objective = self.row(file.objective)
 
-    def row(self, name: bytes) -> Row:
+    def row(self, name: str) -> Row:
         """The coefficients of a row of the file, by variable. They are taken out of the file, since they need much memory."""
         return {self.variables[at]: value for at, value in self.file.entries.pop(name).items() if value}
 
     def name(self, at: int) -> str:
         return printable(self.problem.names[at])
 
-    def indices(self) -> Dict[bytes, int]:
+    def indices(self) -> Dict[str, int]:
         """The variable of each name. Each is a column, and each column is one."""
-        found: Dict[bytes, int] = {}
+        found: Dict[str, int] = {}
         for at, name in enumerate(self.problem.names):
             if name in found:
                 raise Refused(Cause.NAMES_REPEAT, f'VAR {at}', f'cause {Cause.NAMES_REPEAT.word}',
@@ -246,8 +246,8 @@ def compared(model: bytes, text: bytes, integers: Optional[str] = None, maximize
         problem = read_problem(text)
         del text
         alive('the certificate is read')
-        if isinstance(problem, Refusal):
-            return REFUSED, [str(problem), f'cause {problem.cause.word}']
+        if not isinstance(problem, Problem):
+            return REFUSED, [str(problem), f'cause {problem.refusal.cause.word}']
         claim = Comparison(file, problem).claim()
     except Refused as fault:
         return REFUSED, [str(fault), *fault.shown]

@@ -5,12 +5,14 @@ import argparse
 import io
 import os
 import sys
+import time
 from pathlib import Path
 from typing import Callable, Iterable, NoReturn, Optional, Union
 
 from .packed import SUFFIXES, NotWhole, unpacked
 
 VERIFIED, REFUSED, MISUSED, FAILED = range(4)
+LONG, OFTEN = 2, 0.5  # seconds until a terminal shows how far a command is, and until it changes
 SHORT = {'\\': '\\\\', '\t': '\\t', '\n': '\\n', '\r': '\\r'}
 
 
@@ -95,6 +97,29 @@ def number(word: str) -> int:
     if not (word.isascii() and word.isdigit() and len(word) < 20 and 1 <= int(word) <= 1_000_000):
         raise argparse.ArgumentTypeError(f'{word} is no number from 1 to 1000000')
     return int(word)
+
+
+class Alive:
+    """A line on a terminal that shows how far a command is, once it takes longer than two seconds."""
+
+    def __init__(self) -> None:
+        self.start = self.shown = time.monotonic()
+        self.shown += LONG
+        self.is_terminal, self.is_shown = sys.stderr.isatty(), False
+
+    def part(self, words: str, whole: int) -> Callable[[int], None]:
+        """What is called with how much of a part is done."""
+        def progress(done: int) -> None:
+            now = time.monotonic()
+            if self.is_terminal and now > self.shown:
+                print(f'\r{words} {100 * done // max(whole, 1)} %, {now - self.start:.0f} s ', end='', file=sys.stderr, flush=True)
+                self.shown, self.is_shown = now + OFTEN, True
+        return progress
+
+    def end(self) -> None:
+        """Takes the line away."""
+        if self.is_shown:
+            print('\r\x1b[K', end='', file=sys.stderr, flush=True)
 
 
 def run(command: Callable[[], int]) -> int:

@@ -99,8 +99,8 @@ def _call(name: str, options: Tuple[Union[int, bytes], ...], text: Text, *behind
             return status == 0, buffer.raw[:length.value]
 
 
-def _refusal(answer: Union[_Answer, _Figures]) -> Refusal:
-    return Refusal(Cause(answer.cause), list(Place)[answer.place - 1], answer.number)
+def _refused(answer: Union[_Answer, _Figures]) -> Refused:
+    return Refused(Refusal(Cause(answer.cause), list(Place)[answer.place - 1], answer.number))
 
 
 def _profile(profile: int) -> int:
@@ -144,25 +144,27 @@ def explain_long(text: Text, name: str = 'the text', profile: int = 1) -> bytes:
     return _call('vipr_explain_long', (_profile(profile), shown, len(shown)), text)[1]
 
 
-def show(text: Text, compact: bool = False) -> Union[bytes, Refusal]:
-    """The one canonical text of a certificate, or the refusal of a text that spells none. The proof is not checked.
+def show(text: Text, compact: bool = False) -> Union[bytes, Refused]:
+    """The one canonical text of a certificate, or the refusal of a text that spells none, which is false in a condition. The
+    proof is not checked.
 
     Raises OutOfMemory and LibraryMissing.
     """
     answer = _Answer()
     good, shown = _call('vipr_show', (compact,), text, answer)
-    return shown if good else _refusal(answer)
+    return shown if good else _refused(answer)
 
 
-def tighten(text: Text, profile: int = 1, compact: bool = False) -> Union[Tightened, Refusal]:
-    """A certificate without what its proof doesn't need, or the refusal of a text that is no proof.
+def tighten(text: Text, profile: int = 1, compact: bool = False) -> Union[Tightened, Refused]:
+    """A certificate without what its proof doesn't need, or the refusal of a text that is no proof, which is false in a
+    condition.
 
     Raises what `check` raises.
     """
     figures = _Figures()
     good, shown = _call('vipr_tighten', (_profile(profile), compact), text, figures)
     if not good:
-        return _refusal(figures)
+        return _refused(figures)
     return Tightened(shown, figures.kept, figures.removed, figures.peak_before, figures.peak_after)
 
 

@@ -13,12 +13,13 @@ import io
 import re
 from dataclasses import dataclass, field
 from fractions import Fraction
-from typing import Callable, Dict, Iterator, List, Optional, Set, Tuple
+from typing import Callable, Dict, Iterator, List, Optional, Set, Tuple, TypeVar, Union
 
 from .certificate import LARGEST, Number, Row
-from .files import printable
+from .files import decoded, printable
 
 Sides = Tuple[Optional[Number], Optional[Number]]
+Part = TypeVar('Part')
 SECTIONS = [b'NAME', b'OBJSENSE', b'ROWS', b'COLUMNS', b'RHS', b'RANGES', b'BOUNDS', b'ENDATA']
 REQUIRED = {b'NAME', b'ROWS', b'COLUMNS', b'ENDATA'}
 WHITE = b' \t\r\v\f'
@@ -100,23 +101,23 @@ class Column:
 
 @dataclass
 class MpsFile:
-    """What a file says. `objective` is the name of its first row of type N, and `entries` has for each row the coefficients that
+    """What a file says; names are str, as those of a certificate. `objective` is the name of its first row of type N, and `entries` has for each row the coefficients that
     are written, by the number of the column."""
     maximizes: bool = False
     has_direction: bool = False
-    objective: Optional[bytes] = None
-    rows: Dict[bytes, Tuple[str, int]] = field(default_factory=dict)
-    entries: Dict[bytes, Row] = field(default_factory=dict)
-    columns: Dict[bytes, Column] = field(default_factory=dict)
-    right_sides: Dict[bytes, Tuple[Number, int]] = field(default_factory=dict)
-    ranges: Dict[bytes, Tuple[Number, int]] = field(default_factory=dict)
+    objective: str = ''
+    rows: Dict[str, Tuple[str, int]] = field(default_factory=dict)
+    entries: Dict[str, Row] = field(default_factory=dict)
+    columns: Dict[str, Column] = field(default_factory=dict)
+    right_sides: Dict[str, Tuple[Number, int]] = field(default_factory=dict)
+    ranges: Dict[str, Tuple[Number, int]] = field(default_factory=dict)
 
-    def right_side(self, name: bytes) -> Number:
+    def right_side(self, name: str) -> Number:
         """The number that RHS gives a row, 0 without one."""
         found = self.right_sides.get(name)
         return found[0] if found else 0
 
-    def sides(self, name: bytes) -> Sides:
+    def sides(self, name: str) -> Sides:
         """The sides of a row."""
         kind, right = self.rows[name][0], self.right_side(name)
         if kind == 'N':
@@ -130,7 +131,7 @@ class MpsFile:
 
     def constant(self) -> Number:
         """The number that RHS gives the objective's row. Tools add it, subtract it or ignore it; the row has none."""
-        return self.right_side(self.objective or b'')
+        return self.right_side(self.objective)
 
 
 def magnitude(value: Number) -> Number:
@@ -164,7 +165,13 @@ class _Reader:
     """A file that is being read, line by line."""
 
     def __init__(self, infinity: Number) -> None:
-        self.file = MpsFile()
+        self.maximizes: Optional[bool] = None
+        self.objective: Optional[bytes] = None
+        self.rows: Dict[bytes, Tuple[str, int]] = {}
+        self.entries: Dict[bytes, Row] = {}
+        self.columns: Dict[bytes, Column] = {}
+        self.right_sides: Dict[bytes, Tuple[Number, int]] = {}
+        self.ranges: Dict[bytes, Tuple[Number, int]] = {}
         self.infinity = infinity
         self.unclear: Number = infinity if infinity else UNCLEAR
         self.section = b''
@@ -173,10 +180,10 @@ class _Reader:
         self.is_marked = False
         self.column: Optional[bytes] = None
         self.sets: Dict[bytes, Optional[bytes]] = {}
-        self.read: Dict[bytes, Callable[[List[bytes]], None]] = {
-            b'ROWS': self.row, b'COLUMNS': self.entry, b'RHS': self.right_side, b'RANGES': self.range, b'BOUNDS': self.bound}
+        self.readers: Dict[bytes, Callable[[List[bytes]], None]] = {
+            b'ROWS': self.row, b'COLUMNS': self.entry, b'RHS': self.right_side, b'RANGES': self.range_, b'BOUNDS': self.bound}
 
-    def fault(self, cause: Cause, *tokens: bytes) -> Refused:
+    def fault(self, cause: Cause, *tokens: Union[bytes, str]) -> Refused:
         return Refused(cause, f'line {self.line}', f'cause {cause.word}', *(f'field {printable(it)}' for it in tokens))
 
     def lines(self, text: bytes) -> None:
@@ -192,13 +199,13 @@ class _Reader:
             if self.section in (b'', b'NAME'):
                 raise self.fault(Cause.SECTION_ORDER)
             if self.section == b'OBJSENSE':
-                if self.file.has_direction or len(fields) != 1:
+                if self.maximizes is not None or len(fields) != 1:
                     raise self.fault(Cause.FIELD_COUNT)
                 self.direction(fields[0])
                 continue
             if b'$' in line:
                 fields = fields[:next((at for at, word in enumerate(fields) if at and word[:1] == b'$'), None)]
-            self.read[self.section](fields)
+            self.readers[self.section](fields)
         if self.section != b'ENDATA':
             self.line += 1
             raise self.fault(Cause.PROBLEM_ENDS)
@@ -211,9 +218,9 @@ class _Reader:
         skipped = SECTIONS[:SECTIONS.index(word)]
         if any(it not in skipped for it in self.seen) or any(it in REQUIRED and it not in self.seen for it in skipped):
             raise self.fault(Cause.SECTION_ORDER, word)
-        if self.section == b'OBJSENSE' and not self.file.has_direction:
+        if self.section == b'OBJSENSE' and self.maximizes is None:
             raise self.fault(Cause.BAD_DIRECTION)
-        if self.section == b'ROWS' and self.file.objective is None:
+        if self.section == b'ROWS' and self.objective is None:
             raise self.fault(Cause.NO_OBJECTIVE)
         if word == b'OBJSENSE' and len(fields) == 2:
             self.direction(fields[1])
@@ -225,7 +232,7 @@ class _Reader:
     def direction(self, word: bytes) -> None:
         if word not in MAXIMIZE + MINIMIZE:
             raise self.fault(Cause.BAD_DIRECTION, word)
-        self.file.maximizes, self.file.has_direction = word in MAXIMIZE, True
+        self.maximizes = word in MAXIMIZE
 
     def row(self, fields: List[bytes]) -> None:
         if len(fields) != 2:
@@ -233,11 +240,11 @@ class _Reader:
         kind, name = fields
         if kind not in (b'N', b'L', b'G', b'E'):
             raise self.fault(Cause.BAD_ROW_TYPE, kind)
-        if name in self.file.rows:
+        if name in self.rows:
             raise self.fault(Cause.REPEATED_ROW, name)
-        self.file.rows[name], self.file.entries[name] = (kind.decode(), self.line), {}
-        if kind == b'N' and self.file.objective is None:
-            self.file.objective = name
+        self.rows[name], self.entries[name] = (kind.decode(), self.line), {}
+        if kind == b'N' and self.objective is None:
+            self.objective = name
 
     def entry(self, fields: List[bytes]) -> None:
         """A line of COLUMNS: a marker, or a column with one pair or two. The lines of a column follow each other."""
@@ -252,13 +259,13 @@ class _Reader:
         if name[:1] == b'$':
             raise self.fault(Cause.UNCLEAR_NAME, name)
         if name != self.column:
-            if name in self.file.columns:
+            if name in self.columns:
                 raise self.fault(Cause.REPEATED_COLUMN, name)
-            self.file.columns[name] = Column(len(self.file.columns), self.line, self.is_marked, None, None)
+            self.columns[name] = Column(len(self.columns), self.line, self.is_marked, None, None)
             self.column = name
-        column = self.file.columns[name].number
+        column = self.columns[name].number
         for at in range(1, len(fields), 2):
-            row = self.file.entries.get(fields[at])
+            row = self.entries.get(fields[at])
             if row is None:
                 raise self.fault(Cause.UNKNOWN_ROW, fields[at])
             value = self.number(fields[at + 1])
@@ -269,9 +276,9 @@ class _Reader:
     def pairs(self, fields: List[bytes], before: Dict[bytes, Tuple[Number, int]]) -> Iterator[Tuple[bytes, Number]]:
         """Pairs of a row and a number; no row comes twice."""
         for row, token in zip(fields[::2], fields[1::2]):
-            if row not in self.file.rows:
+            if row not in self.rows:
                 raise self.fault(Cause.UNKNOWN_ROW, row)
-            if self.section == b'RANGES' and self.file.rows[row][0] == 'N':
+            if self.section == b'RANGES' and self.rows[row][0] == 'N':
                 raise self.fault(Cause.RANGE_OF_FREE_ROW, row)
             value = self.number(token)
             if magnitude(value) >= self.unclear:
@@ -292,10 +299,10 @@ class _Reader:
         return value
 
     def right_side(self, fields: List[bytes]) -> None:
-        self.sized(fields, self.file.right_sides)
+        self.sized(fields, self.right_sides)
 
-    def range(self, fields: List[bytes]) -> None:
-        self.sized(fields, self.file.ranges)
+    def range_(self, fields: List[bytes]) -> None:
+        self.sized(fields, self.ranges)
 
     def sized(self, fields: List[bytes], before: Dict[bytes, Tuple[Number, int]]) -> None:
         """A line of RHS or RANGES: a set's name or none, and one pair or two."""
@@ -313,7 +320,7 @@ class _Reader:
 
     def bound(self, fields: List[bytes]) -> None:
         """A line of BOUNDS: it sets sides, and each side of a column is set at most once."""
-        kind, file = fields[0], self.file
+        kind = fields[0]
         if kind in (b'UP', b'LO', b'FX', b'UI', b'LI'):
             if len(fields) not in (3, 4):
                 raise self.fault(Cause.FIELD_COUNT)
@@ -326,12 +333,12 @@ class _Reader:
             *front, name = fields[1:]
         else:
             raise self.fault(Cause.BAD_BOUND_TYPE, kind)
-        if front and front[0] in file.columns:
+        if front and front[0] in self.columns:
             raise self.fault(Cause.UNCLEAR_SET, front[0])
         self.same_set(front[0] if front else None)
-        if name not in file.columns:
+        if name not in self.columns:
             raise self.fault(Cause.UNKNOWN_COLUMN, name)
-        column = file.columns[name]
+        column = self.columns[name]
         lower = upper = None
         if kind in (b'UP', b'UI'):
             upper = self.side(token, True), self.line
@@ -368,10 +375,17 @@ class _Reader:
             return None
         return value
 
-    def whole(self, integers: Optional[str]) -> None:
+    def made(self) -> MpsFile:
+        """The file, with names that are str."""
+        def named(values: Dict[bytes, Part]) -> Dict[str, Part]:
+            return {decoded(name): value for name, value in values.items()}
+        return MpsFile(bool(self.maximizes), self.maximizes is not None, decoded(self.objective or b''), named(self.rows),
+                       named(self.entries), named(self.columns), named(self.right_sides), named(self.ranges))
+
+    def whole(self, file: MpsFile, integers: Optional[str]) -> None:
         """What only the whole file shows: an upper bound below 0 alone, an integer column without an upper bound, and a range
         past the limit."""
-        for name, column in self.file.columns.items():
+        for name, column in file.columns.items():
             upper = column.upper
             if column.lower is None and upper is not None and upper[0] is not None and upper[0] < 0:
                 self.line = upper[1]
@@ -381,8 +395,8 @@ class _Reader:
                     self.line = column.line
                     raise self.fault(Cause.UNCLEAR_INTEGER, name)
                 column.upper = (1 if integers == 'one' else None), column.line
-        for name, (_, line) in self.file.ranges.items():
-            if any(it is not None and max(abs(it.numerator), it.denominator) > LARGEST for it in self.file.sides(name)):
+        for name, (_, line) in file.ranges.items():
+            if any(it is not None and max(abs(it.numerator), it.denominator) > LARGEST for it in file.sides(name)):
                 self.line = line
                 raise self.fault(Cause.RANGE_TOO_LARGE, name)
 
@@ -396,10 +410,11 @@ def read_mps(text: bytes, integers: Optional[str] = None, maximize: bool = False
     """
     reader = _Reader(infinity)
     reader.lines(text)
-    reader.whole(integers)
+    file = reader.made()
+    reader.whole(file, integers)
     if maximize:
-        if reader.file.has_direction:
+        if file.has_direction:
             reader.line = 1
             raise reader.fault(Cause.BAD_DIRECTION)
-        reader.file.maximizes = True
-    return reader.file
+        file.maximizes = True
+    return file

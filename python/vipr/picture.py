@@ -17,16 +17,17 @@ from __future__ import annotations
 import argparse
 import heapq
 import sys
+from array import array
+from collections import Counter
 from dataclasses import dataclass, field
 from pathlib import Path
-from typing import Dict, List, Tuple
+from typing import Dict, Iterable, List, Tuple
 from xml.sax.saxutils import escape
 
 from . import proof as structure
 from .algebra import SIGNS, constraint_text, row_text, term
 from .certificate import Certificate, Constraint, read
-from .files import REFUSED, VERIFIED, Parser, number, printable, read_file, run
-from .verdict import Refusal
+from .files import REFUSED, VERIFIED, Alive, Parser, number, printable, read_file, run
 
 MOST_BOXES, MOST_SPLITS = 300, 40
 CHARACTER, LINE, PADDING = 7.3, 16, 9   # the width of a character, the height of a line, the edge of a box
@@ -140,25 +141,22 @@ def label(text: str, below: Box) -> str:
 class Picture:
     """A certificate with what its picture shows."""
 
-    def __init__(self, proof: Certificate):
+    def __init__(self, proof: Certificate, found: structure.Outline):
         self.proof, self.names, self.first = proof, proof.problem.names, len(proof.problem.constraints)
-        self.sets = structure.assumptions(proof)
-        self.goal = structure.goal(proof, self.sets)
-        self.needed = structure.needed(proof, self.goal)
+        self.goal, self.needed = found.goal, found.needed
         self.derived = range(self.first, self.first + len(proof.derivations))
+        self.reasons = proof.references.reasons
+        self.sets: Dict[int, structure.Found] = {}
 
-    def parents(self, among: List[int]) -> Tuple[List[int], Dict[int, List[int]]]:
-        """A tree of these derivations, given in ascending order: each is below that one of those that name it which is
-        farthest down; what the goal needs is below the goal. Gives its roots, the goal first, and the children of each."""
-        layers, parent = {it: 0 for it in among}, {}
-        for it in reversed(among):
-            for below in structure.named(self.proof, it):
-                if below in layers and layers[it] >= layers[below] and (it in self.needed) >= (below in self.needed):
-                    layers[below], parent[below] = layers[it] + 1, it
-        children: Dict[int, List[int]] = {it: [below for below in structure.named(self.proof, it) if parent.get(below) == it]
-                                          for it in among}
-        roots = sorted((it for it in among if it not in parent), key=lambda it: (it != self.goal, -it))
-        return roots, children
+    def tree(self, is_all: bool) -> structure.Tree:
+        """The tree of all derivations, or of those that the goal needs, if there is one."""
+        among = bytearray([1]) * len(self.derived) if is_all or self.goal is None else self.needed[self.first:]
+        return structure.Tree(self.proof, self.needed, among)
+
+    def find_sets(self, shown: Iterable[int]) -> None:
+        """Finds the assumptions that some derivations rest on."""
+        wanted = set(shown)
+        self.sets = {index: found for index, found in enumerate(structure.assumptions(self.proof), self.first) if index in wanted}
 
     def reason(self, index: int) -> str:
         it = self.proof.derivations[index - self.first]
@@ -188,13 +186,13 @@ class Picture:
         return constraint_text(it, self.names)
 
     def rests_on(self, index: int) -> str:
-        found = self.sets[index - self.first]
-        rest = [f'.. ({found.size - MOST_LISTED:,} more)'] if found.size > MOST_LISTED else []
-        return 'rests on ' + (' '.join([*(f'[{it}]' for it in found.indices()[:MOST_LISTED]), *rest]) or 'nothing')
+        found = self.sets[index]
+        rest = [f'.. ({len(found) - MOST_LISTED:,} more)'] if len(found) > MOST_LISTED else []
+        return 'rests on ' + (' '.join([*(f'[{it}]' for it in structure.indices(found, MOST_LISTED)), *rest]) or 'nothing')
 
     def style(self, index: int) -> str:
-        return ' '.join([self.proof.derivations[index - self.first].reason, *(['goal'] if index == self.goal else []),
-                         *(['spare'] if self.goal is not None and index not in self.needed else [])])
+        return ' '.join([self.reasons[index - self.first], *(['goal'] if index == self.goal else []),
+                         *(['spare'] if self.goal is not None and not self.needed[index] else [])])
 
     def title(self, index: int) -> str:
         """What a pointer on a box shows: all of it, uncut."""
@@ -206,7 +204,7 @@ class Picture:
         it = self.proof.constraint(index)
         head = f'[{index}] {printable(it.name)}'
         rows = [(head, 'head'), (self.short(index, MOST_CHARACTERS), ''), (self.reason(index), 'small')]
-        if self.proof.derivations[index - self.first].reason != 'asm':
+        if self.reasons[index - self.first] != 'asm':
             rows.append((self.rests_on(index), 'small'))
         if index == self.goal:
             rows[0] = (cut(head, MOST_CHARACTERS - 8) + '  (goal)', 'head')
@@ -214,8 +212,9 @@ class Picture:
 
     def whole_tree(self) -> Tuple[Dict[int, Box], List[str]]:
         """A box for each derivation, and the arrows."""
-        boxes = {it: self.box(it) for it in self.derived}
-        place(*self.parents(list(self.derived)), boxes)
+        self.find_sets(self.derived)
+        boxes, tree = {it: self.box(it) for it in self.derived}, self.tree(True)
+        place(tree.roots(self.goal), {it: list(tree.children(it)) for it in self.derived}, boxes)
         arrows = []
         for it in self.derived:
             derivation = self.proof.derivations[it - self.first]
@@ -227,43 +226,40 @@ class Picture:
 
     def splits(self, most: int) -> Tuple[Dict[int, Box], List[str]]:
         """A box for each of the largest splits, and for what is at their branches."""
-        among = sorted(it for it in self.needed if it >= self.first) if self.goal is not None else list(self.derived)
-        roots, children = self.parents(among)
-        sizes: Dict[int, int] = {}
-        counts: Dict[int, int] = {}
-        for it in among:
-            sizes[it] = 1 + sum(sizes[below] for below in children[it])
-            counts[it] = self.is_split(it) + sum(counts[below] for below in children[it])
+        tree, first = self.tree(False), self.first
+        sizes = tree.totals(array('Q', [1]) * len(self.derived))
+        counts = tree.totals(array('Q', (reason == 'uns' for reason in self.reasons)))
         # (a certificate that isn't a tree has many roots: the largest ones)
-        tops = [top for root in sorted(roots, key=lambda it: (it != self.goal, -sizes[it]))[:most]
-                for top in self.nearest(root, children)]
+        roots = sorted(tree.roots(self.goal), key=lambda it: (it != self.goal, -sizes[it - first]))
+        tops = [top for root in roots[:most] for top in self.nearest(root, tree)]
         shown: Dict[int, List[int]] = {it: [] for it in tops}
         labels: Dict[int, str] = {}
-        waiting = [(-sizes[it], it) for it in tops if self.is_split(it)]
+        waiting = [(-sizes[it - first], it) for it in tops if self.is_split(it)]
         heapq.heapify(waiting)
         opened = 0
         while waiting and opened < most:
             it, opened = heapq.heappop(waiting)[1], opened + 1
             i1, l1, i2, l2 = self.proof.derivations[it - self.first].indices
             for branch, assumed in ((i1, l1), (i2, l2)):
-                for below in self.nearest(branch, children) if branch in children[it] else []:
+                for below in self.nearest(branch, tree) if branch in tree.children(it) else []:
                     if below not in shown:
                         shown[it].append(below)
                         shown[below] = []
                         labels[below] = self.short(assumed, 22)
                         if self.is_split(below):
-                            heapq.heappush(waiting, (-sizes[below], below))
+                            heapq.heappush(waiting, (-sizes[below - first], below))
         closed = {it for _, it in waiting}
-        boxes = {it: self.split_box(it, sizes[it], counts[it] if it in closed else 0) for it in shown}
+        self.find_sets(shown)
+        boxes = {it: self.split_box(it, sizes[it - first], counts[it - first] if it in closed else 0) for it in shown}
         place(tops, shown, boxes)
         arrows = [arrow(boxes[it], boxes[below], '') for it, row in shown.items() for below in row]
         arrows += [label(text, boxes[it]) for it, text in labels.items()]
         return boxes, arrows
 
     def is_split(self, index: int) -> bool:
-        return self.proof.derivations[index - self.first].reason == 'uns'
+        return self.reasons[index - self.first] == 'uns'
 
-    def nearest(self, index: int, children: Dict[int, List[int]]) -> List[int]:
+    def nearest(self, index: int, tree: structure.Tree) -> List[int]:
         """The first splits at or below a derivation, or itself if there is none."""
         found, open_ones = [], [index]
         while open_ones:
@@ -271,7 +267,7 @@ class Picture:
             if self.is_split(it):
                 found.append(it)
             else:
-                open_ones.extend(reversed(children[it]))
+                open_ones.extend(reversed(tree.children(it)))
         return found or [index]
 
     def split_box(self, index: int, size: int, closed: int) -> Box:
@@ -285,18 +281,18 @@ class Picture:
         """What is beside the tree: the claim, the problem, and what the picture leaves out."""
         problem, most = self.proof.problem, MOST_CHARACTERS + 20
         reasons = {'asm': 'assumption', 'lin': 'sum', 'rnd': 'rounded sum', 'uns': 'branches joined', 'sol': 'cutoff'}
-        counts = {word: sum(it.reason == word for it in self.proof.derivations) for word in reasons}
+        counts = Counter(self.reasons)
         rows = [(f'claim: {problem.claim}', 'title'),
                 (f'{"max" if problem.maximizes else "min"} {row_text(problem.objective, self.names)}', ''),
                 (f'{len(problem.names)} variables, {len(problem.integers)} integer', 'small'), ('', '')]
         rows += [(f'[{at}] {printable(it.name)}  {self.text(it)}',
-                  '' if self.goal is None or at in self.needed else 'small')
+                  '' if self.goal is None or self.needed[at] else 'small')
                  for at, it in enumerate(problem.constraints[:MOST_LISTED])]
         if self.first > MOST_LISTED:
             rows.append((f'.. {self.first - MOST_LISTED:,} more constraints', 'small'))
-        spare = len(self.derived) - sum(it >= self.first for it in self.needed)
+        spare = len(self.derived) - sum(self.needed[self.first:])
         rows += [('', ''), (f'{len(self.derived):,} derivations', '')]
-        rows += [(f'  {word} {count:,}  {reasons[word]}', 'small') for word, count in counts.items() if count]
+        rows += [(f'  {word} {counts[word]:,}  {reasons[word]}', 'small') for word in reasons if counts[word]]
         if self.goal is None:
             rows.append(('no constraint proves the dual side', 'small'))
         else:
@@ -320,15 +316,19 @@ class Picture:
 
 
 def command(words: argparse.Namespace) -> int:
-    proof = read(read_file(words.certificate))
-    if isinstance(proof, Refusal):
+    text, alive = read_file(words.certificate), Alive()
+    proof = read(text, alive.part('reading', len(text)))
+    if not isinstance(proof, Certificate):
+        alive.end()
         print(proof)
         return REFUSED
-    text = Picture(proof).svg(words.boxes, words.splits)
+    found = structure.outline(proof, alive.part('assumptions', len(proof.derivations)))
+    picture = Picture(proof, found).svg(words.boxes, words.splits)
+    alive.end()
     if words.out:
-        Path(words.out).write_text(text, encoding='utf-8')
+        Path(words.out).write_text(picture, encoding='utf-8')
     else:
-        sys.stdout.buffer.write(text.encode())
+        sys.stdout.buffer.write(picture.encode())
     return VERIFIED
 
 

@@ -2,62 +2,106 @@
 from __future__ import annotations
 
 import functools
-from itertools import chain
+from array import array
+from dataclasses import dataclass
+from itertools import chain, islice
 from math import ceil, floor, gcd
-from typing import Dict, List, Optional, Set, Tuple
+from typing import Callable, Dict, FrozenSet, Iterable, Iterator, List, Optional, Set, Tuple, Union
 
-from .certificate import Certificate, Constraint, Number, Problem, Row
+from .certificate import STEP, Certificate, Constraint, Number, Problem, Progress, Row
 
+SMALL = 64  # a set of more indices shares its parts with others
 RANGE = 256  # how many indices a smallest part of a set covers
+MOST_REMEMBERED = 1 << 13  # how many parts of sets are found again if they are made again
+MOST_COEFFICIENTS = 1 << 14  # how many of the constraints that sums name are kept
 
 
 class Assumptions:
-    """A set of indices. It shares its parts with other sets: a part covers `width` indices from `start` on, by bits if there
-    are RANGE of them, and else by two parts that cover a half each and aren't empty."""
-    __slots__ = 'start', 'width', 'bits', 'halves', 'size'
+    """A large set of indices. It shares its parts with other sets: a part covers `width` indices from `start` on, by bits if
+    there are RANGE of them, and else by two parts that cover a half each and aren't empty."""
+    __slots__ = 'start', 'width', 'bits', 'halves', 'size', 'number'
     size: int
+    number: int  # for whoever writes sets down
 
     def __init__(self, start: int, width: int, bits: int, halves: Tuple[Assumptions, ...]):
-        self.start, self.width, self.bits, self.halves = start, width, bits, halves
+        self.start, self.width, self.bits, self.halves, self.number = start, width, bits, halves, -1
         self.size = sum(half.size for half in halves) if halves else bin(bits).count('1')
 
-    def indices(self) -> List[int]:
+    def __len__(self) -> int:
+        return self.size
+
+    def __iter__(self) -> Iterator[int]:
         """Its indices in ascending order."""
-        found: List[int] = []
         parts = [self]
         while parts:
             it = parts.pop()
             parts.extend(reversed(it.halves))
-            found.extend(it.start + at for at in range(it.bits.bit_length()) if it.bits >> at & 1)
-        return found
+            yield from (it.start + at for at in range(it.bits.bit_length()) if it.bits >> at & 1)
 
 
-NOTHING = Assumptions(0, RANGE, 0, ())
+# of a constraint its variables, and None for its right-hand side, with the numerator and denominator of each
+Parts = List[Tuple[Optional[int], int, int]]
+# a set of assumptions: a small one is Python's own
+Found = Union[FrozenSet[int], Assumptions]
+NOTHING: FrozenSet[int] = frozenset()
+EMPTY = Assumptions(0, RANGE, 0, ())
+
+
+def indices(found: Found, most: Optional[int] = None) -> List[int]:
+    """The indices of a set in ascending order, or the first of them."""
+    return sorted(found)[:most] if isinstance(found, frozenset) else list(islice(iter(found), most))
 
 
 class Sets:
-    """Makes sets of assumptions: equal parts are one, and two parts are joined once."""
+    """Makes sets of assumptions: equal parts are one, and two parts are joined once, as long as they are remembered."""
 
     def __init__(self) -> None:
         self.ranges: Dict[Tuple[int, int], Assumptions] = {}
         self.pairs: Dict[Tuple[Assumptions, Assumptions], Assumptions] = {}
         self.unions: Dict[Tuple[Assumptions, Assumptions], Assumptions] = {}
 
+    def forget(self) -> None:
+        """Forgets what was made, if it is much. Sets that are in use stay."""
+        if len(self.ranges) + len(self.pairs) + len(self.unions) > MOST_REMEMBERED:
+            self.ranges.clear()
+            self.pairs.clear()
+            self.unions.clear()
+
     def of_bits(self, start: int, bits: int) -> Assumptions:
         if not bits:
-            return NOTHING
+            return EMPTY
         found = self.ranges.get((start, bits))
         if found is None:
             found = self.ranges[start, bits] = Assumptions(start, RANGE, bits, ())
         return found
 
-    def of_one(self, index: int) -> Assumptions:
-        return self.of_bits(index & -RANGE, 1 << index % RANGE)
+    def large(self, found: Found) -> Assumptions:
+        """The same set with parts."""
+        if isinstance(found, Assumptions):
+            return found
+        parts = [self.of_bits(index & -RANGE, 1 << index % RANGE) for index in found]
+        return functools.reduce(self.union_of_large, parts, EMPTY)
+
+    def union(self, sets: Iterable[Found]) -> Found:
+        """The union of some sets."""
+        parts = list(dict.fromkeys(sets))
+        if len(parts) < 2:
+            return parts[0] if parts else NOTHING
+        if sum(map(len, parts)) <= SMALL:
+            return NOTHING.union(*parts)
+        return functools.reduce(self.union_of_large, map(self.large, parts))
+
+    def without(self, found: Found, index: int) -> Found:
+        """A set without an index."""
+        if isinstance(found, frozenset):
+            return found - {index}
+        left = self.without_in_large(found, index)
+        return left if len(left) > SMALL else frozenset(left)
 
     def of_two(self, one: Assumptions, other: Assumptions) -> Assumptions:
         """The set of two that have no part of a range in common, or of which one is empty."""
-        if one is NOTHING or other is NOTHING:
-            return other if one is NOTHING else one
+        if one is EMPTY or other is EMPTY:
+            return other if one is EMPTY else one
         low, high = (one, other) if one.start < other.start else (other, one)
         found = self.pairs.get((low, high))
         if found is None:
@@ -65,7 +109,7 @@ class Sets:
             found = self.pairs[low, high] = Assumptions(low.start & -width, width, 0, (low, high))
         return found
 
-    def union(self, one: Assumptions, other: Assumptions) -> Assumptions:
+    def union_of_large(self, one: Assumptions, other: Assumptions) -> Assumptions:
         wide, narrow = (one, other) if one.width >= other.width else (other, one)
         if wide is narrow or not (wide.size and narrow.size) or wide.start != narrow.start & -wide.width:
             return wide if wide is narrow else self.of_two(wide, narrow)
@@ -74,46 +118,82 @@ class Sets:
             if not wide.halves:
                 found = self.of_bits(wide.start, wide.bits | narrow.bits)
             elif wide.width == narrow.width:
-                found = self.of_two(*map(self.union, wide.halves, narrow.halves))
+                found = self.of_two(*map(self.union_of_large, wide.halves, narrow.halves))
             else:
                 low, high = wide.halves
                 is_high = narrow.start & wide.width // 2
-                found = self.of_two(low, self.union(high, narrow)) if is_high else self.of_two(self.union(low, narrow), high)
+                found = self.of_two(low, self.union_of_large(high, narrow)) if is_high else self.of_two(self.union_of_large(low, narrow), high)
             self.unions[wide, narrow] = found
         return found
 
-    def without(self, it: Assumptions, index: int) -> Assumptions:
+    def without_in_large(self, it: Assumptions, index: int) -> Assumptions:
         if it.start != index & -it.width:
             return it
         if not it.halves:
             return self.of_bits(it.start, it.bits & ~(1 << index % RANGE))
-        return self.of_two(*(self.without(half, index) for half in it.halves))
+        return self.of_two(*(self.without_in_large(half, index) for half in it.halves))
 
 
 def named(proof: Certificate, index: int) -> List[int]:
     """The earlier constraints that a derived one names, each once, in written order."""
-    derivation = proof.derivations[index - len(proof.problem.constraints)]
-    return [it for it in dict.fromkeys(derivation.named()) if it < index]
+    return [it for it in dict.fromkeys(proof.references[index - len(proof.problem.constraints)]) if it < index]
 
 
-def assumptions(proof: Certificate) -> List[Assumptions]:
-    """The assumptions that each derived constraint rests on, by their indices."""
-    first = len(proof.problem.constraints)
-    found: List[Assumptions] = []
-    sets = Sets()
-
-    def of(index: int) -> Assumptions:
-        return found[index - first] if first <= index < first + len(found) else NOTHING
-    for at, it in enumerate(proof.derivations):
-        if it.reason == 'asm':
-            parts = [sets.of_one(first + at)]
-        elif it.reason == 'uns':
-            i1, l1, i2, l2 = it.indices
-            parts = [sets.without(of(i1), l1), sets.without(of(i2), l2)]
-        else:
-            parts = list(dict.fromkeys(map(of, it.named())))
-        found.append(functools.reduce(sets.union, parts, NOTHING))
+def last_uses(proof: Certificate) -> array[int]:
+    """The last derivation that names each one, by their places; -1 if none does."""
+    first, references = len(proof.problem.constraints), proof.references
+    found = array('q', [-1]) * len(proof.derivations)
+    for at in range(len(found)):
+        for index in references[at]:
+            if first <= index < first + at:
+                found[index - first] = at
     return found
+
+
+def assumptions(proof: Certificate) -> Iterator[Found]:
+    """The assumptions that each derived constraint rests on, by their indices. Sets that none needs any more aren't kept."""
+    first, references, lasts = len(proof.problem.constraints), proof.references, last_uses(proof)
+    kept: Dict[int, Found] = {}
+    sets = Sets()
+    for at, reason in enumerate(references.reasons):
+        named = references[at]
+        found: Found
+        if reason == 'asm':
+            found = frozenset((first + at,))
+        elif reason == 'uns':
+            i1, l1, i2, l2 = named
+            found = sets.union([sets.without(kept.get(i1, NOTHING), l1), sets.without(kept.get(i2, NOTHING), l2)])
+        else:
+            found = sets.union([kept[index] for index in named if index in kept])
+        for index in named:
+            if first <= index < first + at and lasts[index - first] == at:
+                kept.pop(index, None)
+        if found and lasts[at] >= 0:
+            kept[first + at] = found
+        sets.forget()
+        yield found
+
+
+@dataclass(frozen=True)
+class Outline:
+    """How many assumptions each derivation rests on, the goal, and for each constraint whether the goal needs it."""
+    sizes: array[int]
+    goal: Optional[int]
+    needed: bytearray
+
+
+def outline(proof: Certificate, progress: Optional[Progress] = None, see: Optional[Callable[[Found], None]] = None) -> Outline:
+    """What the derivations of a certificate are. `progress` is told how many were looked at, and `see` gets the assumptions of
+    each."""
+    sizes = array('I')
+    for at, found in enumerate(assumptions(proof)):
+        sizes.append(len(found))
+        if see:
+            see(found)
+        if progress and at % STEP == 0:
+            progress(at)
+    index = goal(proof, sizes)
+    return Outline(sizes, index, needed(proof, index))
 
 
 def is_absurd(it: Constraint) -> bool:
@@ -146,29 +226,80 @@ def proves_dual_side(problem: Problem, it: Constraint, rounds: bool) -> bool:
     return bound <= wanted if problem.maximizes else bound >= wanted
 
 
-def goal(proof: Certificate, sets: List[Assumptions]) -> Optional[int]:
+def goal(proof: Certificate, sizes: array[int]) -> Optional[int]:
     """The first constraint that proves the claim's dual side: by the first profile of the rules, or else by the second, which
     rounds a bound of an objective that is whole. None if there is none, or if nothing has to be proved."""
     problem, first = proof.problem, len(proof.problem.constraints)
-    resting_on_nothing: List[int] = [*range(first), *(first + at for at, it in enumerate(sets) if not it.size)]
-    for rounds in (False, *([True] if whole_row(problem.objective, problem.integers) else [])):
-        for index in resting_on_nothing:
-            if proves_dual_side(problem, proof.constraint(index), rounds):
-                return index
-    return None
+    wanted = problem.claim.upper if problem.maximizes else problem.claim.lower
+    if wanted is None and not problem.claim.infeasible:
+        return None
+    rounded = None
+    is_whole = whole_row(problem.objective, problem.integers)
+    # (coefficients that are 0 may be written, too)
+    most = len(problem.objective)
+    for index in chain(range(first), (first + at for at, size in enumerate(sizes) if not size)):
+        if index >= first and 0 < proof.length(index - first) < most:
+            continue
+        constraint = proof.constraint(index)
+        if proves_dual_side(problem, constraint, False):
+            return index
+        if rounded is None and is_whole and proves_dual_side(problem, constraint, True):
+            rounded = index
+    return rounded
 
 
-def needed(proof: Certificate, index: Optional[int]) -> Set[int]:
-    """The constraints that one needs: itself, and what those name that it needs."""
-    first = len(proof.problem.constraints)
-    found: Set[int] = set()
-    open_ones = [] if index is None else [index]
-    while open_ones:
-        it = open_ones.pop()
-        if it not in found:
-            found.add(it)
-            open_ones.extend(named(proof, it) if it >= first else [])
+def needed(proof: Certificate, index: Optional[int]) -> bytearray:
+    """For each constraint whether one needs it: itself, and what those name that it needs."""
+    first, references = len(proof.problem.constraints), proof.references
+    found = bytearray(first + len(proof.derivations))
+    if index is not None:
+        found[index] = True
+        for at in range(index, first - 1, -1):
+            if found[at]:
+                for below in references[at - first]:
+                    if below < at:
+                        found[below] = True
     return found
+
+
+class Tree:
+    """A tree of the derivations of which there are flags: each is below that one of those that name it which is farthest down;
+    what the goal needs is below the goal. Derivations go by their constraints' indices."""
+
+    def __init__(self, proof: Certificate, needed: bytearray, among: bytearray) -> None:
+        first, references = len(proof.problem.constraints), proof.references
+        self.first, self.among = first, among
+        count = len(among)
+        self.parents, layers = array('q', [-1]) * count, array('I', [0]) * count
+        for at in range(count - 1, -1, -1):
+            if among[at]:
+                layer, is_needed = layers[at], needed[first + at]
+                for index in references[at]:
+                    below = index - first
+                    if 0 <= below < at and among[below] and layer >= layers[below] and is_needed >= needed[index]:
+                        layers[below], self.parents[below] = layer + 1, at
+        self.below, self.ends = array('I'), array('Q', [0])
+        for at in range(count):
+            if among[at]:
+                self.below.extend(index for index in named(proof, first + at) if index >= first and self.parents[index - first] == at)
+            self.ends.append(len(self.below))
+
+    def children(self, index: int) -> array[int]:
+        """Those right below one, in the order in which it names them."""
+        return self.below[self.ends[index - self.first]:self.ends[index - self.first + 1]]
+
+    def roots(self, goal: Optional[int]) -> List[int]:
+        """Those that are below none: the goal first, and then the last ones."""
+        found = [self.first + at for at, parent in enumerate(self.parents) if parent < 0 and self.among[at]]
+        return sorted(found, key=lambda it: (it != goal, -it))
+
+    def totals(self, counts: array[int]) -> array[int]:
+        """For each the sum of what it and all below it count for, by their places."""
+        found = counts[:]
+        for at, parent in enumerate(self.parents):
+            if parent >= 0:
+                found[parent] += found[at]
+        return found
 
 
 class Widths:
@@ -178,44 +309,68 @@ class Widths:
     added up any more, and `computed` is None.
     """
 
-    def __init__(self, most: int) -> None:
-        self.written, self.most_steps = 0, most
+    def __init__(self, proof: Certificate, most: int) -> None:
+        self.proof, self.most_steps = proof, most
+        self.seen = 0
         self.computed: Optional[int] = 0
+        self.kept: Dict[int, Parts] = {}
+        self.room = MOST_COEFFICIENTS
+
+    @property
+    def written(self) -> int:
+        """How many bits the largest number has that was seen."""
+        return self.seen.bit_length()
 
     def see(self, *numbers: Number) -> None:
         """Numbers of the text."""
         for it in numbers:
-            self.written = max(self.written, it.numerator.bit_length(), it.denominator.bit_length())
+            self.seen |= abs(it) if isinstance(it, int) else abs(it.numerator) | it.denominator
 
-    def combine(self, proof: Certificate, index: int) -> None:
-        """Adds up the reason of a derived constraint, if it is a sum of earlier ones."""
-        entries = [(proof.constraint(at), multiplier) for at, multiplier in
-                   proof.derivations[index - len(proof.problem.constraints)].entries if multiplier and at < index]
-        self.most_steps -= sum(len(it.row) + 1 for it, _ in entries)
-        if self.most_steps < 0:
-            self.computed = None
-        if self.computed is not None:
-            self.computed = max(self.computed, largest_step(entries).bit_length())
+    def parts(self, index: int) -> Parts:
+        """The parts of a constraint that a sum names. Some are kept, since others name them, too."""
+        return self.kept.get(index) or self.keep(index, self.proof.constraint(index))
+
+    def keep(self, index: int, it: Constraint) -> Parts:
+        """Keeps the parts of a constraint that a sum may name."""
+        self.room -= 1 + len(it.row)
+        if self.room < 0:
+            self.room = MOST_COEFFICIENTS
+            self.kept.clear()
+        found: Parts = [(variable, value.numerator, value.denominator) for variable, value in it.row.items()]
+        found.append((None, it.bound.numerator, it.bound.denominator))
+        self.kept[index] = found
+        return found
+
+    def combine(self, entries: Tuple[Tuple[int, Number], ...], index: int) -> None:
+        """Adds up the entries of the derived constraint of an index, if it is a sum of earlier ones."""
+        if self.computed is None:
+            return
+        used = [(self.parts(at), multiplier) for at, multiplier in entries if multiplier and at < index]
+        self.most_steps -= sum(len(parts) for parts, _ in used)
+        self.computed = None if self.most_steps < 0 else max(self.computed, largest_step(used).bit_length())
 
 
-def largest_step(entries: List[Tuple[Constraint, Number]]) -> int:
-    """A number with as many bits as the largest one of a sum's steps."""
+def largest_step(entries: List[Tuple[Parts, Number]]) -> int:
+    """A number with as many bits as the largest one of a sum's steps, by the rule of sums of docs/FORMAT.md."""
     totals: Dict[Optional[int], Tuple[int, int]] = {}
-    seen = 0
-    for it, multiplier in entries:
-        for variable, value in chain(it.row.items(), [(None, it.bound)]):
-            above, below = multiplier.numerator * value.numerator, multiplier.denominator * value.denominator
-            common = gcd(above, below)
-            totals[variable], bits = step(*totals.get(variable, (0, 1)), above // common, below // common)
-            seen |= bits
+    seen = 1
+    for parts, multiplier in entries:
+        factor, divisor = multiplier.numerator, multiplier.denominator
+        for variable, c, d in parts:
+            c, d = factor * c, divisor * d
+            a, b = totals.get(variable, (0, 1))
+            if d == b == 1:
+                total = a + c
+                totals[variable] = total, 1
+                seen |= abs(c) | abs(total)
+                continue
+            common = gcd(c, d)
+            c, d = c // common, d // common
+            common = gcd(b, d)
+            left, right = a * (d // common), c * (b // common)
+            total = left + right
+            shared = gcd(total, common)
+            below = (b // common) * (d // shared)
+            totals[variable] = total // shared, below
+            seen |= abs(left) | abs(right) | abs(total) | below
     return seen
-
-
-def step(a: int, b: int, c: int, d: int) -> Tuple[Tuple[int, int], int]:
-    """a/b and c/d added, by the rule of sums of docs/FORMAT.md, and a number with as many bits as those that it looks at."""
-    common = gcd(b, d)
-    left, right = a * (d // common), c * (b // common)
-    total = left + right
-    shared = gcd(total, common)
-    below = (b // common) * (d // shared)
-    return (total // shared, below), abs(left) | abs(right) | abs(total) | below

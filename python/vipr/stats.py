@@ -1,7 +1,9 @@
 """What a certificate consists of: its derivations by reason, how deep its assumptions go, how large its numbers get.
 
 `vipr check` refuses numerators and denominators of more than 127 bits, and the bits of the largest ones show how near it is.
-Nothing is checked here, and nothing proves these figures. `goal` is the constraint that proves the claim's dual side.
+Nothing is checked here, and nothing proves these figures. `goal` is the constraint that proves the claim's dual side. With
+--needed the constraints of the problem that its derivation needs are listed instead: index, name and algebra, with tabs
+between. They alone prove the claim of a verified certificate, and often fewer do: each needs others in this proof.
 
 The exit status is 0, 1 if the text is no certificate, 2 if the command line isn't understood, and 3 if the file can't be read.
 """
@@ -11,45 +13,68 @@ import argparse
 import json
 import sys
 from collections import Counter
-from typing import Dict, Iterable, List, Tuple, Union
+from typing import Dict, Iterable, Iterator, List, Optional, Tuple, Union
 
-from . import proof as structure
-from .certificate import Certificate, read
-from .files import REFUSED, VERIFIED, Parser, read_file, run
-from .verdict import Refusal
+from . import algebra, proof as structure
+from .certificate import STEP, Certificate, Problem, Progress, Row, read
+from .files import REFUSED, VERIFIED, Alive, Parser, printable, read_file, run
 
 STEPS, LEAST_STEPS = 100, 1_000_000  # of sums that are added up: for each number that is written, and in any case
+MOST_TERMS = 12  # of a constraint that is listed
 REASONS = ('asm', 'lin', 'rnd', 'uns', 'sol')
 Figure = Union[int, str, None]
 
 
-def by_reason(proof: Certificate, indices: Iterable[int]) -> Dict[str, int]:
-    """How many of these derived constraints have each reason."""
-    first = len(proof.problem.constraints)
-    counts = Counter(proof.derivations[index - first].reason for index in indices if index >= first)
+def by_reason(reasons: Iterable[str]) -> Dict[str, int]:
+    """How many there are of each reason."""
+    counts = Counter(reasons)
     return {word: counts[word] for word in REASONS}
 
 
 def figures(proof: Certificate) -> Dict[str, Union[Figure, Dict[str, int]]]:
     """All figures by their names, as --json prints them."""
-    problem, derivations = proof.problem, proof.derivations
-    first = len(problem.constraints)
-    derived = range(first, first + len(derivations))
-    constraints = [*problem.constraints, *(it.constraint for it in derivations)]
-    sets = structure.assumptions(proof)
-    goal = structure.goal(proof, sets)
-    needed = structure.needed(proof, goal)
-    written = sum(len(it.row) for it in constraints if it.row is not problem.objective) + sum(len(it.entries) for it in derivations)
-    widths = structure.Widths(LEAST_STEPS + STEPS * written)
-    widths.see(*problem.objective.values())
-    for it in constraints:
-        widths.see(it.bound, *(() if it.row is problem.objective else it.row.values()))
+    return measured(proof, structure.outline(proof))
+
+
+class Longest:
+    """What is the longest of its kind, and how many rows are the objective's."""
+
+    def __init__(self, problem: Problem) -> None:
+        self.problem, self.row, self.reason, self.objectives = problem, 0, 0, 0
+
+    def see(self, row: Row) -> None:
+        self.row = max(self.row, len(row))
+        self.objectives += bool(row) and structure.is_objective(self.problem, row)
+
+
+def measured(proof: Certificate, found: structure.Outline, progress: Optional[Progress] = None) -> Dict[str, Union[Figure, Dict[str, int]]]:
+    """All figures of a certificate of this outline. `progress` is told how many derivations were looked at."""
+    problem, derivations, reasons = proof.problem, proof.derivations, proof.references.reasons
+    first, objective = len(problem.constraints), problem.objective
+    widths, longest, written = structure.Widths(proof, LEAST_STEPS), Longest(problem), 0
+    widths.see(*objective.values())
+    for constraint in problem.constraints:
+        longest.see(constraint.row)
+        if constraint.row is not objective:
+            widths.see(constraint.bound, *constraint.row.values())
+            written += len(constraint.row)
+        else:
+            widths.see(constraint.bound)
     for solution in proof.solutions:
         widths.see(*solution.values.values())
-    for index, derivation in zip(derived, derivations):
-        widths.see(*(multiplier for _, multiplier in derivation.entries))
-        widths.combine(proof, index)
-    needed_derived = sum(index >= first for index in needed)
+    widths.most_steps += STEPS * (written + proof.references.numbers)
+    for index, derivation in enumerate(derivations, first):
+        constraint, entries = derivation.constraint, derivation.entries
+        longest.see(constraint.row)
+        longest.reason = max(longest.reason, len(entries))
+        widths.see(constraint.bound, *[multiplier for _, multiplier in entries])
+        if constraint.row is not objective:
+            widths.see(*constraint.row.values())
+        widths.combine(entries, index)
+        widths.keep(index, constraint)
+        if progress and index % STEP == 0:
+            progress(index - first)
+    needed = found.needed
     return {
         'claim': str(problem.claim),
         'variables': len(problem.names),
@@ -58,17 +83,17 @@ def figures(proof: Certificate) -> Dict[str, Union[Figure, Dict[str, int]]]:
         'bounds': problem.bounds,
         'solutions': len(proof.solutions),
         'derivations': len(derivations),
-        'by_reason': by_reason(proof, derived),
-        'assumption_depth': max((it.size for it in sets), default=0),
-        'longest_row': max((len(it.row) for it in constraints), default=0),
-        'longest_reason': max((len(it.entries) for it in derivations), default=0),
-        'objective_rows': sum(bool(it.row) and structure.is_objective(problem, it.row) for it in constraints),
+        'by_reason': by_reason(reasons),
+        'assumption_depth': max(found.sizes, default=0),
+        'longest_row': longest.row,
+        'longest_reason': longest.reason,
+        'objective_rows': longest.objectives,
         'written_bits': widths.written,
         'computed_bits': None if widths.computed is None else max(widths.written, widths.computed),
-        'goal': goal,
-        'needed_constraints': len(needed) - needed_derived,
-        'needed_derivations': needed_derived,
-        'needed_by_reason': by_reason(proof, needed),
+        'goal': found.goal,
+        'needed_constraints': sum(needed[:first]),
+        'needed_derivations': sum(needed[first:]),
+        'needed_by_reason': by_reason(reason for reason, is_needed in zip(reasons, needed[first:]) if is_needed),
     }
 
 
@@ -95,18 +120,48 @@ def table(found: Dict[str, Union[Figure, Dict[str, int]]]) -> List[Tuple[str, Fi
     return rows
 
 
+def needed_rows(proof: Certificate, found: structure.Outline) -> Iterator[Tuple[int, str, str]]:
+    """The constraints of the problem that the goal needs: index, name and algebra."""
+    for index, constraint in enumerate(proof.problem.constraints):
+        if found.needed[index]:
+            yield index, printable(constraint.name), algebra.constraint_text(constraint, proof.problem.names, MOST_TERMS)
+
+
+def needed_table(proof: Certificate, found: structure.Outline) -> List[str]:
+    """Those constraints, a line each, with a first line that counts them."""
+    count, all_of = sum(found.needed[:len(proof.problem.constraints)]), len(proof.problem.constraints)
+    if found.goal is None:
+        return ['nothing is needed: no constraint proves the dual side of the claim, or none has to']
+    return [f'{count} of {all_of} constraints of the problem are needed for the goal {found.goal}',
+            *('\t'.join(map(str, row)) for row in needed_rows(proof, found))]
+
+
 def command(words: argparse.Namespace) -> int:
-    proof = read(read_file(words.certificate))
-    if isinstance(proof, Refusal):
+    text = read_file(words.certificate)
+    alive = Alive()
+    proof = read(text, alive.part('reading', len(text)))
+    if not isinstance(proof, Certificate):
+        alive.end()
         print(proof)
         return REFUSED
-    found = figures(proof)
+    count = len(proof.derivations)
+    found = structure.outline(proof, alive.part('assumptions', count))
+    if words.needed:
+        alive.end()
+        if words.json:
+            rows = [dict(zip(('index', 'name', 'text'), row)) for row in needed_rows(proof, found)]
+            print(json.dumps({'goal': found.goal, 'constraints': rows}, indent=2))
+        else:
+            print(*needed_table(proof, found), sep='\n')
+        return VERIFIED
+    figures = measured(proof, found, alive.part('sums', count))
+    alive.end()
     if words.json:
-        print(json.dumps(found, indent=2))
+        print(json.dumps(figures, indent=2))
     else:
-        rows = table(found)
-        width = max(len(label) for label, _ in rows)
-        print(*(f'{label:{width}}  {value}' for label, value in rows), sep='\n')
+        lines = table(figures)
+        width = max(len(label) for label, _ in lines)
+        print(*(f'{label:{width}}  {value}' for label, value in lines), sep='\n')
     return VERIFIED
 
 
@@ -114,6 +169,7 @@ def parser() -> Parser:
     made = Parser('stats', __doc__)
     made.add_argument('certificate', metavar='CERT', help='a certificate, also .gz, .xz, .bz2 or .zst; - is standard input')
     made.add_argument('--json', action='store_true', help='one JSON object')
+    made.add_argument('--needed', action='store_true', help='the constraints of the problem that the proof needs, in place of the figures')
     return made
 
 
