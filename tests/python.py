@@ -700,7 +700,7 @@ def check_all(room, words):
     many_files.check_all(check, room, words['check-all'], PROGRAM)
 
 
-def packed(room, words):
+def unpacked(room, words):
     packed_files.packed_files(check, room, words, PROGRAM, library())
 
 
@@ -714,7 +714,7 @@ def called(texts):
 
 
 PARTS = (called, inputs, types, causes, comparisons, sides, many_rows, turned_claims, figures, sets_of_assumptions, pictures, hostile, commands,
-         manual, check_all, packed, closed, large)
+         manual, check_all, unpacked, closed, large)
 
 
 def main():

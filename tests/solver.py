@@ -66,7 +66,7 @@ def random_model(dice):
         cost = dice.choice([dice.randint(-9, 9), dice.randint(-9, 9), dice.randint(-90, 90) / 4])
         has |= {"fractional cost"} if cost != int(cost) else set()
         point = dice.randint(0, 2)
-        lines += [f" M 'MARKER' 'INTORG'"] if name in whole else []
+        lines += [" M 'MARKER' 'INTORG'"] if name in whole else []
         lines.append(f" {name} obj {cost}")
         for i in range(len(kinds)):
             factor = dice.choice(

@@ -12,7 +12,6 @@ is run by tests/all.py, or is named there as one that isn't.
 Prints each fault, and last `tools: N checks, F failed`; the exit status is 1 if one failed.
 """
 import os
-import re
 import shutil
 import subprocess
 import sys

@@ -5,7 +5,7 @@ import bz2
 import lzma
 import subprocess
 import zlib
-from typing import IO, Callable, Dict, Iterator, List, Optional, Tuple, Union
+from typing import IO, Callable, Dict, Iterator, Optional, Tuple, Union
 
 PIECE = 1 << 16
 
