@@ -12,7 +12,8 @@
 # make bench             times the program over certificates that a script makes, beside wc -w and cat
 # make rocq              proves the theorem in a second prover, Rocq, and builds its checker, rocq/vipr-rocq
 # make help              prints these lines
-# make statement         writes docs/STATEMENT.md, docs/CONTRACTS.md, the crate graph, the man page and the completions anew
+# make statement         writes anew what is made from the sources: docs/STATEMENT.md, the tables of docs/CONTRACTS.md, the crate graph,
+#                        the man page and the completions
 RT ?= rt
 PYTHON ?= python3
 FILE ?= examples/infeasible.vipr
@@ -124,10 +125,7 @@ house:
 	@$(PYTHON) tests/house.py
 
 statement: build
-	@$(PYTHON) tests/house.py --write
-	@$(PYTHON) tests/proof.py
-	@$(PYTHON) tests/interface.py --write
-	@$(PYTHON) docs/architecture.py
+	@$(PYTHON) tools/write_pages.py
 
 wrong: build
 	@$(PYTHON) tools/wrong.py $$CRATES

@@ -1,4 +1,4 @@
-# Completion of vipr for bash. Made by tests/interface.py from the program's help.
+# Completion of vipr for bash. Made by tools/manual.py from the program's help.
 # Files are completed by bash itself, also names with spaces.
 _vipr() {
     local word="${COMP_WORDS[COMP_CWORD]}" before="${COMP_WORDS[COMP_CWORD-1]}" words=""

@@ -1,4 +1,4 @@
-# Completion of vipr for fish. Made by tests/interface.py from the program's help.
+# Completion of vipr for fish. Made by tools/manual.py from the program's help.
 complete -c vipr -n __fish_use_subcommand -f -a check -d 'Checks a certificate and prints the verdict'
 complete -c vipr -n __fish_use_subcommand -f -a explain -d 'Checks a certificate and prints the verdict with what shows it'
 complete -c vipr -n __fish_use_subcommand -f -a show -d 'Writes a certificate\'s canonical text'

@@ -21,8 +21,8 @@ import sys
 import tempfile
 from pathlib import Path
 
-from sources import replaced
 from texts import TOP, Checks, may_trace, program, run, text_of, traced
+from sources import replaced
 import families
 
 PAGE = TOP / 'docs/SECURITY.md'

@@ -24,8 +24,8 @@ import tempfile
 from concurrent.futures import ThreadPoolExecutor
 from pathlib import Path
 
-from sources import replaced
 from texts import GNU_TIME, OBJDUMP, TOP, VALGRIND, Checks, described, instructions, peak, program, run, spent, text_of
+from sources import replaced
 import families
 
 # what doesn't meet its bound yet: pairs of a family's name and a command

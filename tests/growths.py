@@ -24,8 +24,8 @@ import tempfile
 from concurrent.futures import ThreadPoolExecutor
 from pathlib import Path
 
-from sources import crates
 from texts import TOP, Checks
+from sources import crates
 
 CHECKS = Checks('growths', 'runs')
 # its growths are refused by tests/hostile.py

@@ -2,10 +2,9 @@
 """Checks how the repository is built, from its text alone: what no prover checks and each reader relies on.
 The layout of its files is checked if the toolchain is there.
 
-usage: tests/house.py [--write]
+usage: tests/house.py
 
-Prints the place of each fault, and last `house: N checks, F failed`; the exit status is 1 where one failed.
---write brings the crate graph of docs/ARCHITECTURE.md and docs/STATEMENT.md up to date first.
+Prints the place of each fault, and last `house: N checks, F failed`; the exit status is 1 if one failed.
 """
 import collections
 import os
@@ -17,8 +16,7 @@ import sys
 ROOT = os.path.dirname(os.path.dirname(os.path.abspath(__file__)))
 CRATES = os.path.join(ROOT, 'crates')
 sys.path.insert(0, os.path.join(ROOT, 'tools'))
-import statement  # noqa: E402
-from sources import crates, head_of, levels, read, replaced  # noqa: E402
+from sources import crates, head_of, read  # noqa: E402
 
 WIDTH = 100
 LENGTH = 800
@@ -294,24 +292,9 @@ def long_files():
             yield '%s: %d lines' % (shown(path), lines)
 
 
-GRAPH = ('<!-- crate graph: written by `tests/house.py --write` from crates.txt -->', '<!-- end of the crate graph -->')
-
-
-def crate_graph():
-    """The graph as docs/ARCHITECTURE.md has it: by level, each crate with the crates directly below it."""
-    deps, (level, direct) = crates(), levels()
-    width, rows = max(map(len, deps)), []
-    for crate in sorted(deps, key=lambda it: (level[it], it)):
-        kit = ''.join(' %s' % it for it in deps[crate] if it not in deps)
-        rows.append(('%d  %s  %s%s' % (level[crate], crate.ljust(width), ' '.join(sorted(direct[crate])), kit and ' +' + kit)).rstrip())
-    return '\n'.join([GRAPH[0], '```text'] + rows + ['```', GRAPH[1]])
-
-
-def graph_is_current():
-    """The crate graph of docs/ARCHITECTURE.md is that of crates.txt, and its table names each crate once."""
+def crates_have_rows():
+    """The table of docs/ARCHITECTURE.md names each crate once."""
     text = read(os.path.join(ROOT, 'docs', 'ARCHITECTURE.md'))
-    if crate_graph() not in text:
-        yield 'docs/ARCHITECTURE.md: the crate graph is not that of crates.txt (tests/house.py --write)'
     for crate in crates():
         rows = len(re.findall(r'^\| `%s` \|' % crate, text, re.M))
         if rows != 1:
@@ -326,20 +309,6 @@ def crates_are_there():
     listed, there = set(crates()), {d for d in os.listdir(CRATES) if os.path.isdir(os.path.join(CRATES, d, 'src'))}
     for crate in sorted(listed ^ there):
         yield '%s is %s' % (crate, 'not in crates.txt' if crate in there else 'not in crates/')
-
-
-def statement_is_current():
-    """docs/STATEMENT.md is what tests/statement.py makes of the spec files, and no part of it has too many lines."""
-    text, faults, _ = statement.page()
-    yield from faults
-    if text != read(statement.TARGET):
-        yield 'docs/STATEMENT.md is not current: run tests/statement.py'
-
-
-def examples_are_there():
-    """Each definition that docs/STATEMENT.md quotes has an example in tests/statement_examples.md."""
-    for definition in statement.page()[2].without:
-        yield f'no example: {definition}'
 
 
 def snake(name):
@@ -417,7 +386,8 @@ def named_files_are_there():
     for page in listed:
         if page.endswith('.md'):
             for n, line in enumerate(read(os.path.join(ROOT, page)).split('\n'), 1):
-                for name in re.findall(r'`([\w./-]*\w\.(?:rt|antt|py))`', line):
+                # (a mark says what writes a part)
+                for name in [] if line.startswith('<!--') else re.findall(r'`([\w./-]*\w\.(?:rt|antt|py))`', line):
                     if not any(path.endswith('/' + name) for path in known):
                         yield '%s:%d: no file %s' % (page, n, name)
 
@@ -442,23 +412,13 @@ def python_is_linted():
         yield from (said.stdout + said.stderr).splitlines()
 
 
-CHECKS = [foreign_proofs, private_lemmas, names_twice, types_twice, growing_types, plain_words, comments_stand_alone, comments_name_no_definitions, unused_imports, dead_lemmas, dead_calls, laws_are_named, proofs_in_specs, long_lines, long_files, crates_are_there, graph_is_current,
-          statement_is_current, examples_are_there, causes_agree,
+CHECKS = [foreign_proofs, private_lemmas, names_twice, types_twice, growing_types, plain_words, comments_stand_alone, comments_name_no_definitions, unused_imports, dead_lemmas, dead_calls, laws_are_named, proofs_in_specs, long_lines, long_files, crates_are_there, crates_have_rows,
+          causes_agree,
           versions_agree, named_files_are_there,
           formatted, python_is_linted]
 
 
-def write():
-    path = os.path.join(ROOT, 'docs', 'ARCHITECTURE.md')
-    text = read(path)
-    with open(path, 'w', encoding='utf-8') as f:
-        f.write(replaced(text, GRAPH, crate_graph()))
-    statement.main()
-
-
 def main():
-    if '--write' in sys.argv:
-        write()
     failed = 0
     for check in CHECKS:
         faults = list(check())

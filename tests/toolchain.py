@@ -2,9 +2,11 @@
 """A toolchain that proves nothing, under the name `rt`: what tests/tools.py runs the scripts that build and test with.
 
 It does as the file PLAN says, a word and what to do a line:
-  proves CRATE HOW    `rt lib` or `rt run` of a crate: well, refused, killed, half (a line that is cut off), or nothing (no
-                      program is left)
+  proves CRATE HOW    `rt lib` or `rt run` of a crate: well, refused, killed, terminated, half (a line that is cut off),
+                      nothing (no program is left), or unusable or unusable-refused (until its library is gone, and
+                      then it goes well or is refused)
   gate HOW            `rt ci`: well, failed, killed, half, mute (a failure that it doesn't count), or nothing
+  help plain          `rt help` names no --anew
   edit NAME HOW       a check with an edit: goal (with values), search, searched, open, type, name, field, limit, killed, proved, unread,
                       elsewhere (beside others the place is in another function), or the name of an edit whose function the
                       edited one calls
@@ -33,9 +35,9 @@ def log(line):
         print(line, file=file)
 
 
-def die():
+def die(how=signal.SIGKILL):
     sys.stdout.flush()
-    os.kill(os.getpid(), signal.SIGKILL)
+    os.kill(os.getpid(), how)
 
 
 def leave_program(crate):
@@ -51,7 +53,12 @@ def prove(verb):
     how = plan().get(f'proves {crate}', 'well')
     if how == 'killed':
         die()
-    if how == 'refused':
+    if how == 'terminated':
+        die(signal.SIGTERM)
+    if how.startswith('unusable') and Path('out/rlib').is_dir():
+        print('out/rlib/low.rlib:1:1: error: unusable-built-library')
+        return 1
+    if how.endswith('refused'):
         print(f'src/lib.rt:3:5: error: a goal of {crate} stays open\nlogic=not-proved')
         return 1
     if how == 'half':
@@ -81,7 +88,8 @@ def main(words):
         return prove(words[0])
     if words[:1] == ['ci']:
         return gate()
-    print({'doc': __file__, 'version': 'rattle-kit-of-the-tests'}.get(words[0] if words else '', VERBS))
+    usage = VERBS.replace(' [--anew]', '') if plan().get('help') == 'plain' else VERBS
+    print({'doc': __file__, 'version': 'rattle-kit-of-the-tests'}.get(words[0] if words else '', usage))
     return 0
 
 

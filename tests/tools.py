@@ -7,7 +7,7 @@ The toolchain is tests/toolchain.py under the name `rt`, in a folder at the head
 scripts of this, four crates without a text, and scripts of tests/ that do nothing. Whatever fails, is killed or ends in
 half a line, the exit status is another than 0, the crate is named, there is no vipr.sha256, and nothing is checked with or
 installed from what isn't proved. Each script of tests/
-is run by tests/all.py, or is named there as one that isn't.
+is run by tests/all.py, and a failing one says so.
 
 Prints each fault, and last `tools: N checks, F failed`; the exit status is 1 if one failed.
 """
@@ -20,12 +20,17 @@ import time
 from pathlib import Path
 
 from texts import TOP, Checks
-import all as gate
+import all as test_command
 
 CHECKS = Checks('tools')
 check = CHECKS.check
 CRATES = {'low': '', 'vipr_c staticlib': 'low', 'vipr_command': 'low', 'vipr': 'vipr_command low'}
 LEFT_OUT = shutil.ignore_patterns('crates', '.git', 'dist', '__pycache__')
+# what tests/all.py runs, each without words: with some, a script could compare less, or write in place of comparing
+SCRIPTS = {'tools', 'wrong_versions', 'conformance_run', 'sharpness', 'solver', 'library', 'second', 'python', 'long', 'hostile', 'costs', 'pages', 'large', 'fuzz', 'conformance', 'output',
+           'archive', 'growths', 'calls', 'answers', 'kills', 'interface', 'house', 'writer', 'written', 'races', 'browser', 'language'}
+# what nothing runs there: the test command, and the toolchain of these checks
+OTHERS = {'all', 'toolchain'}
 
 
 class Place:
@@ -51,9 +56,10 @@ class Place:
 
     def let_scripts_end(self, **ends):
         """Puts a script that does nothing in place of each that tests/all.py runs; those that are named end so."""
-        for script, *_ in gate.SCRIPTS:
-            end = ends.get(Path(script).stem, 'sys.exit(0)')
-            (self.tree / script).write_text(f'import os, signal, sys\nprint("{script} ran")\nsys.stdout.flush()\n{end}\n')
+        for name in SCRIPTS:
+            end = ends.get(name, 'sys.exit(0)')
+            script = f'import os, signal, sys\nprint("tests/{name}.py ran", sys.argv[1:])\nsys.stdout.flush()\n{end}\n'
+            (self.tree / f'tests/{name}.py').write_text(script)
 
     def plan(self, *lines):
         (self.room / 'plan').write_text(''.join(f'{line}\n' for line in lines))
@@ -88,7 +94,7 @@ def build(place):
     status, out = place.python('tools/build.py')
     check(status == 0 and place.is_marked(), f'a build that goes well: {status}, {out}')
     for crate in ('low', 'vipr_command', 'vipr'):
-        for how in ('refused', 'killed', 'half'):
+        for how in ('refused', 'killed', 'terminated', 'half'):
             place.plan(f'proves {crate} {how}')
             status, out = place.python('tools/build.py')
             check(status == 1 and f'{crate} is not built' in out and not place.sum.exists(),
@@ -98,6 +104,13 @@ def build(place):
     place.plan('proves vipr nothing')
     status, out = place.python('tools/build.py')
     check(status == 1 and 'vipr is not built' in out and not place.sum.exists(), f'no program: status {status}, {out}')
+    library = place.tree / 'crates/vipr_command/out/rlib'
+    for how, wanted in (('unusable', 0), ('unusable-refused', 1)):
+        library.mkdir(parents=True, exist_ok=True)
+        place.plan(f'proves vipr_command {how}')
+        status, out = place.python('tools/build.py')
+        check(status == wanted and 'all are built once more' in out and place.sum.exists() == (not wanted) and not library.exists(),
+              f'a library that is {how}: status {status}, {out}')
 
 
 def make(place):
@@ -143,40 +156,109 @@ def changes(place):
 
 
 def tests(place):
-    """tests/all.py: a gate or a script that fails in any way."""
-    def all_of(**ends):
+    """tests/all.py: what the toolchain or a script does that fails in any way."""
+    def all_of(*words, **ends):
         place.let_scripts_end(**ends)
-        return place.python('tests/all.py')
-    count = len(gate.SCRIPTS)
+        return place.python('tests/all.py', *words)
+    count = len(SCRIPTS)
     place.plan()
     status, out = all_of()
     check((status, last(out)) == (0, f'{7 + count} passed, 0 failed') and place.is_marked(), f'all is well: {out}')
-    check(all(f'{script} ran' in out for script, *_ in gate.SCRIPTS), f'a script did not run: {out}')
-    # (the gate and a script fail at once: each counts for itself)
+    missing = [name for name in SCRIPTS if f'tests/{name}.py ran []\n' not in out]
+    check(not missing, f'scripts that did not run, or with words: {missing}')
+    check(place.calls()[-1] == 'ci in vipr', f'rt ci has the words {place.calls()}')
+    program = place.run('sha256sum', place.program)[1].split()[0]
+    check(f'sha256 {program} vipr\n' in out, f'the sum of the program is {program}: {out}')
+    # (the toolchain and a script fail at once: each counts for itself)
     killed = 'os.kill(os.getpid(), signal.SIGKILL)'
-    for how, passed, end in (('failed', 6, 'sys.exit(1)'), ('mute', 7, 'sys.exit(2)'), ('killed', 0, 'sys.exit("a fault")'), ('half', 0, 'raise ValueError'), ('nothing', 7, killed)):
+    for how, passed, end in (('failed', 6, 'sys.exit(1)'), ('mute', 7, 'sys.exit(2)'), ('killed', 0, 'sys.exit("a fault")'),
+                             ('half', 0, 'raise ValueError'), ('nothing', 7, killed)):
         if how == 'nothing':
             place.forget()
         place.plan(f'gate {how}')
         status, out = all_of(fuzz=end)
-        check((status, last(out)) == (1, f'{passed + count - 1} passed, 2 failed') and not place.sum.exists(), f'gate {how}, and a script with {end}: status {status}, {last(out)}')
+        check((status, last(out)) == (1, f'{passed + count - 1} passed, 2 failed') and not place.sum.exists(),
+              f'rt ci {how}, and a script with {end}: status {status}, {last(out)}')
     place.plan()
     status, out = all_of(fuzz=killed)
-    check((status, last(out)) == (1, f'{6 + count} passed, 1 failed') and place.is_marked(), f'a script with {killed}: {last(out)}')
+    check((status, last(out)) == (1, f'{6 + count} passed, 1 failed') and place.is_marked() and 'FAILED: fuzz\n' in out,
+          f'a script with {killed}: {last(out)}')
+    status, out = all_of(library='sys.exit(1)', house='sys.exit(1)')
+    check((status, last(out)) == (1, f'{5 + count} passed, 2 failed'), f'two scripts fail: {status}, {last(out)}')
+    skipped = 'print("fuzz: no strace here, so this is left out")\nprint("fuzz: no git here, so that is")'
+    status, out = all_of(fuzz=skipped, calls=skipped)
+    check((status, last(out)) == (0, f'{7 + count} passed, 0 failed, 4 skipped'), f'two scripts leave out two things: {last(out)}')
+    for words, known, wanted in ((['--anew'], '', 'ci --anew'), (['--anew'], 'help plain', 'ci')):
+        place.plan(known)
+        status, out = all_of(*words)
+        check(status == 0 and f'{wanted} in vipr' in place.calls(), f'{words}, {known}: rt has the words {place.calls()}')
+    place.plan()
+    status, out = all_of(tools='sys.exit(1)')
+    check((status, last(out)) == (1, '0 passed, 1 failed') and not place.calls(), f'tests/tools.py fails: {status}, {out}')
+
+
+def what_is_packed(place):
+    """tools/dist.py says of the archive which commit it is of, and whether files were changed since."""
+    question = 'import sys; sys.path.insert(0, "tools"); import dist; print(dist.build_of("1.0.0"))'
+    for name in ('vipr/out/vipr', 'vipr_c/out/libvipr.a', 'vipr_c/out/libvipr.so.1.0.0'):
+        path = place.tree / 'crates' / name
+        path.parent.mkdir(parents=True, exist_ok=True)
+        path.write_text('')
+    if not shutil.which('git'):
+        CHECKS.skip('git', 'what an archive says of its commit was not tried')
+        return
+    git = 'git', '-c', 'user.name=tests', '-c', 'user.email=tests@localhost'
+    place.run(*git, 'init', '-q')
+    place.run(*git, 'add', 'README.md')
+    place.run(*git, 'commit', '-q', '-m', 'one page')
+    commit = place.run(*git, 'rev-parse', 'HEAD')[1].strip()
+    for change, said in (('', commit), ('one more line\n', f'{commit} with changes')):
+        with open(place.tree / 'README.md', 'a', encoding='utf-8') as page:
+            page.write(change)
+        out = place.python('-c', question)[1]
+        check(f'\ncommit: {said}\n' in out, f'a tree with the change {change!r}, of {said}: {out}')
+
+
+def failing_scripts(place):
+    """A script with a failing check, and a failing script of each kind, ends with status 1 and says how many failed. These
+    checks don't go through `Checks`, of which the first ones are."""
+    front = 'import sys\nsys.path.insert(0, "tests")\nfrom texts import Checks\nchecks = Checks("script")\n'
+    for body, wanted in (('checks.check(True, "")', (0, 'script: 1 checks, 0 failed')),
+                         ('checks.check(False, "a fault")', (1, 'script: 1 checks, 1 failed')),
+                         ('checks.check(False, "one"); checks.check(False, "two")', (1, 'script: 2 checks, 2 failed')),
+                         ('checks.expect("what", 1, 2)', (1, 'script: 0 checks, 1 failed')),
+                         ('checks.fail("a fault")', (1, 'script: 0 checks, 1 failed'))):
+        status, out = place.python('-c', f'{front}{body}\nsys.exit(checks.end())')
+        if (status, last(out)) != wanted:
+            sys.exit(f'tools: a script with {body} ends with status {status}: {out}')
+    liar, copy = place.room / 'liar', place.room / 'copy'
+    liar.write_text('#!/bin/sh\necho verified infeas\n')
+    liar.chmod(0o755)
+    copy.mkdir()
+    for path in TOP.iterdir():
+        if path.name in ('tests', 'tools'):
+            shutil.copytree(path, copy / path.name)
+        elif path.name not in ('.git', 'README.md', 'crates.txt'):
+            (copy / path.name).symlink_to(path)
+    (copy / 'README.md').write_text('It is a sentence' + ' of many words' * 20 + '.\n')
+    (copy / 'crates.txt').write_text((TOP / 'crates.txt').read_text() + 'no_crate:\n')
+    for name, *words in (['house'], ['language', 'README.md'], ['fuzz', '--models', '2', '--runs', '0', liar]):
+        status, out = place.run(sys.executable, copy / f'tests/{name}.py', *words)
+        if status != 1 or not re.fullmatch(rf'{name}: \d+ \w+.*, [1-9]\d* failed.*', last(out)):
+            sys.exit(f'tools: tests/{name}.py over what is wrong ends with status {status}: {out[-500:]}')
 
 
 def last(out):
+    """The last line of an output."""
     return out.rstrip('\n').rpartition('\n')[2]
 
 
 def scripts():
-    """Each script of tests/ is run by tests/all.py, or is named there."""
-    there = {it.stem for it in (TOP / 'tests').glob('*.py')}
-    run = {Path(it[0]).stem for it in gate.SCRIPTS if it[0].startswith('tests/')}
-    check(there == run | gate.OTHERS and not run & gate.OTHERS, f'of tests/ these are in no list, or in both: '
-          f'{sorted(there ^ (run | gate.OTHERS)) + sorted(run & gate.OTHERS)}')
-    missing = [it[0] for it in gate.SCRIPTS if not (TOP / it[0]).is_file()]
-    check(not missing, f'tests/all.py runs scripts that are not there: {missing}')
+    """Each script of tests/ is run by tests/all.py, or is one of OTHERS. What has no first line for a shell is a module."""
+    there = {path.stem for path in (TOP / 'tests').glob('*.py') if path.read_text().startswith('#!')}
+    run = ['tools', *test_command.FIRST, *test_command.THEN]
+    check(sorted(run) == sorted(SCRIPTS), f'tests/all.py runs {sorted(run)}')
+    check(there == SCRIPTS | OTHERS, f'tests/ has these in no list, or lacks them: {sorted(there ^ (SCRIPTS | OTHERS))}')
 
 
 def libraries(place):
@@ -200,6 +282,8 @@ def main():
         changes(place)
         libraries(place)
         tests(place)
+        what_is_packed(place)
+        failing_scripts(place)
     return CHECKS.end()
 
 

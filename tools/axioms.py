@@ -14,7 +14,6 @@ import sys
 from pathlib import Path
 
 TOP = Path(__file__).resolve().parent.parent
-sys.path.insert(0, str(TOP / 'tests'))
 from sources import crates, replaced  # noqa: E402
 
 KIT = Path(os.path.realpath(shutil.which(os.environ.get('RT', 'rt')) or 'rt')).parents[1]

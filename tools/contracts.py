@@ -1,21 +1,15 @@
-#!/usr/bin/env python3
-"""Writes the tables of docs/CONTRACTS.md from the sources, or says whether they are current.
-
-usage: tests/proof.py [--check]
+"""The tables of docs/CONTRACTS.md from the sources, which tools/write_pages.py writes.
 
 A row for each public call: the call, the names of its clauses (`-` for one without a name), the definitions that they
 cite, the laws that its proof cites, and the edits of its code, first those of must-fail/. Edits of what lies below the public
-calls stand in the lines below a crate's table. Of docs/PROOF.md it says which crate has no heading there, which clause in
-brackets is none of the calls before it, or of the record behind `of`, and which edit that it names isn't there.
+calls stand in the lines below a crate's table.
 """
-import os
 import re
-import sys
 
 from sources import TOP, blanked, braced, crates, edits, files_of, functions, owners, read, record_fields, replaced
 
 PROOF, CONTRACTS = TOP / 'docs/PROOF.md', TOP / 'docs/CONTRACTS.md'
-MARKS = '<!-- tables: written by `tests/proof.py` from the sources -->', '<!-- end of the tables -->'
+MARKS = '<!-- tables: written by `tools/contracts.py` from the sources -->', '<!-- end of the tables -->'
 # crates that only have the public names of others
 WITHOUT_CALLS = ('vipr_lib',)
 # where a crate has edits: those that `rt ci` tries, and those that `make wrong` tries
@@ -158,18 +152,12 @@ def faults_of_page(text):
                     yield f'{crate}: {record or calls} has no clause {clause}'
 
 
-def main():
-    faults = list(faults_of_page(PROOF.read_text()))
-    for fault in faults:
-        print(f'{os.path.relpath(PROOF, TOP)}: {fault}')
-    text = CONTRACTS.read_text()
-    new = replaced(text, MARKS, tables())
-    if '--check' in sys.argv:
-        print(f'docs/CONTRACTS.md is {"current" if new == text else "not what tests/proof.py makes of the sources"}')
-        return int(new != text or bool(faults))
-    CONTRACTS.write_text(new)
-    return int(bool(faults))
+def made():
+    """The page, by its path."""
+    return {CONTRACTS: replaced(CONTRACTS.read_text(), MARKS, tables())}
 
 
-if __name__ == '__main__':
-    sys.exit(main())
+def faults():
+    """Which crate has no heading in docs/PROOF.md, and which clause in brackets there is none of the calls before it, or of
+    the record behind `of`."""
+    return [f'docs/PROOF.md: {fault}' for fault in faults_of_page(PROOF.read_text())]

@@ -1,24 +1,21 @@
 #!/usr/bin/env python3
-"""Writes docs/STATEMENT.md: what one has to believe of the definitions, quoted from the spec files.
+"""docs/STATEMENT.md: what one has to believe of the definitions, quoted from the spec files.
 
-usage: tests/statement.py [--check] [--missing]
+usage: tools/statement.py     lists the definitions without an example, and the examples without a definition
 
 Each part of the page is made from clauses of the contract of a call: every definition that they rest on is found, in
 whatever file it is, and quoted once, in the order in which the files are to be read, with its example. Proofs aren't
 quoted: the check believes none of them. Nor is, in the three parts, a definition that a law hides: the law is quoted
 instead, and its proof is part of the check. What no clause needs is in the appendix. The example of a definition X is
-the clause `X_is` of the crate vipr_worked, which the prover computes, or a sentence of tests/statement_examples.md.
-
---check compares with the file, and fails if it isn't current or too long, or if a part has more lines to believe than
-it may. --missing lists the definitions without an example, and the examples without a definition.
+the clause `X_is` of the crate vipr_worked, which the prover computes, or a sentence of tools/statement_examples.md.
+tools/write_pages.py writes the page.
 """
 import re
-import sys
 import textwrap
 
 from sources import CRATES, TOP, files_of, functions, head_of, in_order, read, record_fields
 
-TARGET, EXAMPLES = TOP / 'docs/STATEMENT.md', TOP / 'tests/statement_examples.md'
+TARGET, EXAMPLES = TOP / 'docs/STATEMENT.md', TOP / 'tools/statement_examples.md'
 SPEC_CRATES = ['vipr_spec', 'vipr_bytes', 'vipr_cert', 'vipr_check', 'vipr_tighten']
 MOST_LINES = 1735
 # the columns of a line that is quoted with its comment, and of an item of examples
@@ -166,7 +163,7 @@ INSTEAD = {'hidden': {'HasGoodSteps', 'natural_of'}, 'instead': ['PassesSteps', 
 
 HEAD = '''# The statement
 
-<!-- written by tests/statement.py from the spec files; `make statement` writes it anew -->
+<!-- written by tools/statement.py from the spec files; `make statement` writes it anew -->
 
 **Verified** means that the bytes read spell a certificate that is a proof by the rules below, and so state a problem and \
 solutions of which the claim is true. No feasible point is there; \
@@ -655,20 +652,22 @@ def anchor(heading):
     return re.sub(r'[^\w -]', '', heading.lower()).replace(' ', '-')
 
 
+def made():
+    """The page, by its path."""
+    return {TARGET: page()[0]}
+
+
+def faults():
+    """What is wrong with the page: a part with too many lines to believe, a law that is gone, a definition without an
+    example."""
+    _, found, examples = page()
+    return found + [f'no example: {definition}' for definition in examples.without]
+
+
 def main():
-    new, faults, examples = page()
-    if '--missing' in sys.argv:
-        print('\n'.join(['no example: ' + w for w in examples.without] + ['no definition: ' + u for u in examples.unused()]))
-        return 0
-    if '--check' in sys.argv:
-        if read(TARGET) != new:
-            faults.append('docs/STATEMENT.md is not current: run tests/statement.py')
-        print('\n'.join(faults))
-        return 1 if faults else 0
-    TARGET.write_text(new, encoding='utf-8')
-    print('\n'.join(faults + ['docs/STATEMENT.md: %d lines; definitions without an example: %d' % (new.count('\n'), len(examples.without))]))
-    return 1 if faults else 0
+    examples = page()[2]
+    print('\n'.join(['no example: ' + w for w in examples.without] + ['no definition: ' + u for u in examples.unused()]))
 
 
 if __name__ == '__main__':
-    sys.exit(main())
+    main()

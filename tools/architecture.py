@@ -1,19 +1,11 @@
-#!/usr/bin/env python3
-"""Draws docs/architecture.svg: the life of a certificate, and the graph of crates.txt by level.
-
-usage: docs/architecture.py [--check]
-
---check says whether the picture is current; the exit status is 1 if it isn't.
-"""
-import sys
+"""docs/architecture.svg, the life of a certificate and the graph of crates.txt by level, and the same graph in words in
+docs/ARCHITECTURE.md. tools/write_pages.py writes both."""
 from html import escape
-from pathlib import Path
 
-TOP = Path(__file__).resolve().parent.parent
-sys.path.insert(0, str(TOP / 'tests'))
-from sources import levels  # noqa: E402
+from sources import TOP, crates, levels, replaced
 
-PICTURE = TOP / 'docs/architecture.svg'
+PICTURE, PAGE = TOP / 'docs/architecture.svg', TOP / 'docs/ARCHITECTURE.md'
+GRAPH = '<!-- crate graph: written by `tools/architecture.py` from crates.txt -->', '<!-- end of the crate graph -->'
 LIFE = [('bytes', 'a file, or standard input', 'vipr_bytes'), ('tokens', 'each with its offset', 'vipr_scan'),
         ('items', 'problem, solutions, derivations', 'vipr_read'),
         ('tests', 'the first that fails stops', 'vipr_rules, vipr_check'), ('verdict', 'two lines, or one', 'vipr_command')]
@@ -114,14 +106,17 @@ def picture():
     return '\n'.join(out + ['</svg>']) + '\n'
 
 
-def main():
-    made = picture()
-    if '--check' in sys.argv:
-        good = PICTURE.is_file() and PICTURE.read_text() == made
-        print(f'docs/architecture.svg is {"current" if good else "not what docs/architecture.py draws"}')
-        return int(not good)
-    PICTURE.write_text(made)
-    return 0
+def graph():
+    """The graph as the page has it: by level, each crate with the crates directly below it."""
+    deps, (level, direct) = crates(), levels()
+    width, rows = max(map(len, deps)), []
+    for crate in sorted(deps, key=lambda crate: (level[crate], crate)):
+        kit = ''.join(f' {dep}' for dep in deps[crate] if dep not in deps)
+        row = f'{level[crate]}  {crate.ljust(width)}  {" ".join(sorted(direct[crate]))}{kit and " +" + kit}'
+        rows.append(row.rstrip())
+    return '\n'.join([GRAPH[0], '```text', *rows, '```', GRAPH[1]])
 
 
-sys.exit(main())
+def made():
+    """The picture and the page, by their paths."""
+    return {PICTURE: picture(), PAGE: replaced(PAGE.read_text(), GRAPH, graph())}
