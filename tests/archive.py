@@ -135,6 +135,9 @@ def made(folder):
 def use(place):
     status, out, fault = place.run('sha256sum -c --quiet SHA256SUMS')
     check(status == 0, out + fault)
+    listed = {line.split('  ', 1)[1] for line in (place.folder / 'SHA256SUMS').read_text().splitlines()}
+    there = {name for name in files_in(place.folder) if not (place.folder / name).is_symlink()} - {'SHA256SUMS'}
+    check(listed == there, f'SHA256SUMS has these too many or too few: {sorted(listed ^ there)}')
     build = (place.folder / 'BUILD').read_text()
     check(build == (place.folder / 'share/doc/vipr/BUILD').read_text(), 'the pages have another BUILD')
     for file in ('bin/vipr', 'lib/libvipr.a', f'lib/libvipr.so.{VERSION}'):

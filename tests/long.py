@@ -19,9 +19,8 @@ What each page says is worked out again: page_model.py reads it line by line, wi
 program. So are the pages of N texts that are examples with parts damaged, or with one number changed, by both profiles, and those
 of texts that are large in one respect.
 
-Each page is compared with the one that tests/long_pages.txt has of its text, so no word of it changes unseen; --write
-writes that file. There is a page for each cause, by each of the two profiles where they differ; and each text in the
-sources of the pages is in one of them.
+The first page of each cause, and of each form that pages of it have, is compared with the one in tests/long_pages.txt: there
+a reader sees what a change of words does. --write writes that file. Each text in the sources of the pages is in a page.
 
 Prints each fault, and last `long: N checks, F failed`; the exit status is 1 if one failed.
 """
@@ -629,15 +628,30 @@ def keep(name, page, path):
     pages[name] = page.replace(str(path), 'FILE')
 
 
+def kind_of(page):
+    """The cause that a page is of, and how it begins."""
+    cause = re.search(r'^  = see: .*cause (\d+)', page, re.M)
+    return cause and cause[1], re.match(r'\w*:? ?\w*', page.strip())[0]
+
+
+def first_of_each_kind():
+    """The first page of each kind, by its name."""
+    first = {}
+    for name, page in pages.items():
+        first.setdefault(kind_of(page), name)
+    return {name: pages[name] for name in first.values()}
+
+
 def compare():
-    """Compares the pages with those of the file, or writes them there."""
-    text = ''.join(f'==== {name}\n{page}' for name, page in pages.items())
+    """Compares the first page of each kind with that of the file, or writes them there."""
+    kept = first_of_each_kind()
     if GIVEN.write:
+        text = ''.join(f'==== {name}\n{page}' for name, page in kept.items())
         PAGES.write_text(text, encoding='ascii')
     known = dict(part.split('\n', 1) for part in PAGES.read_text(encoding='ascii').split('==== ')[1:])
-    for name, page in pages.items():
+    for name, page in kept.items():
         check(known.get(name) == page, f'{name}: another page than in {PAGES.name}: {page}')
-    check(list(known) == list(pages), f'{PAGES.name} has the names {set(known) ^ set(pages)} too many or too few')
+    check(list(known) == list(kept), f'{PAGES.name} has the names {set(known) ^ set(kept)} too many or too few')
 
 
 def texts_of_pages():
@@ -653,7 +667,7 @@ def texts_of_pages():
 
 
 def count_unreached():
-    """Each text of the sources is in a page of the file."""
+    """Each text of the sources is in a page."""
     whole = '\n'.join(pages.values())
     for file, text, pattern in texts_of_pages():
         check(text in UNREACHED or re.search(pattern, whole), f'no page has this text of {file}: {text!r}')
