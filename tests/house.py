@@ -357,7 +357,7 @@ def versions_agree():
     """Each place that names the program's version names that of the command line."""
     number = re.search(r'\.version\("(.*)"\)', read(os.path.join(CRATES, 'vipr_command', 'src', 'args.rt')))[1]
     places = {'include/vipr.h': r'VIPR_VERSION "(.*)"', 'man/vipr.1': r'^\.TH .*"vipr (\S*)"',
-              'tests/answers.py': r"b'vipr (\S*)\\n'", 'CITATION.cff': r'^version: (.*)$', 'CHANGELOG.md': r'^## ([^,\n]*)'}
+              'tests/answers.py': r"b'vipr (\S*)\\n'", 'CITATION.cff': r'^version: (.*)$', 'CHANGELOG.md': r'^## (\d[^,\n]*)'}
     for path, pattern in places.items():
         found = re.search(pattern, read(os.path.join(ROOT, path)), re.M)
         if not found or found[1] != number:

@@ -163,7 +163,7 @@ def main():
     pages = [word for word in words if word != '--figures'] or PAGES
     checks = failed = 0
     found = {str(path.relative_to(TOP)) for place in ('.', 'docs', 'examples', 'tools', 'conformance')
-             for path in (TOP / place).glob('*.md')}
+             for path in (TOP / place).glob('*.md')} - {'tools/statement_examples.md'}
     for page in sorted(found - {*PAGES}):
         failed += 1
         print(f'{page}: is not in PAGES')
