@@ -309,6 +309,13 @@ def goes_on(place):
             == (int(wanted != {"values": 2}), counts(**wanted), checks),
             f"a run over all after a change of {change}, {plan}: {status}, {out}, {place.checks()}",
         )
+    with (low / "out/wrong-versions").open("a") as kept:
+        kept.write("a1b2")
+    status, out, last = place.run()
+    check(
+        (last, place.checks()) == (counts(values=1, search=1), []),
+        f"a row that is half there: {status}, {out}",
+    )
     place.run("low")
     check(set(place.checks()) == {"one", "two"}, f"a run by name: {place.checks()}")
 

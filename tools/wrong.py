@@ -346,8 +346,9 @@ class Earlier:
     def __init__(self, crate):
         self.file = Path(crate.folder, "out", "wrong-versions")
         self.stamp = crate.stamp().encode() + Path(__file__).read_bytes()
-        rows = self.file.read_text().split("\n") if self.file.exists() else []
-        self.outcomes = dict(row.split(" ") for row in rows if row)
+        text = self.file.read_text() if self.file.exists() else ""
+        # (the last row of a run that was killed may be half there)
+        self.outcomes = dict(re.findall(r"^(\w+) (VALUES|SEARCH|PROOF)$", text, re.M))
 
     def sum_of(self, path):
         return hashlib.sha256(self.stamp + path.read_bytes()).hexdigest()
