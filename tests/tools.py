@@ -12,6 +12,7 @@ is run by tests/all.py, and a failing one says so.
 Prints each fault, and last `tools: N checks, F failed`; the exit status is 1 if one failed.
 """
 import os
+import re
 import shutil
 import subprocess
 import sys

@@ -33,6 +33,11 @@ LAWS = {
         'Fractions', 'vipr_spec/src/arithmetic.rt',
         'A law says what fractions are. `over p q` is p / q; `x.numer` and `x.denom` are the parts of x. If you believe '
         'the law, you need none of the definitions by which they are computed ([appendix](#appendix)).', COMPUTED),
+    'states_one': (
+        'Problems and texts', 'vipr_spec/src/short.rt',
+        'A law says that a text states at most one problem and one list of solutions. So the clause `holds` is about one '
+        'problem, and these definitions don\'t take too much for what a text states. By another law, `proofs_mean`, they '
+        'don\'t take too little: each text that spells a proof states a problem of which its claim holds.', set()),
     'field_by_field': (
         'Problem, claim and certificate', 'vipr_spec/src/step_by_step.rt',
         'A reason names constraints by an index: those of the problem come first, and then the derivations; past the '
@@ -54,14 +59,14 @@ IN_MEMORY = 'vipr_check/src/in_memory.rt'
 # these begin or those clauses that imply the others, the most lines to believe for them, the laws that stand for
 # definitions, those that they cite instead, those that they hide, what the part says, and what a reader knows behind it.
 PARTS = [
-    {'title': 'The statement, for whoever fears a false `verified`', 'call': 'is_verified', 'shown': ['means'], 'core': ['Means'],
-     'most': 120, 'laws': ['cross_products'], 'instead': [],
+    {'title': 'The statement, for whoever fears a false `verified`', 'call': 'is_verified', 'shown': ['states', 'holds'], 'core': ['Means'],
+     'most': 130, 'laws': ['cross_products', 'states_one'], 'instead': [],
      'hidden': COMPUTED | {'gcd', 'euclid', 'IsLowest', 'ℚ'},
      'what': 'What a `true` of `is_verified` promises of the bytes, and all that it rests on. The first lines say what a point, '
              'a constraint, a problem and a true claim are; the others how bytes state a problem. Nothing here speaks of rules '
-             'or derivations, so no mistake in a rule can make it false. That no text states two problems is a law about the words '
-             'of part 2 (`one_problem`), and not about these.',
-     'known': 'If `is_verified` answers `true`, the bytes state a problem and listed solutions, and what they claim is true. '
+             'or derivations, so no mistake in a rule can make it false.',
+     'known': 'If `is_verified` answers `true`, the bytes state a problem and listed solutions, and of whatever problem they '
+              'state the claim is true. '
               'Under `infeas` no point is feasible. Under `range` the dual bound holds at each feasible point; and if a primal '
               'bound is claimed, a listed solution is feasible and attains it. Stop here if a false `verified` is all that you fear.'},
     {'title': 'Verified in both directions', 'call': 'is_proof', 'shown': ['proof'], 'core': ['SpellsProof'], 'most': 456,
@@ -168,8 +173,8 @@ HEAD = '''# The statement
 **Verified** means that the bytes read spell a certificate that is a proof by the rules below, and so state a problem and \
 solutions of which the claim is true. No feasible point is there; \
 or the dual bound holds at all feasible ones, and if a primal bound is claimed, a listed solution is feasible and attains it. \
-Two functions from bytes to yes or no say it, `is_verified` (part 1) and `is_proof` (part 2): `is_verified(text)` is true only if \
-the text means what it claims, and `is_proof(text)` exactly if it spells a proof.
+Two functions from bytes to yes or no say it, `is_verified` (part 1) and `is_proof` (part 2). Either is true exactly if the text spells a \
+proof, and `is_verified` says what that means for the problem.
 
 **The premises**: the source gives the bytes of the text that is meant, with no failed read and fewer than 2^64 of \
 them. The definitions below say what one means by a problem, a claim and a text. The tools keep their word: the prover, \
@@ -184,7 +189,7 @@ which source it has. So a slice that holds what a file's reads gave gets the sam
 **How to read it.** Part 1 has what a verified text means, part 2 which texts are verified, part 3 the whole answer, and \
 part 4 what `tighten` writes. You can stop after each \
 part: it says what you know by then. A part quotes the definitions that its clauses rest on, word by word from the spec \
-files, and then an example of each. Part 1 has words of its own for all that it needs, some of which mean other things in \
+files, and then examples. Part 1 has words of its own for all that it needs, some of which mean other things in \
 the parts behind it. The prover computes the examples that are terms; `apart`, `example` and \
 `dropped_example` in them are a problem and certificates of `vipr_spec/specs/Examples.antt`. The words `abbrev`, \
 `unfoldable` and `pub` are for the prover, and no part of what one has to believe.
@@ -211,7 +216,7 @@ the parts behind it. The prover computes the examples that are terms; `apart`, `
 COUNTED = '''
 Lines are those to believe: clauses, definitions, and laws that are quoted instead of definitions, without comments and \
 imports. The code that is quoted, and the words of the standard library (numbers, lists, finite maps and sets), aren't \
-counted. The last column is a part without the parts before it: what `means` needs; what `proof` needs; what \
+counted. The last column is a part without the parts before it: what `states` and `holds` need; what `proof` needs; what \
 `any` and `exact` need, which imply all other clauses. These two need no grammar, since a law says that it and the reading \
 are the same. By other laws the tests of derivations (`PassesSteps`) replace their rules there, and the spelling of digits \
 (`SpellsNatural`) replaces how they are read.
