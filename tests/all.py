@@ -33,7 +33,10 @@ BUILT = ["crates/vipr/out/vipr", "crates/vipr_c/out/libvipr.a", "crates/vipr_c/o
 
 def run_ci(words):
     """Runs `rt ci`, and gives how many passed and how many failed."""
-    with subprocess.Popen([RT, "ci", *words], cwd=TOP, stdout=subprocess.PIPE, text=True) as child:
+    words = [RT, "ci", *words]
+    with subprocess.Popen(
+        words, cwd=TOP, stdout=subprocess.PIPE, text=True, errors="replace"
+    ) as child:
         last = ""
         for line in child.stdout:
             print(line, end="", flush=True)
