@@ -628,23 +628,9 @@ def keep(name, page, path):
     pages[name] = page.replace(str(path), 'FILE')
 
 
-def kind_of(page):
-    """The cause that a page is of, and how it begins."""
-    cause = re.search(r'^  = see: .*cause (\d+)', page, re.M)
-    return cause and cause[1], re.match(r'\w*:? ?\w*', page.strip())[0]
-
-
-def first_of_each_kind():
-    """The first page of each kind, by its name."""
-    first = {}
-    for name, page in pages.items():
-        first.setdefault(kind_of(page), name)
-    return {name: pages[name] for name in first.values()}
-
-
 def compare():
     """Compares the first page of each kind with that of the file, or writes them there."""
-    kept = first_of_each_kind()
+    kept = page_texts.first_of_each_kind(pages)
     if GIVEN.write:
         text = ''.join(f'==== {name}\n{page}' for name, page in kept.items())
         PAGES.write_text(text, encoding='ascii')

@@ -1,6 +1,8 @@
 """Texts of which a page of `vipr explain --long` could be wrong alone because they are large: in bytes, in tokens, in items, in
-entries, in numbers, or in the page that they have.
+entries, in numbers, or in the page that they have. And which pages are kept.
 """
+import re
+
 LIMIT = 2**127 - 1
 FRONT = 'VER 1.0 VAR 1 x INT 1 0 OBJ min 1 0 1 CON 1 0 c G 1 1 0 1 '
 ONE = 'z G 1 1 0 1 { lin 1 0 1 } -1\n'
@@ -141,3 +143,17 @@ def path_shown_in(folder, size):
         folder, left = folder / ('\u00e9' * 100), left - 801
     folder.mkdir(parents=True, exist_ok=True)
     return folder / ('\u00e9' * ((left - 1) // 8 - 1) + 'n' * ((left - 1) % 8 + 8))
+
+
+def kind_of(page):
+    """The cause that a page is of, and how it begins."""
+    cause = re.search(r'^  = see: .*cause (\d+)', page, re.M)
+    return cause and cause[1], re.match(r'\w*:? ?\w*', page.strip())[0]
+
+
+def first_of_each_kind(pages):
+    """The first page of each kind, by its name."""
+    first = {}
+    for name, page in pages.items():
+        first.setdefault(kind_of(page), name)
+    return {name: pages[name] for name in first.values()}
