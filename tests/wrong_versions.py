@@ -31,14 +31,15 @@ WHAT = re.compile(r"what: \S.*")
 CASE = "input", "right", "wrong"
 # what rattle-kit-13f said of right code in another form, without the ends of the lines
 RIGHT_CODE = {
-    "the sides of a sum exchanged": "./proofs/pairs/both/Answers.antt:11:104: error: left: "
-    "the two types first differ where one has c.args.r",
+    "the sides of a sum exchanged": "./proofs/pairs/both/Answers.antt:11:104: error: `left`: as "
+    "printed, the two types first differ where one has `c.args.r` (expected)",
     "a sum in the other order": "./proofs/sink_buffer/hand/Answers.antt:5:159: error: "
-    "the two types differ only where",
+    "`returns-in-Ok`: as printed, the two types differ only where one has",
     "two conditions in the other order": "./proofs/split/is_next/Answers.antt:14:83: error: "
-    "expected type c.args.low.denom, but this has type c.args.high.denom",
-    "a mark that is never one, as its contract allows": "proofs/mark/Mark/is_one/Proof.antt:92:5: "
-    "error: is_one_spec: expected type",
+    "`returns-then-is_whole-2`: expected type `c.args.low.denom ≡ 1`, but this has type "
+    "`c.args.high.denom ≡ 1`",
+    "a mark that is never one, as its contract allows": "./proofs/mark/Mark/is_one/Proof.antt:92:5: "
+    "error: `is_one_spec`: expected type",
 }
 
 
