@@ -23,7 +23,7 @@ let check profile file =
 
 let () =
   match List.tl (Array.to_list Sys.argv) with
-  | "--profile" :: "1" :: (_ :: _ as files) -> exit (List.fold_left max 0 (List.map (check Core.First) files))
-  | "--profile" :: "2" :: (_ :: _ as files) -> exit (List.fold_left max 0 (List.map (check Core.Second) files))
+  | "--profile" :: "1" :: (_ :: _ as files) -> exit (List.fold_left max 0 (List.map (check Core.Profile1) files))
+  | "--profile" :: "2" :: (_ :: _ as files) -> exit (List.fold_left max 0 (List.map (check Core.Profile2) files))
   | "--profile" :: _ | [] -> prerr_endline "usage: vipr-rocq [--profile 1|2] FILE .."; exit 2
-  | files -> exit (List.fold_left max 0 (List.map (check Core.First) files))
+  | files -> exit (List.fold_left max 0 (List.map (check Core.Profile1) files))

@@ -39,13 +39,14 @@ AT_ONCE = 100
 WRONG = {
     'sign of L in a sum': (
         'let u := snd e * sign (what (at_in t (fst e))) in',
-        'let u := snd e * match sense (what (at_in t (fst e))) with E => 0 | _ => 1 end in'),
-    'floor for ceiling': ('(Qceiling (side_ a))) d', '(Qfloor (side_ a))) d'),
+        'let u := snd e * match sense (what (at_in t (fst e))) with Equal => 0 | _ => 1 end in'),
+    'floor for ceiling': ('(Qceiling (computed_side a))) d', '(Qfloor (computed_side a))) d'),
     'an assumption kept out of the wrong branch': ('without l1 i1', 'without l2 i1'),
-    'cutoff by the worst solution': ('(if is_min p then a else b)', '(if is_min p then b else a)'),
+    'cutoff by the worst solution': ('if is_min p then least else greatest', 'if is_min p then greatest else least'),
     'a split with a gap': ('Qeq_bool high (low + 1)', 'Qle_bool (low + 1) high'),
     'an equation rounded': (
-        '| E => negb (is_whole (side_ a)) || dominates a d', '| E => dominates (with_side a (Qfloor (side_ a))) d'),
+        '| Equal => negb (is_whole (computed_side a)) || dominates a d',
+        '| Equal => dominates (with_side a (Qfloor (computed_side a))) d'),
     'a goal with assumptions': (
         'found t || goals e a && Indices.is_empty (rests s)', 'found t || goals e a'),
     'a fractional coefficient rounded': ('=> is_zero q || i && is_whole q)', '=> is_zero q || i)'),
