@@ -8,6 +8,7 @@ Without them it is 2,000 texts, seed 1 and crates/vipr/out/vipr.
 Then both programs are given the same texts, by both profiles: each example, and beginnings of it that end at a line; the
 cases of conformance/, as conformance/run.py finds; a text of each family of bench/families.py; and N texts that are examples with
 parts damaged, or with one number, sense or last reference changed. A text has to be verified by both, or refused by both.
+Last, vipr-rocq is run with names and words that could lead it to a wrong answer, and with an output that can't be written.
 
 --wrong tries wrong versions of the checker's tests in place of that: the prover has to refuse each, and a line says where.
 
@@ -131,6 +132,35 @@ def conforms():
         CHECKS.check(done.returncode == 0, f'run.py {" ".join(words)}: {done.stdout.decode()}{done.stderr.decode()}')
 
 
+def try_words():
+    """Whether vipr-rocq has the exit statuses of `vipr check`, and one line for each file."""
+    with tempfile.TemporaryDirectory(prefix='vipr-second-') as name:
+        folder = Path(name)
+        forged = folder / 'a\nverified b'
+        good = folder / 'good'
+        for file in forged, good, folder / '--profile':
+            shutil.copy(TOP / 'examples/infeasible.vipr', file)
+        shutil.copy(TOP / 'examples/covering_split.vipr', folder / 'split')
+        for words, status, said in [
+            ([forged], 0, f'verified {folder}/a\\x0averified b\n'),
+            (['good', 'split'], 1, 'verified good\nrefused split\n'),
+            (['--profile', '2', 'good', 'split'], 0, 'verified good\nverified split\n'),
+            (['split', '--profile', '2'], 2, ''),
+            (['good', '--profile', '2'], 2, ''),
+            (['--profile'], 2, ''),
+            (['--profile', '3', 'good'], 2, ''),
+            (['--', '--profile'], 0, 'verified --profile\n'),
+            (['--'], 2, ''),
+            ([], 2, ''),
+            (['good', 'none'], 3, 'verified good\n'),
+        ]:
+            done = run([SECOND, *words], cwd=folder)
+            CHECKS.check((done.returncode, done.stdout.decode()) == (status, said), f'vipr-rocq {words}: {done}')
+        with open('/dev/full', 'wb') as full:
+            done = run([SECOND, good, folder / 'split'], stdout=full)
+        CHECKS.check(done.returncode == 3 and done.stderr.startswith(b'fault write'), f'/dev/full: {done}')
+
+
 def main():
     if not (shutil.which('coqc') and shutil.which('ocamlfind') and run(['ocamlfind', 'query', 'zarith']).returncode == 0):
         CHECKS.skip('coqc with zarith', 'the theorem is not proved in the second prover')
@@ -145,6 +175,7 @@ def main():
         with ThreadPoolExecutor(os.cpu_count()) as pool:
             list(pool.map(lambda group: compared(first, group), groups))
         conforms()
+        try_words()
     return CHECKS.end()
 
 
