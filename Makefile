@@ -11,18 +11,23 @@
 # make wrong             tries more wrong versions of the code, which the prover has to refuse (hours), CRATES=NAME those of one crate
 # make bench             times the program over certificates that a script makes, beside wc -w and cat
 # make rocq              proves the theorem in a second prover, Rocq, and builds its checker, rocq/vipr-rocq
+# make theorem FILE=path OUT=path.v  writes a certificate as a theorem of Rocq, and has Rocq prove it (PROFILE=2 by that profile)
 # make help              prints these lines
 # make statement         writes anew what is made from the sources: docs/STATEMENT.md, the tables of docs/CONTRACTS.md, the crate graph,
 #                        the man page and the completions
 RT ?= rt
 PYTHON ?= python3
 FILE ?= examples/infeasible.vipr
+OUT ?= rocq/out/certificate.v
+PROFILE ?= 1
 PROGRAM = crates/vipr/out/vipr
 
 # names of the user's reach the shell by the environment, as they are: neither make nor the shell runs what is in one
 PREFIX ?= /usr/local
 override export RT := $(value RT)
 override export FILE := $(value FILE)
+override export OUT := $(value OUT)
+override export PROFILE := $(value PROFILE)
 override export CRATES := $(value CRATES)
 override export PREFIX := $(value PREFIX)
 override export DESTDIR := $(value DESTDIR)
@@ -52,7 +57,7 @@ SONAME = libvipr.so.$(firstword $(subst ., ,$(VERSION)))
 IS_PLAIN = case "$$PREFIX$$LIBRARY_FOLDER" in *[!A-Za-z0-9/._+,@%=:~-]*) \
 	echo "PREFIX and LIBDIR of the library can't have spaces, quotes or other special characters"; exit 1;; esac
 
-.PHONY: help check test build install uninstall lib install-lib uninstall-lib dist house statement wrong bench rocq
+.PHONY: help check test build install uninstall lib install-lib uninstall-lib dist house statement wrong bench rocq theorem
 
 # what the program is made from: check, install and bench build it if it isn't there or one of these is newer
 SOURCES = crates.txt $(shell find crates -name out -prune -o \( -name '*.rt' -o -name '*.antt' \) -print)
@@ -135,3 +140,9 @@ bench: $(PROGRAM)
 
 rocq:
 	@$(MAKE) --no-print-directory -C rocq
+
+theorem:
+	@MAKEFLAGS= $(MAKE) -s -C rocq theorem
+	@mkdir -p rocq/out
+	@$(PYTHON) rocq/theorem.py --profile "$$PROFILE" -- "$$FILE" "$$OUT"
+	@$(PYTHON) rocq/same_bytes.py "$$OUT" "$$FILE"

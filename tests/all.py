@@ -26,7 +26,7 @@ FIRST = "library second".split()
 THEN = (
     "sharpness python long hostile costs pages large fuzz conformance output archive solver growths"
     " calls answers wrong_versions conformance_run kills interface house writer written races"
-    " browser language"
+    " browser language theorems"
 ).split()
 BUILT = ["crates/vipr/out/vipr", "crates/vipr_c/out/libvipr.a", "crates/vipr_c/out/libvipr.so.*"]
 

@@ -1,0 +1,148 @@
+#!/usr/bin/env python3
+"""Certificates as theorems of Rocq: rocq/theorem.py, rocq/same_bytes.py and `make theorem`.
+
+usage: tests/theorems.py [PROGRAM]
+
+Each example has to be a theorem by a profile if `vipr check` verifies it by that, and else to be
+refused; and so have a false claim, a certificate of 100 kB, and one with bytes that can't be
+printed. A theorem with one byte changed, or with a line more, isn't about the certificate. Nothing
+in a name is run, and a file that the script did not write stays as it is.
+
+Prints each fault, and last `theorems: N checks, F failed`. The exit status is 1 if one failed.
+Without coqc nothing is tried, and a line says so.
+"""
+import os
+import shutil
+import sys
+import tempfile
+import time
+from concurrent.futures import ThreadPoolExecutor
+from pathlib import Path
+
+from texts import TOP, Checks, examples, program, run, text_of
+import families
+
+CHECKS = Checks("theorems")
+check = CHECKS.check
+WRITE, COMPARE = TOP / "rocq/theorem.py", TOP / "rocq/same_bytes.py"
+THEOREM = "the_claim_is_true\n     : Means certificate\nClosed under the global context\n"
+STATUSES = {"verified": 0, "refused": 1}
+# more than a certificate of 100 kB takes on a machine with other work
+SECONDS = 600
+NAMES = ["$(shell touch ran)", "$(touch ran)", "`touch ran`", "-x", "a b", "%\"'$$x", "a\nb"]
+SMALL = (TOP / "examples/infeasible.vipr").read_bytes()
+
+
+def certificates():
+    """Texts with their names: the examples, a false claim, strange bytes, and 100 kB."""
+    for path, text in examples(10**9):
+        yield path.stem, text
+    claim = (TOP / "examples/branch_and_bound.vipr").read_bytes()
+    yield "false_claim", claim.replace(b"RTP range 1 1", b"RTP range 2 2")
+    yield "strange_bytes", SMALL.replace(b"x", b'"x\\\xff\0\x7f(*').replace(b" ", b"\t\r ")
+    yield "large", text_of(families.dense, 100_000)
+
+
+def proved(file, out, *more):
+    """What theorem.py answers."""
+    return run([sys.executable, WRITE, *more, file, out], timeout=SECONDS)
+
+
+def same(out, file):
+    """Whether same_bytes.py finds the bytes of a file in a theorem."""
+    return run([sys.executable, COMPARE, out, file]).returncode == 0
+
+
+def try_certificate(first, folder, name, text):
+    """Whether a text is a theorem by a profile if the program verifies it, and not otherwise."""
+    file = folder / f"{name}.vipr"
+    file.write_bytes(text)
+    verdicts = set()
+    for number in 1, 2:
+        words = ["--profile", str(number)]
+        verdict = run([first, "check", *words, file]).stdout.decode().split()[0]
+        if verdict in verdicts:
+            continue
+        verdicts.add(verdict)
+        out = folder / f"{name}_{number}.v"
+        begun = time.monotonic()
+        done = proved(file, out, *words)
+        taken = time.monotonic() - begun
+        said = done.stdout.decode()
+        what = f"{name} by profile {number}: {done}"
+        check(done.returncode == STATUSES[verdict], what)
+        check(said == THEOREM if verdict == "verified" else said.startswith("refused "), what)
+        check(same(out, file), f"{what}: the bytes")
+        if name == "large":
+            print(f"{len(text)} bytes: {taken:.0f} seconds", flush=True)
+
+
+def try_changes(folder):
+    """Whether a theorem that was changed by hand is seen not to be about the certificate."""
+    file, out = folder / "changed.vipr", folder / "changed.v"
+    file.write_bytes(SMALL)
+    proved(file, out)
+    written = out.read_text()
+    changes = {
+        "a digit": ('line "a G 1 1 0 1"', 'line "a G 2 1 0 1"'),
+        "no line feed": ('line "INT 0"', 'part "INT 0"'),
+        "a line less": ('line "VAR 1";\n', ""),
+        "another claim": (": Means certificate", ": Means (certificate ++ certificate)"),
+        "a line more": ("Theorem", "Definition Means (t : text) := True.\nTheorem"),
+        "hidden in a line": ('line "SOL 0";', 'line "SOL 0"; (* " *)'),
+    }
+    check(same(out, file), "the bytes of a theorem that was not changed")
+    for what, (old, new) in changes.items():
+        check(old in written, f"{what}: its text is not there")
+        out.write_text(written.replace(old, new, 1))
+        check(not same(out, file), f"{what}: same_bytes.py did not see it")
+
+
+def try_names(folder):
+    """Whether nothing in a name is run, and only a theorem is written over."""
+    for number, name in enumerate(NAMES):
+        file, out = folder / name, folder / f"named_{number}.v"
+        file.write_bytes(SMALL)
+        words = ["make", "-s", "-C", TOP, "theorem", f"FILE={file}", f"OUT={out}"]
+        done = run(words, timeout=SECONDS)
+        check(done.returncode == 0 and THEOREM in done.stdout.decode(), f"{name!r}: {done}")
+        check(out.is_file(), f"{name!r}: no theorem")
+    check(not Path(TOP, "ran").exists() and not Path("ran").exists(), "a name was run")
+    kept = folder / "kept.v"
+    kept.write_text("Definition mine := 1.\n")
+    for what, words, wanted in [
+        ("a file of another", [folder / "a b", kept], 3),
+        ("no folder", [folder / "a b", folder / "none/x.v"], 3),
+        ("no certificate", [folder / "none", folder / "x.v"], 3),
+        ("no name for Rocq", [folder / "a b", folder / "1-x.v"], 2),
+        ("no profile", ["--profile", "3", folder / "a b", folder / "x.v"], 2),
+        ("one name", [folder / "a b"], 2),
+    ]:
+        done = run([sys.executable, WRITE, *words])
+        check(done.returncode == wanted and done.stderr, f"{what}: {done}")
+    check(kept.read_text() == "Definition mine := 1.\n", "a file of another was written over")
+
+
+def main():
+    """Tries all of it, if Rocq is here."""
+    if not shutil.which("coqc"):
+        CHECKS.skip("coqc", "no certificate is a theorem of Rocq")
+        return CHECKS.end()
+    first = program(sys.argv[1:])
+    made = run(["make", "-s", "-C", TOP / "rocq", "theorem"], timeout=SECONDS)
+    check(made.returncode == 0, made)
+    with tempfile.TemporaryDirectory(prefix="vipr-theorems-") as name:
+        folder = Path(name)
+        with ThreadPoolExecutor(os.cpu_count()) as pool:
+            tried = [
+                pool.submit(try_certificate, first, folder, *certificate)
+                for certificate in certificates()
+            ]
+            tried += [pool.submit(try_changes, folder), pool.submit(try_names, folder)]
+            for one in tried:
+                one.result()
+    return CHECKS.end()
+
+
+if __name__ == "__main__":
+    sys.exit(main())
