@@ -53,7 +53,7 @@ CLOSED = "Closed under the global context"
 PIECES, LONGEST = 256, 64
 # a larger text is announced with the time that it may take
 LARGE = 200_000
-SECONDS, MEGABYTES = 150e-6, 1.4e-3
+SECONDS, MEGABYTES = 100e-6, 1.4e-3
 PIECE = re.compile(rb"([ !-~]{1,%d})(\n?)|([\0-\xff])" % LONGEST)
 
 
