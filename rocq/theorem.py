@@ -25,7 +25,7 @@ from pathlib import Path
 HERE = Path(__file__).resolve().parent
 HEAD = """\
 (* A certificate of VIPR as a theorem, for `coqc -R rocq Vipr`. *)
-From Coq Require Import List.
+From Coq Require Import List NArith.
 From Vipr Require Import Statement Literal Rules Read Checked.
 Import ListNotations.
 """
