@@ -24,9 +24,9 @@ RT = os.environ.get("RT", "rt")
 FIRST = "library second".split()
 # the longest first
 THEN = (
-    "sharpness python long hostile costs pages large fuzz conformance output archive solver growths"
+    "theorems sharpness python long hostile costs pages large fuzz conformance output archive solver growths"
     " calls answers wrong_versions conformance_run kills interface house writer written races"
-    " browser language theorems"
+    " browser language"
 ).split()
 BUILT = ["crates/vipr/out/vipr", "crates/vipr_c/out/libvipr.a", "crates/vipr_c/out/libvipr.so.*"]
 
