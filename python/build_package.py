@@ -1,6 +1,7 @@
 """Builds the package for pip (PEP 517) with the standard library alone: `pip install ./python` needs no network."""
 import base64
 import hashlib
+import io
 import re
 import tarfile
 import zipfile
@@ -12,8 +13,15 @@ TOP = Path(__file__).resolve().parent
 PROJECT = (TOP / 'pyproject.toml').read_text()
 VALUES = dict(re.findall(r'^([\w-]+) = "(.*)"$', PROJECT, re.M))
 NAME = f'{VALUES["name"]}-{VALUES["version"]}'
-METADATA = (f'Metadata-Version: 2.1\nName: {VALUES["name"]}\nVersion: {VALUES["version"]}\n'
-            f'Summary: {VALUES["description"]}\nLicense: Apache-2.0\nRequires-Python: {VALUES["requires-python"]}\n')
+AUTHOR = re.search(r'name = "(.*)", email = "(.*)"', PROJECT)
+CLASSIFIERS = re.findall(r'^    "(.* :: .*)",$', PROJECT, re.M)
+KEYWORDS = ','.join(re.findall(r'"(.*?)"', re.search(r'^keywords = (.*)$', PROJECT, re.M)[1]))
+ABOUT = (TOP / 'vipr/__init__.py').read_text().split('"""')[1].strip()
+METADATA = '\n'.join([
+    'Metadata-Version: 2.1', f'Name: {VALUES["name"]}', f'Version: {VALUES["version"]}', f'Summary: {VALUES["description"]}',
+    f'Keywords: {KEYWORDS}', f'Author: {AUTHOR[1]}', f'Author-email: {AUTHOR[2]}', 'License: Apache-2.0',
+    *(f'Classifier: {it}' for it in CLASSIFIERS), f'Requires-Python: {VALUES["requires-python"]}',
+    'Description-Content-Type: text/plain', '', ABOUT, ''])
 SCRIPTS = ''.join(f'{name} = {call}\n' for name, call in re.findall(r'^(vipr-[\w-]+) = "(.*)"$', PROJECT, re.M))
 
 
@@ -50,7 +58,10 @@ def write_wheel(folder, tag, built):
 
 def build_sdist(sdist_directory, config_settings=None):
     name = f'{NAME}.tar.gz'
-    with tarfile.open(Path(sdist_directory, name), 'w:gz') as archive:
+    with tarfile.open(Path(sdist_directory, name), 'w:gz', format=tarfile.PAX_FORMAT) as archive:
+        info = tarfile.TarInfo(f'{NAME}/PKG-INFO')
+        info.size = len(METADATA.encode())
+        archive.addfile(info, io.BytesIO(METADATA.encode()))
         for path in [*sources(), *(TOP / name for name in ('pyproject.toml', 'build_manual.py', 'build_package.py'))]:
             archive.add(path, f'{NAME}/{path.relative_to(TOP)}')
     return name

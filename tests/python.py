@@ -11,7 +11,7 @@ usage: tests/python.py [PROGRAM [PART ..]]     crates/vipr/out/vipr without it; 
 - compare-mps gives the lines of tests/mps_changes.py for changes of one MPS file and one certificate; it finds each example
   the same as an MPS file that is made of it; on random pairs it answers as a loop over all pairs of conditions does. A
   packed file that is cut is status 3.
-- stats gives the goal of `vipr explain`, and as many needed derivations as `vipr tighten` keeps.
+- stats gives the goal of `vipr explain`, as many needed derivations as `vipr tighten` keeps, and the constraints that they name.
 - picture writes well-formed XML, with a box for each derivation, and the page's picture is as it is in docs/.
 - Each command's man page and completions say what its parser does: each flag and what it is for, and the words of a value.
 - Short texts that stand for long rows or large sets of assumptions are read within limits of memory and processor time.
@@ -20,16 +20,19 @@ usage: tests/python.py [PROGRAM [PART ..]]     crates/vipr/out/vipr without it; 
 Prints each fault, and last `python: N checks, F failed`; the exit status is 1 if one failed.
 """
 import bz2
+import copy
 import functools
 import gzip
 import hashlib
 import importlib.util
 import inspect
+import io
 import itertools
 import json
 import lzma
 import mmap
 import os
+import pickle
 import random
 import re
 import resource
@@ -40,6 +43,7 @@ import xml.etree.ElementTree
 from collections import Counter
 from concurrent.futures import ThreadPoolExecutor
 from pathlib import Path
+from unittest import mock
 
 from texts import TOP, Checks, program, run, text_of
 import families
@@ -51,7 +55,7 @@ sys.path.insert(0, str(TOP / 'python'))
 sys.dont_write_bytecode = True
 import build_manual  # noqa: E402
 import vipr  # noqa: E402
-from vipr import compare_mps, mps, picture, proof as structure, stats  # noqa: E402
+from vipr import compare_mps, files, mps, picture, proof as structure, stats  # noqa: E402
 from mps_changes import CHANGES  # noqa: E402
 
 EXAMPLES = {path: path.read_bytes() for path in sorted((TOP / 'examples').rglob('*.vipr'))}
@@ -216,6 +220,14 @@ def inputs(room):
         packed = room / 'plan.vipr.gz'
         packed.write_bytes(gzip.compress(text))
         check(vipr.check_file(path) == vipr.check_file(str(packed)) == vipr.check(text), 'check_file differs')
+    check(vipr.read_file(path) == vipr.read_file(room / 'plan.vipr') == vipr.read(text), 'read_file differs')
+    whole = vipr.read(text)
+    for copied in (pickle.loads(pickle.dumps(whole)), copy.deepcopy(whole), copy.copy(whole)):
+        check(copied == whole and copied.derivations[-1] == list(whole.derivations)[-1], 'a copy of a certificate is another one')
+    check(not vipr.read(b'VER') and vipr.read(b'VER').refusal.cause is vipr.Cause.TRUNCATED, 'what is refused is true')
+    exported = {}
+    exec('from vipr import *', exported)
+    check(set(vipr.__all__) < set(exported) and exported['read_mps'] is mps.read_mps, 'a name of __all__ is not there')
     project = (TOP / 'python/pyproject.toml').read_text()
     check(f'version = "{vipr.__version__}"' in project, f'__version__ is {vipr.__version__}')
 
@@ -487,6 +499,31 @@ def hostile(room, words):
     check(status == 0 and b'too many steps' in out, f'stats of a long sum: status {status}, {out}, {fault}')
 
 
+def needed_alone():
+    """The constraints that a proof needs are those that `tighten` keeps references to, and without the others it is a proof."""
+    for path, text in EXAMPLES.items():
+        proof = vipr.read(text)
+        if not proof or run([PROGRAM, 'check'], text).returncode:
+            continue
+        found, tight = structure.outline(proof), vipr.read(run([PROGRAM, 'tighten'], text).stdout)
+        first = len(proof.problem.constraints)
+        used = {it for at in range(len(tight.derivations)) for it in tight.references[at] if it < first}
+        used |= {found.goal} if found.goal is not None and found.goal < first else set()
+        check(found.goal is None or {it for it in range(first) if found.needed[it]} == used, f'{path}: needed {found.needed[:first]}, used {used}')
+
+
+def alive():
+    """A terminal shows how far a long run is, and nothing of a short one; no other stream shows anything."""
+    for is_terminal, seconds, wanted in ((True, 3, 'reading 50 %, 3 s'), (True, 1, ''), (False, 3, '')):
+        stream, clock = io.StringIO(), iter([0, seconds, seconds])
+        stream.isatty = lambda: is_terminal
+        with mock.patch('sys.stderr', stream), mock.patch('time.monotonic', lambda: next(clock)):
+            shown = files.Alive()
+            shown.part('reading', 10)(5)
+            shown.end()
+        check((wanted in stream.getvalue()) == bool(stream.getvalue()) == bool(wanted), f'{is_terminal} {seconds}: {stream.getvalue()!r}')
+
+
 def sets_of_assumptions(dice):
     """Sets that share their parts are those that Python's own sets give."""
     constraint = vipr.Constraint('c', 'G', 1, {})
@@ -554,8 +591,13 @@ def commands(room, words):
     for name in NAMES:
         out, fault, status = run([*words[name], '--help'])
         check(status == 0 and b'usage: vipr-' in out and not fault, f'{name} --help: {out} {fault}')
+        out, fault, status = run([*words[name], '--version'])
+        check((status, out, fault) == (0, f'vipr-{name} {vipr.__version__}\n'.encode(), b''), f'{name} --version: {out} {fault}')
         out, fault, status = run([*words[name], '--nothing'])
         check(status == 2 and not out, f'{name} --nothing: {status} {out}')
+    for line, wanted in (([], 0), (['--version'], 0), (['stats', example], 0), (['nothing'], 2)):
+        out, fault, status = run([sys.executable, '-m', 'vipr', *line])
+        check(status == wanted and bool(out) == (wanted == 0) and bool(fault) == (wanted == 2), f'python3 -m vipr {line}: {status} {out} {fault}')
     for name, before in front.items():
         out, fault, status = run([*words[name], *before, room / 'missing.vipr'])
         check((status, out) == (3, b'') and fault.endswith(b'missing.vipr: No such file or directory\n'), f'{name}: {fault}')
@@ -576,6 +618,12 @@ def commands(room, words):
     check((status, out) == (2, b'') and b'only one of the two' in fault, f'compare-mps - -: {status} {out} {fault}')
     if library():
         checked(room, words['compare-mps'])
+    rows = run([*words['stats'], '--needed', TOP / 'examples/plan.vipr']).stdout.decode().rstrip('\n').split('\n')
+    check(rows[0] == '3 of 9 constraints of the problem are needed for the goal 14' and len(rows) == 4, f'stats --needed: {rows}')
+    check(all(row.split('\t')[0].isdigit() and len(row.split('\t')) == 3 for row in rows[1:]), f'stats --needed: {rows}')
+    out = run([*words['stats'], '--needed', '--json', TOP / 'examples/plan.vipr']).stdout
+    found = json.loads(out)
+    check([[str(it['index']), it['name'], it['text']] for it in found['constraints']] == [row.split('\t') for row in rows[1:]], f'{found} {rows}')
     out, _, status = run([*words['stats'], '--json', example])
     check(json.loads(out)['goal'] == 6, out)
     _, fault, status = run([*words['picture'], example, '-o', room / 'no/picture.svg'])
@@ -713,7 +761,7 @@ def called(texts):
         calls(texts[::3])
 
 
-PARTS = (called, inputs, types, causes, comparisons, sides, many_rows, turned_claims, figures, sets_of_assumptions, pictures, hostile, commands,
+PARTS = (called, inputs, types, causes, comparisons, sides, many_rows, turned_claims, figures, needed_alone, alive, sets_of_assumptions, pictures, hostile, commands,
          manual, check_all, unpacked, closed, large)
 
 

@@ -10,6 +10,7 @@ from pathlib import Path
 from typing import Callable, Iterable, NoReturn, Optional, Union
 
 from .packed import SUFFIXES, NotWhole, unpacked
+from .version import VERSION
 
 VERIFIED, REFUSED, MISUSED, FAILED = range(4)
 LONG, OFTEN = 2, 0.5  # seconds until a terminal shows how far a command is, and until it changes
@@ -87,6 +88,7 @@ class Parser(argparse.ArgumentParser):
     def __init__(self, name: str, about: Optional[str]):
         open_streams()
         super().__init__(prog=f'vipr-{name}', description=about, formatter_class=argparse.RawDescriptionHelpFormatter)
+        self.add_argument('--version', action='version', version=f'vipr-{name} {VERSION}', help='the version of the package')
 
     def error(self, message: str) -> NoReturn:
         super().error(printable(message))

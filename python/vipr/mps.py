@@ -178,7 +178,9 @@ class _Reader:
         self.seen: Set[bytes] = set()
         self.line = 0
         self.is_marked = False
+        # the column at hand, and its number
         self.column: Optional[bytes] = None
+        self.at = 0
         self.sets: Dict[bytes, Optional[bytes]] = {}
         self.readers: Dict[bytes, Callable[[List[bytes]], None]] = {
             b'ROWS': self.row, b'COLUMNS': self.entry, b'RHS': self.right_side, b'RANGES': self.range_, b'BOUNDS': self.bound}
@@ -189,6 +191,8 @@ class _Reader:
     def lines(self, text: bytes) -> None:
         for self.line, line in enumerate(io.BytesIO(text), 1):
             fields = line.split()
+            if len(fields) == 3 and fields[0] == self.column and self.is_plain_entry(line, fields):
+                continue
             if not fields or line[:1] == b'*':
                 continue
             if self.section == b'ENDATA':
@@ -227,7 +231,7 @@ class _Reader:
         elif word != b'NAME' and len(fields) > 1:
             raise self.fault(Cause.FIELD_COUNT)
         self.seen.add(word)
-        self.section = word
+        self.section, self.column = word, None
 
     def direction(self, word: bytes) -> None:
         if word not in MAXIMIZE + MINIMIZE:
@@ -262,8 +266,8 @@ class _Reader:
             if name in self.columns:
                 raise self.fault(Cause.REPEATED_COLUMN, name)
             self.columns[name] = Column(len(self.columns), self.line, self.is_marked, None, None)
-            self.column = name
-        column = self.columns[name].number
+            self.column, self.at = name, self.columns[name].number
+        column = self.at
         for at in range(1, len(fields), 2):
             row = self.entries.get(fields[at])
             if row is None:
@@ -272,6 +276,14 @@ class _Reader:
             if column in row:
                 raise self.fault(Cause.REPEATED_ENTRY, fields[at])
             row[column] = value
+
+    def is_plain_entry(self, line: bytes, fields: List[bytes]) -> bool:
+        """Takes one more entry of the column at hand, if nothing about it needs a second look: most lines are such ones."""
+        row, token = self.entries.get(fields[1]), fields[2]
+        if row is None or self.at in row or not (token.isdigit() and len(token) < 39) or line[0] not in WHITE or b'$' in line:
+            return False
+        row[self.at] = int(token)
+        return True
 
     def pairs(self, fields: List[bytes], before: Dict[bytes, Tuple[Number, int]]) -> Iterator[Tuple[bytes, Number]]:
         """Pairs of a row and a number; no row comes twice."""
