@@ -116,11 +116,15 @@ install-lib: $(MADE)/libvipr.a
 	@install -d "$$LIB/pkgconfig"
 	@sed "s|@PREFIX@|$$PREFIX|; s|@LIBDIR@|$$LIBRARY_FOLDER|; s|@VERSION@|$(VERSION)|" include/vipr.pc.in > "$$LIB/pkgconfig/vipr.pc"
 	@chmod 644 "$$LIB/pkgconfig/vipr.pc"
+	@install -D -m 644 include/vipr-config.cmake "$$LIB/cmake/vipr/vipr-config.cmake"
+	@printf '%s\n' 'set(PACKAGE_VERSION $(VERSION))' 'if(NOT PACKAGE_FIND_VERSION VERSION_GREATER PACKAGE_VERSION)' \
+		'  set(PACKAGE_VERSION_COMPATIBLE TRUE)' 'endif()' > "$$LIB/cmake/vipr/vipr-config-version.cmake"
 	@printf '%s\n' "the library is installed in $$LIB"
 
 uninstall-lib:
 	@$(IS_PLAIN)
-	@rm -f -- "$$INCLUDE/vipr.h" "$$LIB/pkgconfig/vipr.pc" "$$LIB/libvipr.a" "$$LIB/$(SHARED)" "$$LIB/$(SONAME)" "$$LIB/libvipr.so"
+	@rm -f -- "$$INCLUDE/vipr.h" "$$LIB/pkgconfig/vipr.pc" "$$LIB/cmake/vipr/vipr-config.cmake" \
+		"$$LIB/cmake/vipr/vipr-config-version.cmake" "$$LIB/libvipr.a" "$$LIB/$(SHARED)" "$$LIB/$(SONAME)" "$$LIB/libvipr.so"
 	@printf '%s\n' "the library is removed from $$LIB"
 
 dist: $(PROGRAM) $(MADE)/libvipr.a

@@ -33,6 +33,18 @@ def build_wheel(wheel_directory, config_settings=None, metadata_directory=None):
     return write_wheel(wheel_directory, 'py3-none-any', {})
 
 
+def entry_points():
+    return f'[console_scripts]\n{SCRIPTS}'
+
+
+def write_info(folder):
+    """Writes what other packages ask of an installed one, below a folder of packages."""
+    info = Path(folder, f'{NAME}.dist-info')
+    info.mkdir(parents=True, exist_ok=True)
+    (info / 'METADATA').write_text(METADATA)
+    (info / 'entry_points.txt').write_text(entry_points())
+
+
 def write_wheel(folder, tag, built):
     """Writes a wheel of the package and of files that were built for one platform, by their names in it, and gives its name."""
     files = {path.relative_to(TOP).as_posix(): path.read_bytes() for path in sources()} | built
@@ -40,7 +52,7 @@ def write_wheel(folder, tag, built):
     files[f'{NAME}.dist-info/METADATA'] = METADATA.encode()
     files[f'{NAME}.dist-info/WHEEL'] = (f'Wheel-Version: 1.0\nGenerator: vipr\nRoot-Is-Purelib: {"false" if built else "true"}\n'
                                         f'Tag: {tag}\n').encode()
-    files[f'{NAME}.dist-info/entry_points.txt'] = f'[console_scripts]\n{SCRIPTS}'.encode()
+    files[f'{NAME}.dist-info/entry_points.txt'] = entry_points().encode()
     record = f'{NAME}.dist-info/RECORD'
     sums = {name: base64.urlsafe_b64encode(hashlib.sha256(text).digest()).rstrip(b'=').decode() for name, text in files.items()}
     rows = [f'{name},sha256={sums[name]},{len(text)}\n' for name, text in files.items()]

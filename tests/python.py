@@ -521,7 +521,7 @@ def alive():
             shown = files.Alive()
             shown.part('reading', 10)(5)
             shown.end()
-        check((wanted in stream.getvalue()) == bool(stream.getvalue()) == bool(wanted), f'{is_terminal} {seconds}: {stream.getvalue()!r}')
+        check(stream.getvalue().strip('\r').partition(' \r')[0] == wanted, f'{is_terminal} {seconds}: {stream.getvalue()!r}')
 
 
 def sets_of_assumptions(dice):
