@@ -1,14 +1,16 @@
 #!/usr/bin/env python3
 """Times the program over the families of families.py, in one interleaved run.
 
-usage: measure.py [--program PATH] [--bytes N] [--runs N] [--against NAME=COMMAND].. [--growth] [--hostile] [--page] [--picture]
+usage: measure.py [--program PATH] [--bytes N] [--runs N] [--against NAME=COMMAND].. [--growth] [--hostile] [--page] [--picture] [--python]
 
 Each round runs every program once on every family: `check`, `show` and `tighten` where the program has it, `wc -w` and
 `cat` on the same file, and what --against names, whose words get the file's path behind them. All runs are on one core. Of
 the rounds the least processor time counts, and the greatest peak of memory. Prints MB/s, and memory in MB. --growth
 measures texts of 1, 2 and 4 times the size: how time and memory grow. --hostile takes the families that are made to cost
 more than their length. --page measures all of it, and bench/gmp_check.cpp beside it, for which it needs g++ and GMP with its
-header gmpxx.h, and writes docs/BENCHMARKS.md with its picture. --picture measures nothing, and draws the page's table anew.
+header gmpxx.h, and writes docs/BENCHMARKS.md with its picture. --picture measures nothing, and draws the page's table anew. --python
+measures the Python commands that read whole proofs, on texts of half the size, and writes their part of the page; --page does,
+too.
 """
 import argparse
 import datetime
@@ -28,6 +30,9 @@ GNU_TIME = shutil.which('time')
 DOCS = TOP / 'docs'
 # a row of the page's table of two checkers: the family, MB in a second of each, and how many times the time the other takes
 BESIDE = re.compile(r'^\| (\w+) \| (\d+), [\d.]+ \| (\d+), [\d.]+ \| ([\d.]+) \| [\d.]+ \|$', re.M)
+# the commands of the package that read whole proofs, and the families of texts that they are measured on
+TOOLS, TOOL_FAMILIES = ('stats', 'picture', 'html'), ('chain', 'cuts', 'tree', 'wide')
+PYTHON_PART = re.compile(r'## Python commands\n.*', re.S)
 COLORS = ('vipr check', '#4878a8'), ('gmp_check', '#d8923c')
 
 
@@ -170,7 +175,31 @@ The last two columns say how many times the processor time and the memory of `vi
 {beside}
 
 On average, by the geometric mean, it takes {times:.1f} times the time and {memories:.1f} times the memory.
+
+{python}"""
+PYTHON_TEXT = """## Python commands
+
+The [commands](PYTHON.md) that read a whole proof, on {day}: seconds of processor time and MB of memory for each MB of text. `bench/measure.py --python` writes this part. To start Python and the package takes {start} s and {room} MB of it.
+
+{table}
 """
+
+
+def python_part(size, runs):
+    """The part of the page on the Python commands: processor time and memory for each MB of text."""
+    os.environ['PYTHONPATH'] = str(TOP / 'python')
+    rows = ['| family | MB | ' + ' | '.join(f'vipr-{name}: s/MB, MB/MB' for name in TOOLS) + ' |', '|---|---|' + '---|' * len(TOOLS)]
+    with tempfile.TemporaryDirectory() as folder:
+        families.make(folder, size, [it for it in families.FAMILIES if it.__name__ in TOOL_FAMILIES])
+        paths = sorted(Path(folder).iterdir())
+        found = measured({name: [sys.executable, '-m', f'vipr.{name}'] for name in TOOLS}, paths, runs)
+        start = min(once([sys.executable, '-m', 'vipr', '--version'], folder) for _ in range(runs))
+    for path in paths:
+        megabytes = path.stat().st_size / 1e6
+        cells = [found[name, path] for name in TOOLS]
+        rows.append(f'| {path.stem} | {megabytes:.1f} | '
+                    + ' | '.join(f'{seconds / megabytes:.2f}, {memory / megabytes:.1f}' for seconds, memory in cells) + ' |')
+    return PYTHON_TEXT.format(table='\n'.join(rows), start=f'{start[0]:.2f}', room=f'{start[1]:.0f}', day=datetime.date.today())
 
 
 def page(given, programs):
@@ -188,7 +217,7 @@ def page(given, programs):
     (DOCS / 'BENCHMARKS.md').write_text(PAGE.format(
         date=datetime.date.today(), machine=machine(), size=f'{given.bytes / 1e6:g}', runs=given.runs,
         small=f'{small / 1e6:g}', least=f'{least / 1e6:g}', table=throughput,
-        beside=others, times=times, memories=memories,
+        beside=others, times=times, memories=memories, python=python_part(given.bytes // 2, given.runs),
         growth='\n'.join(growth(check, given.runs, small, families.FAMILIES)),
         hostile='\n'.join(growth(check, given.runs, least, families.HOSTILE))), encoding='utf-8')
     draw()
@@ -209,9 +238,15 @@ def main():
     words.add_argument('--hostile', action='store_true')
     words.add_argument('--page', action='store_true')
     words.add_argument('--picture', action='store_true')
+    words.add_argument('--python', action='store_true')
     given = words.parse_args()
     if given.picture:
         draw()
+        return
+    if given.python:
+        path, part = DOCS / 'BENCHMARKS.md', python_part(given.bytes // 2, given.runs)
+        text = path.read_text(encoding='utf-8')
+        path.write_text(PYTHON_PART.sub(lambda _: part, text) if PYTHON_PART.search(text) else f'{text}\n{part}', encoding='utf-8')
         return
     os.sched_setaffinity(0, {max(os.sched_getaffinity(0))})
     which = families.HOSTILE if given.hostile else families.FAMILIES
