@@ -194,11 +194,11 @@ def python_part(size, runs):
         paths = sorted(Path(folder).iterdir())
         found = measured({name: [sys.executable, '-m', f'vipr.{name}'] for name in TOOLS}, paths, runs)
         start = min(once([sys.executable, '-m', 'vipr', '--version'], folder) for _ in range(runs))
-    for path in paths:
-        megabytes = path.stat().st_size / 1e6
-        cells = [found[name, path] for name in TOOLS]
-        rows.append(f'| {path.stem} | {megabytes:.1f} | '
-                    + ' | '.join(f'{seconds / megabytes:.2f}, {memory / megabytes:.1f}' for seconds, memory in cells) + ' |')
+        for path in paths:
+            megabytes = path.stat().st_size / 1e6
+            cells = [found[name, path] for name in TOOLS]
+            rows.append(f'| {path.stem} | {megabytes:.1f} | '
+                        + ' | '.join(f'{seconds / megabytes:.2f}, {memory / megabytes:.1f}' for seconds, memory in cells) + ' |')
     return PYTHON_TEXT.format(table='\n'.join(rows), start=f'{start[0]:.2f}', room=f'{start[1]:.0f}', day=datetime.date.today())
 
 

@@ -343,11 +343,15 @@ class Widths:
 
     def combine(self, entries: Tuple[Tuple[int, Number], ...], index: int) -> None:
         """Adds up the entries of the derived constraint of an index, if it is a sum of earlier ones."""
-        if self.computed is None:
-            return
-        used = [(self.parts(at), multiplier) for at, multiplier in entries if multiplier and at < index]
-        self.most_steps -= sum(len(parts) for parts, _ in used)
-        self.computed = None if self.most_steps < 0 else max(self.computed, largest_step(used).bit_length())
+        used = []
+        for at, multiplier in entries:
+            if self.computed is not None and multiplier and at < index:
+                used.append((self.parts(at), multiplier))
+                self.most_steps -= len(used[-1][0])
+                if self.most_steps < 0:
+                    self.computed = None
+        if self.computed is not None:
+            self.computed = max(self.computed, largest_step(used).bit_length())
 
 
 def largest_step(entries: List[Tuple[Parts, Number]]) -> int:

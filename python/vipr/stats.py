@@ -71,7 +71,8 @@ def measured(proof: Certificate, found: structure.Outline, progress: Optional[Pr
         if constraint.row is not objective:
             widths.see(*constraint.row.values())
         widths.combine(entries, index)
-        widths.keep(index, constraint)
+        if constraint.row is not objective:
+            widths.keep(index, constraint)
         if progress and index % STEP == 0:
             progress(index - first)
     needed = found.needed
