@@ -179,7 +179,7 @@ On average, by the geometric mean, it takes {times:.1f} times the time and {memo
 {python}"""
 PYTHON_TEXT = """## Python commands
 
-The [commands](PYTHON.md) that read a whole proof, on {day}: seconds of processor time and MB of memory for each MB of text. `bench/measure.py --python` writes this part. To start Python and the package takes {start} s and {room} MB of it.
+The [commands](PYTHON.md) that read a whole proof, on {day}: seconds of processor time and MB of memory for each MB of text, beside the {start} s and {room} MB that it takes to start. `bench/measure.py --python` writes this part. Other programs kept the machine busy.
 
 {table}
 """
@@ -196,7 +196,7 @@ def python_part(size, runs):
         start = min(once([sys.executable, '-m', 'vipr', '--version'], folder) for _ in range(runs))
         for path in paths:
             megabytes = path.stat().st_size / 1e6
-            cells = [found[name, path] for name in TOOLS]
+            cells = [(found[name, path][0] - start[0], found[name, path][1] - start[1]) for name in TOOLS]
             rows.append(f'| {path.stem} | {megabytes:.1f} | '
                         + ' | '.join(f'{seconds / megabytes:.2f}, {memory / megabytes:.1f}' for seconds, memory in cells) + ' |')
     return PYTHON_TEXT.format(table='\n'.join(rows), start=f'{start[0]:.2f}', room=f'{start[1]:.0f}', day=datetime.date.today())
