@@ -21,10 +21,9 @@ from pathlib import Path
 from xml.etree import ElementTree
 
 from conformance import FOLDER, RUN, answer
-from texts import TOP, Checks, program, run
+from texts import Checks, program, run
 import run as runner
 
-PLAIN = f"{sys.executable} {TOP}/bench/plain_check.py"
 CHECKS = Checks("conformance_run")
 check = CHECKS.check
 
@@ -93,9 +92,10 @@ def choices_are_made():
             f"{words}: {outcome['cases']} cases",
         )
     agrees("--rule", "asm", "--", PROGRAM, "check")
-    agrees("--rule", "asm", "--accept", "^verified", "--", *PLAIN.split(), "{}")
-    agrees("--rule", "asm", "--batch", "--", *PLAIN.split(), "{}")
-    words = ["^verified", "^refused", *PLAIN.split(), "{}"]
+    agrees("--rule", "asm", "--accept", "^verified", "--", PROGRAM, "check", "{}")
+    first_lines = 'for path; do "$0" check "$path" | head -n 1; done'
+    agrees("--rule", "asm", "--batch", "--", "sh", "-c", first_lines, PROGRAM, "{}")
+    words = ["^verified", "^refused", PROGRAM, "check", "{}"]
     agrees("--rule", "asm", "--refused", "1", "--", FOLDER / "adapter.py", *words)
     outcome, _ = answer(
         "--rule", "asm", "--refused", "1", "--", FOLDER / "adapter.py", *words[:2], "true"
@@ -113,7 +113,7 @@ def tighteners_are_checked():
     asked = [
         "--tighten",
         "--checker",
-        f"{PLAIN} {{}}",
+        f"{PROGRAM} check {{}}",
         "--accept",
         "^verified",
         "--rule",

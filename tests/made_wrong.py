@@ -17,7 +17,7 @@ SOURCE = Path(__file__).resolve().parent.parent / "bench/plain_check.py"
 # wrong past some number of things, and what makes it
 Version = namedtuple("Version", "name lines is_of_size make")
 # functions that make no difference to the verdict, and what tests the limits of numbers, which are vipr's choice
-PRINTING = {"readable", "written", "hold", "explained", "main", "name_ahead", "refuse"}
+PRINTING = {"readable", "written", "hold", "verdict", "explained", "main", "name_ahead", "refuse", "solution"}
 LIMITS = {"bounded", "LARGEST", "LARGEST_COUNT", "LONGEST_TOKEN", "CAUSES"}
 # functions that compare numbers, and functions that compute them
 COMPARING = {
@@ -201,10 +201,12 @@ def is_left_alone(node, function):
     if isinstance(node, ast.FunctionDef):
         return node.name in PRINTING | LIMITS
     code = ast.unparse(node)
-    if isinstance(node, ast.Assign) and not function:
-        return code.split(" ")[0] in LIMITS
+    if not function and isinstance(node, (ast.Assign, ast.If)):
+        return code.split(" ")[0] in LIMITS or "__main__" in code
     if isinstance(node, ast.Call):
-        return code.startswith(("Refused(", "refuse(", "bounded("))
+        return code.startswith(("Refused(", "refuse("))
+    if isinstance(node, ast.Expr) and code.startswith("bounded("):
+        return True
     # what is computed for the test of a limit alone, and what is printed
     in_sum = function == "add" and isinstance(node, ast.Assign)
     return in_sum or isinstance(node, ast.JoinedStr) or code.startswith(("claim = ", "constraint = "))
