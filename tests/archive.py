@@ -49,8 +49,8 @@ def laid_out(folder):
     """A copy of what the Makefile needs in a folder, with a stand-in for the program, which prints its words, and for the
     library; and a function that runs make there."""
     version = 'crates/vipr_command/src/args.rt'
-    for name in ('Makefile', 'README.md', 'CONTRIBUTING.md', 'CHANGELOG.md', 'LICENSE', 'crates.txt', version, 'conformance/README.md', 'include', 'man',
-                 'completions', 'examples'):
+    for name in ('Makefile', 'README.md', 'CONTRIBUTING.md', 'CHANGELOG.md', 'LICENSE', 'crates.txt', version, 'include', 'man', 'completions', 'examples',
+                 *(f'conformance/{page}' for page in ('README.md', 'CHANGELOG.md', 'LICENSE-CASES', 'sentences.tsv', 'schema.json'))):
         (folder / name).parent.mkdir(parents=True, exist_ok=True)
         (shutil.copytree if (TOP / name).is_dir() else shutil.copy2)(TOP / name, folder / name)
     program, library = folder / 'crates/vipr/out/vipr', folder / 'crates/vipr_c/out'
