@@ -2,11 +2,14 @@
 from __future__ import annotations
 
 import re
+import sys
 from fractions import Fraction
 from typing import Dict, Iterator, List, NamedTuple, Tuple
 
 COMMENTS = re.compile(rb"\A(?:\s*%[^\n]*(?:\n|\Z))+")
 Row = Dict[int, Fraction]
+# newer versions of Python have a limit for the digits of a number
+getattr(sys, "set_int_max_str_digits", int)(0)
 
 
 class Outline(NamedTuple):

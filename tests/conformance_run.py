@@ -150,7 +150,10 @@ def types_are_right():
     """The scripts that a user runs, by mypy; it is left out if mypy isn't here."""
     if shutil.which("mypy"):
         scripts = [FOLDER / name for name in ("run.py", "outline.py", "adapter.py")]
-        done = run(["mypy", "--strict", "--no-error-summary", *scripts], timeout=300)
+        done = run(
+            ["mypy", "--strict", "--no-error-summary", "--cache-dir=/dev/null", *scripts],
+            timeout=300,
+        )
         check(done.returncode == 0, f"mypy: {done.stdout.decode()}")
 
 

@@ -17,7 +17,17 @@ SOURCE = Path(__file__).resolve().parent.parent / "bench/plain_check.py"
 # wrong past some number of things, and what makes it
 Version = namedtuple("Version", "name lines is_of_size make")
 # functions that make no difference to the verdict, and what tests the limits of numbers, which are vipr's choice
-PRINTING = {"readable", "written", "hold", "verdict", "explained", "main", "name_ahead", "refuse", "solution"}
+PRINTING = {
+    "readable",
+    "written",
+    "hold",
+    "verdict",
+    "explained",
+    "main",
+    "name_ahead",
+    "refuse",
+    "solution",
+}
 LIMITS = {"bounded", "LARGEST", "LARGEST_COUNT", "LONGEST_TOKEN", "CAUSES"}
 # functions that compare numbers, and functions that compute them
 COMPARING = {
@@ -52,7 +62,9 @@ def in_bits(bits, number):
 def in_word(bits, number):
     """Numerator and denominator as they wrap around in a machine's words."""
     half = 2 ** (bits - 1)
-    top, bottom = ((part + half) % (2 * half) - half for part in (number.numerator, number.denominator))
+    top, bottom = (
+        (part + half) % (2 * half) - half for part in (number.numerator, number.denominator)
+    )
     return Fraction(top, bottom or 1)
 
 
@@ -76,7 +88,9 @@ def machine(kind, value):
 def within(slack, relative, order, left, right):
     """Whether a comparison of two numbers, or of two rows, holds within a slack."""
     if isinstance(left, dict):
-        return left.keys() == right.keys() and all(within(slack, relative, order, left[index], right[index]) for index in left)
+        return left.keys() == right.keys() and all(
+            within(slack, relative, order, left[index], right[index]) for index in left
+        )
     if not isinstance(left, (int, Fraction)) or not isinstance(right, (int, Fraction)):
         return getattr(operator, order)(left, right)
     most = Fraction(slack) * (max(1, abs(left), abs(right)) if relative else 1)
@@ -104,7 +118,9 @@ def of_numbers(node):
         left, right = number, f"Fraction(round({number}))"
     else:
         changed = [f"machine({kind!r}, {left}){sign}machine({kind!r}, {right})" for kind in KINDS]
-    changed += [f"within({slack!r}, {relative}, {order!r}, {left}, {right})" for slack, relative in SLACKS]
+    changed += [
+        f"within({slack!r}, {relative}, {order!r}, {left}, {right})" for slack, relative in SLACKS
+    ]
     return map(parsed, changed)
 
 
@@ -148,7 +164,9 @@ def of_expression(node, function):
     elif isinstance(node, ast.Call):
         yield from of_call(node, function)
     elif isinstance(node, ast.Constant) and isinstance(node.value, int):
-        moved = [not node.value] if isinstance(node.value, bool) else [node.value + 1, node.value - 1]
+        moved = (
+            [not node.value] if isinstance(node.value, bool) else [node.value + 1, node.value - 1]
+        )
         yield from map(ast.Constant, moved)
     elif isinstance(node, ast.BinOp):
         for other in OTHER.get(type(node.op), ()):
@@ -168,7 +186,9 @@ def of_expression(node, function):
     elif isinstance(node, ast.Tuple) and len(node.elts) == 2 and isinstance(node.ctx, ast.Load):
         yield ast.Tuple(node.elts[::-1], ast.Load())
     elif isinstance(node, ast.comprehension):
-        yield from (ast.comprehension(node.target, items, node.ifs, 0) for items in of_loop(node.iter))
+        yield from (
+            ast.comprehension(node.target, items, node.ifs, 0) for items in of_loop(node.iter)
+        )
 
 
 def of_statement(node):
@@ -179,7 +199,9 @@ def of_statement(node):
     if isinstance(node, ast.If):
         yield from (ast.If(ast.Constant(test), node.body, node.orelse) for test in (True, False))
     if isinstance(node, ast.For):
-        yield from (ast.For(node.target, items, node.body, node.orelse) for items in of_loop(node.iter))
+        yield from (
+            ast.For(node.target, items, node.body, node.orelse) for items in of_loop(node.iter)
+        )
 
 
 # ---- the tree
@@ -193,7 +215,9 @@ def children(node):
         elif isinstance(value, list):
             for place, one in enumerate(value):
                 if isinstance(one, ast.AST):
-                    yield one, lambda other, value=value, place=place: value.__setitem__(place, other)
+                    yield one, lambda other, value=value, place=place: value.__setitem__(
+                        place, other
+                    )
 
 
 def is_left_alone(node, function):
@@ -209,7 +233,9 @@ def is_left_alone(node, function):
         return True
     # what is computed for the test of a limit alone, and what is printed
     in_sum = function == "add" and isinstance(node, ast.Assign)
-    return in_sum or isinstance(node, ast.JoinedStr) or code.startswith(("claim = ", "constraint = "))
+    return (
+        in_sum or isinstance(node, ast.JoinedStr) or code.startswith(("claim = ", "constraint = "))
+    )
 
 
 def places(node, function=""):
@@ -217,11 +243,17 @@ def places(node, function=""):
     for child, put in children(node):
         if is_left_alone(child, function):
             continue
-        if isinstance(node, ast.Call) and ast.unparse(node.func).endswith("one_of") and isinstance(child, ast.Constant):
+        if (
+            isinstance(node, ast.Call)
+            and ast.unparse(node.func).endswith("one_of")
+            and isinstance(child, ast.Constant)
+        ):
             if isinstance(child.value, int):
                 continue
         inner = child.name if isinstance(child, ast.FunctionDef) else function
-        others = of_statement(child) if isinstance(child, ast.stmt) else of_expression(child, function)
+        others = (
+            of_statement(child) if isinstance(child, ast.stmt) else of_expression(child, function)
+        )
         yield from ((inner, child, put, other) for other in others)
         yield from places(child, inner)
 
