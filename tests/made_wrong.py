@@ -2,8 +2,8 @@
 
 Each comparison is turned and made more or less strict, each condition is left out, each constant is moved, each loop loses its
 first or last round or all past a number of them, each operation is exchanged for another, each statement is left out, a
-choice always takes the same side, and each number is computed and compared as floating point, with a tolerance, in few digits
-or in a machine's words. Functions that only print are left alone, and so are numbers of causes and what tests vipr's limits.
+choice always takes the same side, and each number is computed and compared as floating point, with a tolerance,
+to some decimal places or in a machine's words. Functions that only print are left alone, and so are numbers of causes and what tests vipr's limits.
 """
 import ast
 import operator

@@ -6,7 +6,7 @@ usage: tests/sharpness.py [--found | --excused]
 The wrong ones are versions of bench/plain_check.py: those that made_wrong.py makes by rule, and those of lax_rules.py by
 hand. Each is given the cases that the format fixes, and has to give another verdict than the table in one of them; a run
 that breaks off counts as a refusal. What the second profile alone does is told by its verdicts. Versions that no case can
-tell are named in lax_rules.py, each with the reason, and aren't tried; with --excused they are, and none may be told.
+tell are named in excused.txt, each with the reason, and aren't tried; with --excused they are, and none may be told.
 
 Each wrong rule of wrong_rules.py is found by a verdict, or by a text, of its own folder. If choices alone find it there, no
 case of the format does anywhere: so the kinds agree with each other.
