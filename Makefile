@@ -42,8 +42,10 @@ override export SHARE := $(DESTDIR)$(PREFIX)/share
 override export DOC := $(SHARE)/doc/vipr
 override export INCLUDE := $(DESTDIR)$(PREFIX)/include
 override export LIB := $(DESTDIR)$(LIBDIR)
-# what is installed to be read: the pages, and what they link to
-PAGES = README.md CONTRIBUTING.md CHANGELOG.md LICENSE include/vipr.h $(wildcard docs/*.md docs/*.svg) \
+# what is installed to be read: the pages for users, and what they link to
+FOR_DEVELOPERS = docs/ARCHITECTURE.md docs/architecture.svg docs/CONTRACTS.md docs/DECISIONS.md
+PAGES = README.md CHANGELOG.md LICENSE include/vipr.h \
+	$(filter-out $(FOR_DEVELOPERS),$(wildcard docs/*.md docs/*.svg)) \
 	$(addprefix conformance/,README.md CHANGELOG.md LICENSE-CASES sentences.tsv schema.json) \
 	$(wildcard examples/*.* examples/*/*.* examples/rust/src/*.rs examples/rust/src/bin/*.rs)
 

@@ -23,7 +23,7 @@ from pathlib import Path
 TOP = Path(__file__).resolve().parent.parent
 PAGES = ['README.md', 'CONTRIBUTING.md', 'CHANGELOG.md', 'docs/TUTORIAL.md', 'docs/USE.md', 'docs/FORMAT.md', 'docs/SECURITY.md',
          'docs/LIBRARY.md', 'docs/PYTHON.md', 'docs/REFEREE.md', 'docs/ARCHITECTURE.md', 'docs/DECISIONS.md', 'docs/GLOSSARY.md', 'docs/WHY.md',
-         'docs/BENCHMARKS.md', 'docs/GATE.md', 'docs/KIT.md', 'docs/PLANTS.md', 'docs/PROOF.md', 'docs/ROCQ.md', 'docs/CONTRACTS.md', 'docs/STATEMENT.md', 'examples/README.md', 'tools/README.md',
+         'docs/BENCHMARKS.md', 'docs/PROOF.md', 'docs/ROCQ.md', 'docs/CONTRACTS.md', 'docs/STATEMENT.md', 'examples/README.md', 'tools/README.md',
          'conformance/README.md', 'conformance/CHANGELOG.md']
 MAN, HELP = 'man/vipr.1', 'crates/vipr_command/src/args.rt'
 # pages that lead a reader: they say what they say in the words of integer programming

@@ -1,4 +1,4 @@
-use Rattle.std.proofs.{Common.refl, Common.arith, lemmas.Int.ints}
+use Rattle.std.proofs.{Common.arith, lemmas.Int.ints}
 use Rattle.vipr_spec.specs.{Fraction.over, Fraction.◌*ℚ◌, Fraction.◌+ℚ◌, Gcd.gcd}
 use Rattle.vipr_worked.proofs.FalseClaim.{stated, means_nothing}
 use Rattle.vipr_worked.proofs.short.false_claim.Goals as goal

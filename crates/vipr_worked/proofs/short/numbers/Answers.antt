@@ -1,4 +1,4 @@
-use Rattle.std.proofs.Common.{codes, refl, arith, inl, inr, lit<, pos, negsuc, ◌∷◌}
+use Rattle.std.proofs.Common.{codes, refl, arith, inl, inr, lit<, pos, negsuc}
 use Rattle.std.proofs.lemmas.Int.{ints}
 use Rattle.vipr_spec.specs.{Fraction.over, Fraction.◌*ℚ◌, Fraction.◌+ℚ◌, Gcd.gcd}
 use Rattle.vipr_worked.proofs.short.numbers.Goals as goal
