@@ -1,6 +1,6 @@
 //! What `verified` promises of a text, in a statement of its own.
 
-ghost use Rattle.std.specs.Prelude.{ℕ, List, codes, ◌≡◌};
+ghost use Rattle.std.specs.Prelude.{ℕ, List, ◌≡◌};
 ghost use Rattle.vipr_spec.specs.Certificate.{Certificate, IsProof};
 ghost use Rattle.vipr_spec.specs.{Constraint.Profile, Grammar.Spells};
 ghost use Rattle.vipr_spec.specs.Short.{Means, Problem, Row, States};
