@@ -69,12 +69,12 @@ def packed_files(check, room, words, program, has_library):
             check(done.returncode == (0 if is_whole else 3), f"a model {suffix}, {what}: {done}")
 
 
-def closed_streams(check, words):
+def closed_streams(check, words, program):
     """A command without standard output ends as one that can't write, and never with the status of a verdict."""
     certificate = TOP / "examples/plan.vipr"
     arguments = {
         "audit": [TOP / "examples/plan.mps", certificate],
-        "check-all": [certificate],
+        "check-all": ["--vipr", program, certificate],
         "compare-mps": [TOP / "examples/plan.mps", certificate],
         "html": [certificate],
         "picture": [certificate],

@@ -13,7 +13,11 @@ from pathlib import Path
 sys.path[:0] = [str(Path(__file__).resolve().parent.parent / folder) for folder in ('bench', 'python')]
 
 import plain_check as rules
-from vipr.certificate import _Fault, _Reader
+from vipr import certificate
+from vipr.certificate import _Fault, _Text
+
+# (the model has names as their bytes)
+certificate.decoded = bytes
 
 KEYWORDS = 'VER VAR INT OBJ CON RTP SOL DER'.split()
 ITEMS = {'VAR': 'variable', 'INT': 'integer variable', 'CON': 'constraint', 'SOL': 'solution', 'DER': 'derivation'}
@@ -172,17 +176,17 @@ class Facts:
     def read_items(self):
         """The items by the reader of python/vipr, up to the first fault of the text."""
         self.problem, self.solutions, self.derivations, self.listed = None, [], [], 0
-        reader = _Reader(self.text)
+        text = _Text(self.text, None)
+        reader = text.reader
         try:
-            self.problem = reader.problem()
-            variables = len(self.problem.names)
+            self.problem, front = text.problem()
             reader.keyword(b'SOL')
             self.listed = reader.count()
             for _ in range(self.listed):
-                self.solutions.append(reader.solution(variables))
+                self.solutions.append(reader.solution(front))
             reader.keyword(b'DER')
             for _ in range(reader.count()):
-                self.derivations.append(reader.derivation(variables, self.problem.objective))
+                self.derivations.append(reader.derivation(front))
         except _Fault:
             pass
 

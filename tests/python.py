@@ -753,7 +753,7 @@ def unpacked(room, words):
 
 
 def closed(words):
-    packed_files.closed_streams(check, words)
+    packed_files.closed_streams(check, words, PROGRAM)
 
 
 def called(texts):

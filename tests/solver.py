@@ -197,7 +197,7 @@ def command():
         (" PL x", [], -1, 1, "the linear relaxation is unbounded"),
         ("", [], 1, 1, "say --integers one or --integers inf"),
         (" UP y 3", [], 1, 1, "refused 115 at line 12"),
-        (" UP x 3", [], 1, "1e38", "the limit"),
+        (" UP x 3", [], 1, "1e-39", "refused 113 at line 10"),
     ):
         with tempfile.NamedTemporaryFile(suffix=".mps") as model:
             model.write(f"{front.format(cost, side)}BOUNDS\n{bounds}\nENDATA\n".encode())

@@ -17,7 +17,7 @@ from sources import CRATES, TOP, files_of, functions, head_of, in_order, read, r
 
 TARGET, EXAMPLES = TOP / 'docs/STATEMENT.md', TOP / 'tools/statement_examples.md'
 SPEC_CRATES = ['vipr_spec', 'vipr_bytes', 'vipr_cert', 'vipr_check', 'vipr_tighten']
-MOST_LINES = 1735
+MOST_LINES = 1800
 # the columns of a line that is quoted with its comment, and of an item of examples
 WIDTH, ITEM = 122, 700
 
