@@ -65,7 +65,9 @@ def look_at_files(prefix):
     """What is installed, and that each place that names a version names the program's."""
     number = version()
     libraries = ['libvipr.a', 'libvipr.so', f'libvipr.so.{number.split(".")[0]}', f'libvipr.so.{number}']
-    wanted = ['include/vipr.h', *(f'lib/{name}' for name in libraries), 'lib/pkgconfig/vipr.pc']
+    cmake = ['vipr-config-version.cmake', 'vipr-config.cmake']
+    wanted = ['include/vipr.h', *(f'lib/{name}' for name in libraries), 'lib/pkgconfig/vipr.pc',
+              *(f'lib/cmake/vipr/{name}' for name in cmake)]
     if installed(prefix) != sorted(wanted):
         fail(f'make install-lib leaves {installed(prefix)}')
     said = subprocess.run([PROGRAM, '--version'], capture_output=True, text=True, check=True).stdout
