@@ -24,7 +24,7 @@ RT = os.environ.get("RT", "rt")
 FIRST = "library second".split()
 # the longest first
 THEN = (
-    "theorems sharpness python long hostile costs pages large fuzz conformance output archive solver growths"
+    "theorems python long hostile costs pages large fuzz conformance output archive solver growths"
     " calls answers wrong_versions conformance_run kills interface house writer written races"
     " browser language"
 ).split()

@@ -28,10 +28,10 @@ check = CHECKS.check
 CRATES = {'low': '', 'vipr_c staticlib': 'low', 'vipr_command': 'low', 'vipr': 'vipr_command low'}
 LEFT_OUT = shutil.ignore_patterns('crates', '.git', 'dist', '__pycache__')
 # what tests/all.py runs, each without words: with some, a script could compare less, or write in place of comparing
-SCRIPTS = {'tools', 'theorems', 'wrong_versions', 'conformance_run', 'sharpness', 'solver', 'library', 'second', 'python', 'long', 'hostile', 'costs', 'pages', 'large', 'fuzz', 'conformance', 'output',
+SCRIPTS = {'tools', 'theorems', 'wrong_versions', 'conformance_run', 'solver', 'library', 'second', 'python', 'long', 'hostile', 'costs', 'pages', 'large', 'fuzz', 'conformance', 'output',
            'archive', 'growths', 'calls', 'answers', 'kills', 'interface', 'house', 'writer', 'written', 'races', 'browser', 'language'}
-# what nothing runs there: the test command, and the toolchain of these checks
-OTHERS = {'all', 'toolchain'}
+# what nothing runs there: the test command, what takes long, and the toolchain of these checks
+OTHERS = {'all', 'sharpness', 'toolchain'}
 
 
 class Place:
