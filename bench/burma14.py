@@ -13,8 +13,22 @@ from itertools import combinations
 from math import acos, cos
 
 # latitude and longitude, degrees and minutes as TSPLIB writes them
-CITIES = [(16.47, 96.10), (16.47, 94.44), (20.09, 92.54), (22.39, 93.37), (25.23, 97.24), (22.00, 96.05), (20.47, 97.02),
-          (17.20, 96.29), (16.30, 97.38), (14.05, 98.12), (16.53, 97.38), (21.52, 95.59), (19.41, 97.13), (20.09, 94.55)]
+CITIES = [
+    (16.47, 96.10),
+    (16.47, 94.44),
+    (20.09, 92.54),
+    (22.39, 93.37),
+    (25.23, 97.24),
+    (22.00, 96.05),
+    (20.47, 97.02),
+    (17.20, 96.29),
+    (16.30, 97.38),
+    (14.05, 98.12),
+    (16.53, 97.38),
+    (21.52, 95.59),
+    (19.41, 97.13),
+    (20.09, 94.55),
+]
 TOUR = [1, 10, 9, 11, 8, 13, 7, 12, 6, 5, 4, 3, 14, 2]
 LENGTH = 3323
 # the multiplier of each city's equation, in quarters
@@ -26,8 +40,12 @@ PAIR_HALVES = {(3, 14): 67, (4, 5): 32, (6, 12): 60, (7, 13): 130, (9, 10): 57}
 
 def distance(one, other):
     """TSPLIB's distance of two places on the earth, in kilometres."""
-    (a, b), (c, d) = [[3.141592 * (int(v) + 5 * (v - int(v)) / 3) / 180 for v in place] for place in (one, other)]
-    return int(6378.388 * acos(((1 + cos(b - d)) * cos(a - c) - (1 - cos(b - d)) * cos(a + c)) / 2) + 1)
+    (a, b), (c, d) = [
+        [3.141592 * (int(v) + 5 * (v - int(v)) / 3) / 180 for v in place] for place in (one, other)
+    ]
+    return int(
+        6378.388 * acos(((1 + cos(b - d)) * cos(a - c) - (1 - cos(b - d)) * cos(a + c)) / 2) + 1
+    )
 
 
 PAIRS = list(combinations(range(1, len(CITIES) + 1), 2))
@@ -36,21 +54,23 @@ LENGTHS = [distance(CITIES[i - 1], CITIES[j - 1]) for i, j in PAIRS]
 
 def vector(indices, values=None):
     indices = list(indices)
-    pairs = [f'{index} {values[index] if values else 1}' for index in indices]
-    return ' '.join([str(len(indices)), *pairs])
+    pairs = [f"{index} {values[index] if values else 1}" for index in indices]
+    return " ".join([str(len(indices)), *pairs])
 
 
 def constraints():
     """Each constraint: its name, sense, right-hand side and variables, and its multiplier, None for x >= 0."""
     for city, quarters in enumerate(CITY_QUARTERS, 1):
-        yield f'city{city}', 'E', 2, [k for k, pair in enumerate(PAIRS) if city in pair], Fraction(quarters, 4)
+        yield f"city{city}", "E", 2, [k for k, pair in enumerate(PAIRS) if city in pair], Fraction(
+            quarters, 4
+        )
     for number, (cities, quarters) in enumerate(SET_QUARTERS.items(), 1):
         across = [k for k, (i, j) in enumerate(PAIRS) if (i in cities) != (j in cities)]
-        yield f'set{number}', 'G', 2, across, Fraction(quarters, 4)
+        yield f"set{number}", "G", 2, across, Fraction(quarters, 4)
     for k, (i, j) in enumerate(PAIRS):
-        yield f'most{i}_{j}', 'L', 1, [k], -Fraction(PAIR_HALVES.get((i, j), 0), 2)
+        yield f"most{i}_{j}", "L", 1, [k], -Fraction(PAIR_HALVES.get((i, j), 0), 2)
     for k, (i, j) in enumerate(PAIRS):
-        yield f'least{i}_{j}', 'G', 0, [k], None
+        yield f"least{i}_{j}", "G", 0, [k], None
 
 
 def entries(rows):
@@ -68,15 +88,28 @@ def entries(rows):
 def main():
     rows = list(constraints())
     steps = {tuple(sorted(step)) for step in zip(TOUR, TOUR[1:] + TOUR[:1])}
-    print('% burma14 of TSPLIB: is there a tour of 14 cities that is shorter than 3323?')
-    print('VER 1.0', f'VAR {len(PAIRS)}', *(f'x{i}_{j}' for i, j in PAIRS), f'INT {len(PAIRS)}', sep='\n')
+    print("% burma14 of TSPLIB: is there a tour of 14 cities that is shorter than 3323?")
+    print(
+        "VER 1.0",
+        f"VAR {len(PAIRS)}",
+        *(f"x{i}_{j}" for i, j in PAIRS),
+        f"INT {len(PAIRS)}",
+        sep="\n",
+    )
     print(*range(len(PAIRS)))
-    print('OBJ min', vector(range(len(PAIRS)), LENGTHS), f'CON {len(rows)} {2 * len(PAIRS)}', sep='\n')
+    print(
+        "OBJ min", vector(range(len(PAIRS)), LENGTHS), f"CON {len(rows)} {2 * len(PAIRS)}", sep="\n"
+    )
     for name, sense, bound, variables, _ in rows:
         print(name, sense, bound, vector(variables))
-    print(f'RTP range {LENGTH} {LENGTH}', 'SOL 1', f'tour {vector(k for k, pair in enumerate(PAIRS) if pair in steps)}', sep='\n')
-    reason = [f'{index} {multiplier}' for index, multiplier in entries(rows)]
-    print('DER 1', f'bound G {LENGTH} OBJ {{ lin {len(reason)} {" ".join(reason)} }} -1', sep='\n')
+    print(
+        f"RTP range {LENGTH} {LENGTH}",
+        "SOL 1",
+        f"tour {vector(k for k, pair in enumerate(PAIRS) if pair in steps)}",
+        sep="\n",
+    )
+    reason = [f"{index} {multiplier}" for index, multiplier in entries(rows)]
+    print("DER 1", f'bound G {LENGTH} OBJ {{ lin {len(reason)} {" ".join(reason)} }} -1', sep="\n")
 
 
 main()

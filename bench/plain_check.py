@@ -24,7 +24,7 @@ CAUSES = {
     18: "TrailingText", 21: "SolutionNotWhole", 22: "SolutionBreaks", 23: "SolutionOverflow", 31: "NotEarlier",
     32: "Dropped", 33: "NotAssumption", 34: "MixedSigns", 35: "Overflow", 36: "NotRoundable", 37: "NotSplit",
     38: "NotDominated", 39: "NoSolution", 51: "NoProof", 52: "NoPrimal",
-}
+}  # fmt: skip
 
 
 class Refused(Exception):
@@ -62,7 +62,7 @@ class Tokens:
     def __init__(self, text):
         self.text = text
         self.at = 0
-        while self.at < len(text) and (text[self.at] in SPACE or text[self.at : self.at + 1] == b"%"):
+        while self.at < len(text) and text[self.at] in SPACE + b"%":
             if text[self.at] in SPACE:
                 self.at += 1
             else:
@@ -179,7 +179,8 @@ def readable(name):
 def written(constraint):
     """A constraint without its name, as in the canonical text."""
     row, sense, right = constraint
-    return " ".join(map(str, [sense, right, len(row), *(word for index in sorted(row) for word in (index, row[index]))]))
+    entries = [word for index in sorted(row) for word in (index, row[index])]
+    return " ".join(map(str, [sense, right, len(row), *entries]))
 
 
 ABSURD = ({}, "G", Fraction(1))
@@ -196,7 +197,8 @@ def dominates(strong, weak):
     (row, sense, right), (wanted, stated, bound) = strong, weak
     at_least = sense in "GE" and right >= bound
     at_most = sense in "LE" and right <= bound
-    return row == wanted and {"G": at_least, "L": at_most, "E": at_least and at_most and sense == "E"}[stated]
+    equal = at_least and at_most and sense == "E"
+    return row == wanted and {"G": at_least, "L": at_most, "E": equal}[stated]
 
 
 def value_at(row, point):
@@ -215,26 +217,30 @@ def whole_at(row, integers):
     return all(index in integers and row[index].denominator == 1 for index in row)
 
 
+def upper_first(first, second):
+    """Two constraints, an upper bound before a lower one."""
+    return sorted((first, second), key=lambda constraint: constraint[1], reverse=True)
+
+
+def are_opposite(upper, lower, integers):
+    """Whether an upper and a lower bound are on the same row, whose value is an integer."""
+    (row, sense, _), (other, other_sense, _) = upper, lower
+    return (sense, other_sense) == ("L", "G") and row == other and whole_at(row, integers)
+
+
 def is_split(first, second, integers):
-    (row, sense, right), (other, other_sense, other_right) = sorted((first, second), key=lambda c: c[1], reverse=True)
-    return (
-        (sense, other_sense) == ("L", "G")
-        and row == other
-        and whole_at(row, integers)
-        and right.denominator == 1
-        and other_right == right + 1
-    )
+    """The first profile's split: the lower bound is the upper one, an integer, and 1."""
+    upper, lower = upper_first(first, second)
+    right, other_right = upper[2], lower[2]
+    is_next = right.denominator == 1 and other_right == right + 1
+    return is_next and are_opposite(upper, lower, integers)
 
 
 def covers(first, second, integers):
     """The second profile's split: no whole number is above the one bound and below the other."""
-    (row, sense, right), (other, other_sense, other_right) = sorted((first, second), key=lambda c: c[1], reverse=True)
-    return (
-        (sense, other_sense) == ("L", "G")
-        and row == other
-        and whole_at(row, integers)
-        and ceil(other_right) <= floor(right) + 1
-    )
+    upper, lower = upper_first(first, second)
+    is_next = ceil(lower[2]) <= floor(upper[2]) + 1
+    return is_next and are_opposite(upper, lower, integers)
 
 
 SPLITS = {1: is_split, 2: covers}
@@ -277,10 +283,17 @@ class Checker:
         if left is not None:
             raise Refused(18, f"byte {left[1]}")
         if self.goal is not None and self.goal_index is None:
-            raise Refused(51, "end", "goal absurdity" if self.bounds is None else f"goal {written(self.goal)}")
-        claim = "infeas" if self.bounds is None else "range {} {}".format(
-            *("-inf inf".split()[side] if bound is None else bound for side, bound in enumerate(self.bounds)))
-        return f"verified {claim}\nsolutions {self.solutions} derived {derived} peak {self.peak}"
+            goal = "absurdity" if self.bounds is None else written(self.goal)
+            raise Refused(51, "end", f"goal {goal}")
+        counts = f"solutions {self.solutions} derived {derived} peak {self.peak}"
+        return f"verified {self.claim()}\n{counts}"
+
+    def claim(self):
+        """The claim as it is printed."""
+        if self.bounds is None:
+            return "infeas"
+        low, high = self.bounds
+        return f'range {"-inf" if low is None else low} {"inf" if high is None else high}'
 
     def problem(self):
         tokens = self.tokens
@@ -308,7 +321,8 @@ class Checker:
         else:
             self.bounds = tokens.number(b"-inf"), tokens.number(b"inf")
             dual, self.primal = self.bounds if self.minimizes else self.bounds[::-1]
-            self.goal = None if dual is None else (self.objective, "G" if self.minimizes else "L", dual)
+            sense = "G" if self.minimizes else "L"
+            self.goal = None if dual is None else (self.objective, sense, dual)
         tokens.one_of(2, b"SOL")
         self.solutions = tokens.count()
         for index in range(self.rows):
@@ -340,11 +354,13 @@ class Checker:
 
     def test_solution(self, own, name, point):
         def refuse(cause, *lines):
-            raise Refused(cause, f"SOL {own}", f"solution {own} {readable(name)}", *lines) from None
+            solution = f"solution {own} {readable(name)}"
+            raise Refused(cause, f"SOL {own}", solution, *lines) from None
 
         for index in sorted(self.integers & point.keys()):
             if point[index].denominator != 1:
-                refuse(21, f"variable {index} {readable(self.names[index])}", f"value {point[index]}")
+                variable = f"variable {index} {readable(self.names[index])}"
+                refuse(21, variable, f"value {point[index]}")
         for index, (row, sense, right) in enumerate(self.constraints):
             constraint = f"constraint {index} {readable(self.row_names[index])}"
             try:
@@ -361,10 +377,11 @@ class Checker:
             self.best = value
 
     def primal_side(self):
-        if self.primal is None:
+        best, bound = self.best, self.primal
+        if bound is None:
             return
-        if self.best is None or (self.best > self.primal if self.minimizes else self.best < self.primal):
-            raise Refused(52, "end", f"bound {self.primal}")
+        if best is None or (best > bound if self.minimizes else best < bound):
+            raise Refused(52, "end", f"bound {bound}")
 
     def derivation(self, own):
         tokens = self.tokens
@@ -383,7 +400,8 @@ class Checker:
 
     def test_derivation(self, own, name, stated, reason, parts, last):
         def refuse(cause, *lines):
-            raise Refused(cause, f"DER {own}", f"derivation {own} {readable(name)}", *lines) from None
+            derivation = f"derivation {own} {readable(name)}"
+            raise Refused(cause, f"DER {own}", derivation, *lines) from None
 
         def refer(index, counts=True):
             if index >= own:
@@ -406,7 +424,8 @@ class Checker:
             if reason == "rnd":
                 computed = rounded(computed, self.integers, refuse)
             need(computed)
-            rests_on = frozenset().union(*(self.sets[index] for index, multiplier in parts if multiplier))
+            sets = [self.sets[index] for index, multiplier in parts if multiplier]
+            rests_on = frozenset().union(*sets)
         elif reason == "uns":
             for index in parts:
                 refer(index)
@@ -443,7 +462,8 @@ class Checker:
             sign = sign or turned
             try:
                 for variable, coefficient in terms.items():
-                    row[variable] = add(row.get(variable, Fraction(0)), multiply(multiplier, coefficient))
+                    term = multiply(multiplier, coefficient)
+                    row[variable] = add(row.get(variable, Fraction(0)), term)
                 right = add(right, multiply(multiplier, bound))
             except Unfit:
                 refuse(35, f"entry {position}")

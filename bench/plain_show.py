@@ -66,7 +66,11 @@ def lines(tokens):
         yield constraint(tokens, variables, objective)
     tokens.one_of(2, b"RTP")
     claim = tokens.one_of(13, b"infeas", b"range")
-    yield line("RTP", claim, *([bound(tokens, b"-inf"), bound(tokens, b"inf")] if claim == b"range" else []))
+    yield line(
+        "RTP",
+        claim,
+        *([bound(tokens, b"-inf"), bound(tokens, b"inf")] if claim == b"range" else []),
+    )
     tokens.one_of(2, b"SOL")
     solutions = tokens.count()
     yield line("SOL", solutions)
@@ -77,7 +81,9 @@ def lines(tokens):
     yield line("DER", derived)
     for _ in range(derived):
         stated = constraint(tokens, variables, objective)
-        yield line(stated, tokens.one_of(15, b"{"), reason(tokens), tokens.one_of(15, b"}"), last(tokens))
+        yield line(
+            stated, tokens.one_of(15, b"{"), reason(tokens), tokens.one_of(15, b"}"), last(tokens)
+        )
     left = tokens.peek()
     if left is not None:
         raise Refused(18, f"byte {left[1]}")

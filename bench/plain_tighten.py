@@ -29,7 +29,7 @@ class Derivation:
         self.entries, self.indices = [], []
         if self.rule in (b"lin", b"rnd"):
             pairs = zip(parts[1::2], parts[2::2])
-            self.entries = [(int(index), multiplier) for index, multiplier in pairs if multiplier != b"0"]
+            self.entries = [(int(index), number) for index, number in pairs if number != b"0"]
         elif self.rule == b"uns":
             self.indices = [int(index) for index in parts]
 
@@ -41,7 +41,8 @@ class Derivation:
         reason = [self.rule]
         if self.rule in (b"lin", b"rnd"):
             reason.append(b"%d" % len(self.entries))
-            reason += [word for index, multiplier in self.entries for word in (b"%d" % number(index), multiplier)]
+            for index, multiplier in self.entries:
+                reason += [b"%d" % number(index), multiplier]
         reason += [b"%d" % number(index) for index in self.indices]
         return b" ".join([*self.stated, b"{", *reason, b"}", b"%d" % last])
 
@@ -82,7 +83,8 @@ def tightened(text, profile=1):
     output = b"".join(line + b"\n" for line in lines[:heading] + [b"DER %d" % len(kept)] + written)
     again = Checker(output, profile)
     again.run()
-    counts = f"kept {len(kept)} removed {checker.derived - len(kept)} peak {checker.peak} {again.peak}\n"
+    removed = checker.derived - len(kept)
+    counts = f"kept {len(kept)} removed {removed} peak {checker.peak} {again.peak}\n"
     return output, counts.encode(), 0
 
 

@@ -26,6 +26,11 @@ LONG = {
         "a G 1 ",
         f'a G {"0" * (LONGEST - 1)}1 ',
     ),
+    "text/line-past-64-kb": (
+        "lin/contradiction",
+        "\nf G 1 0 ",
+        f'\n{"f" * 65520} G 1/{10**20} 0 ',
+    ),
     "text/long-comment": ("claim/infeas", "VER", f'%{"c" * 200000}\nVER'),
     "text/long-keyword": ("lin/contradiction", "VAR", "V" * (LONGEST + 1)),
     "text/long-trailing-token": ("lin/contradiction", "} -1\n", "} -1\n" + "y" * (LONGEST + 1)),
@@ -72,7 +77,8 @@ def many_variables():
     """Many variables, of which the last one decides."""
     last, point = MANY - 1, [f"s 1 {MANY - 1} 1/2"]
     others = [index for index in range(MANY) if index != last]
-    row, almost = [[(index, index % 9 + 1) for index in range(most)] for most in (MANY, last)]
+    row = [(index, index % 9 + 1) for index in range(MANY)]
+    almost = row[:last]
     other = almost + [(last, 10)]
     stated = f"d G 1 {vector(row)} {{ lin 1 0 1 }} -1"
     yield "last-integer-variable", certificate(MANY, range(MANY), solutions=point)
@@ -86,7 +92,8 @@ def many_variables():
     }
     yield "last-variable-rounded", certificate(MANY, shuffled(range(MANY)), **half)
     yield "last-variable-not-rounded", certificate(MANY, shuffled(others), **half)
-    ones, same = [(index, 1) for index in range(MANY)], [(index, 1) for index in range(last)]
+    ones = [(index, 1) for index in range(MANY)]
+    same = ones[:last]
     for name, integers, value in (
         ("row-of-many-rounded", range(MANY), 1),
         ("row-of-many-last-continuous", others, 1),
@@ -107,8 +114,7 @@ def many_variables():
     yield "row-last-missing", certificate(
         MANY, problem=[f"a G 1 {vector(almost)}"], derivations=[stated]
     )
-    solution = [f"s {vector(same + [(last, -1)])}"]
-    problem = [f"a G {last} {vector(ones)}"]
+    solution, problem = [f"s {vector(ones)}"], [f"a L {last} {vector(ones)}"]
     yield "sum-of-many-violated", certificate(MANY, problem=problem, solutions=solution)
     doubled = {
         "problem": [f"a G 2 {vector([(index, 2 * value) for index, value in row])}"],

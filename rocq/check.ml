@@ -1,7 +1,7 @@
 (* vipr-rocq [--profile 1|2] [--] FILE ..: prints a line for each file, `verified FILE` or
    `refused FILE`. The exit status is that of `vipr check`: 0 if all are verified, 1 if one is
    refused, 2 if the command line is wrong, and 3 if a file can't be read, an answer can't be
-   written, or memory doesn't suffice. *)
+   written, or memory doesn't suffice and OCaml can say so. *)
 
 let contents file =
   let channel = open_in_bin file in

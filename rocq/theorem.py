@@ -51,9 +51,10 @@ PROFILES = {1: "Profile1", 2: "Profile2"}
 CLOSED = "Closed under the global context"
 # Rocq reads a long list or literal with a deep stack
 PIECES, LONGEST = 256, 64
-# a larger text is announced with the time that it may take
-LARGE = 200_000
-SECONDS, MEGABYTES = 100e-6, 1.4e-3
+# what a byte of a text may take, and a byte of the objective's row in the place of each `OBJ`; a
+# text that may take more seconds than SOON is announced
+SECONDS, MEGABYTES, ROW_SECONDS, SOON = 100e-6, 1.4e-3, 0.6e-6, 20
+COMMENTS = re.compile(rb"\A(\s*%[^\n]*)*")
 PIECE = re.compile(rb"([ !-~]{1,%d})(\n?)|([\0-\xff])" % LONGEST)
 
 
@@ -76,6 +77,32 @@ def theorem(text, profile):
         yield BLOCK.format(number=number, pieces=";\n".join(block))
     names = ";\n".join(f"block_{number}" for number in range(len(blocks)))
     yield CLAIM.format(blocks=names, profile=PROFILES[profile])
+
+
+def bytes_of_rows(text):
+    """How many bytes all rows `OBJ` have, with the objective's in the place of each: Rocq's kernel
+    goes through that each time."""
+    words = COMMENTS.sub(b"", text).split()
+    try:
+        integers = 5 + int(words[3])
+        place = integers + 2 + int(words[integers])
+        end = place + 2 + 2 * int(words[place + 1])
+    except (IndexError, ValueError):
+        return 0
+    row = sum(len(word) + 1 for word in words[place + 1 : end])
+    return row * words[end:].count(b"OBJ")
+
+
+def announce(text):
+    """Says what a large text may take."""
+    seconds = len(text) * SECONDS + bytes_of_rows(text) * ROW_SECONDS
+    if seconds > SOON:
+        print(
+            f"{len(text)} bytes may take {seconds:.0f} seconds and {len(text) * MEGABYTES:.0f} MB; "
+            "if many rows are long, far more",
+            file=sys.stderr,
+            flush=True,
+        )
 
 
 def write(out, words):
@@ -138,13 +165,7 @@ def main():
     try:
         text = given.file.read_bytes()
         write(given.out, theorem(text, given.profile))
-        if len(text) > LARGE:
-            print(
-                f"{len(text)} bytes may take {len(text) * SECONDS:.0f} seconds and "
-                f"{len(text) * MEGABYTES:.0f} MB; if many rows are long, far more",
-                file=sys.stderr,
-                flush=True,
-            )
+        announce(text)
         return answer(proved(given.out), str(given.file))
     except OSError as error:
         return fault(error)

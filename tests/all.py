@@ -24,8 +24,8 @@ RT = os.environ.get("RT", "rt")
 FIRST = "library second".split()
 # the longest first
 THEN = (
-    "theorems python long hostile costs pages large fuzz conformance output archive solver growths"
-    " calls answers wrong_versions conformance_run kills interface house writer written races"
+    "theorems sharpness python long hostile costs pages large fuzz conformance output archive solver growths"
+    " calls answers wrong_versions conformance_run kills interface house writer written released races"
     " browser language"
 ).split()
 BUILT = ["crates/vipr/out/vipr", "crates/vipr_c/out/libvipr.a", "crates/vipr_c/out/libvipr.so.*"]

@@ -4,10 +4,11 @@
 usage: tests/costs.py [--write] [PROGRAM]     crates/vipr/out/vipr without it
 
 Of each family of PRODUCTS and HOSTILE (bench/families.py) a text and one of four times its length are checked, and
-written in the compact form; instructions and the peak of memory may grow by five times at most, or by eight for the
-families of ROOTS. Each command may have no more memory than MOST (or LESS) bytes for a byte of text, whatever it
-writes, beside what an empty run has and ROOM; that is tried with the families of KEPT, and with constraints written
-`OBJ`, which are much longer in the canonical text. Each family of STEPS may take no more than so many instructions.
+written in the compact form; instructions and the peak of memory may grow by five times at most. Each command may have
+no more memory than MOST (or LESS) bytes for a byte of text, whatever it writes, beside what an empty run has and ROOM;
+that is tried with the families of KEPT, and with constraints written `OBJ`, which are much longer in the canonical
+text. Each family of STEPS may take no more than so many instructions. The families of SETS and SPACED, large sets of
+assumptions that are split and joined, have bounds for both, in longer texts.
 What instructions hide is counted beside them, for the texts that programs write: divisions, each of which takes the
 time of twenty other steps, allocations, and steps that move bytes. So a division by 1 that comes back is a failure.
 
@@ -24,51 +25,85 @@ import tempfile
 from concurrent.futures import ThreadPoolExecutor
 from pathlib import Path
 
-from texts import GNU_TIME, OBJDUMP, TOP, VALGRIND, Checks, described, instructions, peak, program, run, spent, text_of
+from texts import (
+    GNU_TIME,
+    OBJDUMP,
+    TOP,
+    VALGRIND,
+    Checks,
+    described,
+    instructions,
+    peak,
+    program,
+    run,
+    spent,
+    text_of,
+)
 from sources import replaced
 import families
 
 # what doesn't meet its bound yet: pairs of a family's name and a command
-OPEN = set()
+OPEN = {("large_and_spread", "check")}
 # the commands that write the compact text
-COMPACT = 'show --compact', 'tighten --compact'
+COMPACT = "show --compact", "tighten --compact"
 # how much more a text of four times the length may cost
 GROWTH = 5
-# a set that gets an index copies a short list, as long as a root of the set: k sets that get one each take k√k
-ROOTS, ROOT_GROWTH = {'joined_sets', 'split_on_sets', 'own_in_front', 'growing_at_the_front'}, 8
 # bytes of memory for a byte of text, and what is free beside them
-MOST = {'check': 50, 'explain': 50, 'show': 50, 'tighten': 50}
+MOST = {"check": 50, "explain": 50, "show": 50, "tighten": 50}
 ROOM = 2 << 20
 # what is kept as it is written takes less, by family and command
-LESS = {('empty_solutions', 'tighten'): 4}
+LESS = {("empty_solutions", "tighten"): 4}
+# sums of two sets that have nothing in common with others share nothing
+SPACED_MOST = 90
 # by how many bytes the peak of a run varies, by what the system maps of the program
 NOISE = 256 << 10
 # the lengths of the shorter texts; sets show what they cost in longer ones, and some at one of several lengths
-LENGTH, LONG = 8_000, {'same_set': [400_000], 'alternating_sets': [400_000], 'nine_sets': [400_000],
-                       'joined_sets': [225_000, 400_000], 'split_on_sets': [200_000, 400_000, 700_000],
-                       'own_in_front': [350_000, 700_000], 'growing': [100_000], 'growing_at_the_front': [100_000],
-                       'growing_in_the_middle': [100_000]}
+LENGTH, LONG = 8_000, {
+    "same_set": [400_000],
+    "alternating_sets": [400_000],
+    "nine_sets": [400_000],
+    "joined_sets": [225_000, 400_000],
+    "split_on_sets": [200_000, 400_000, 700_000],
+    "own_in_front": [350_000, 700_000],
+    "growing": [100_000],
+    "growing_at_the_front": [100_000],
+    "growing_in_the_middle": [100_000],
+    "gone_one_by_one": [250_000],
+    "parts_in_a_chain": [250_000],
+    "pairs_of_unions": [250_000],
+    "first_gone": [250_000],
+    "first_gone_held": [250_000],
+    "unions_split": [250_000],
+}
 MEMORY_LENGTH, KEPT_LENGTH, WRITTEN_LENGTH = 200_000, 500_000, 100_000
+# texts with large sets, and how many instructions each byte of them may take
+SETS_LENGTH, SETS_STEPS = 1_000_000, 1_000
 # instructions that a text of this length may take whose steps have no shorter way
-STEPS_LENGTH, STEPS_MOST = 20_000, {'split_on_rows': 13_000_000, 'wide_divisors': 300_000_000}
+STEPS_LENGTH, STEPS_MOST = 20_000, {"split_on_rows": 13_000_000, "wide_divisors": 300_000_000}
 # divisions, allocations and steps that move bytes: how many a text of this length may take, by family
 HIDDEN_LENGTH, HIDDEN_MOST = 100_000, {
-    'chain': (50, 150, 130_000), 'tree': (50, 4_800, 300_000), 'cuts': (3_000, 1_350, 140_000),
-    'dense': (27_000, 350, 130_000), 'wide': (50, 2_900, 400_000), 'long': (50, 400, 130_000),
-    'held': (50, 2_300, 480_000), 'solutions': (50, 5_500, 220_000)}
+    "chain": (50, 150, 130_000),
+    "tree": (50, 4_800, 300_000),
+    "cuts": (3_000, 1_350, 140_000),
+    "dense": (27_000, 350, 130_000),
+    "wide": (50, 2_900, 400_000),
+    "long": (50, 400, 130_000),
+    "held": (50, 2_300, 480_000),
+    "solutions": (50, 5_500, 220_000),
+}
 # when a run is stopped, in seconds of processor time: more than the longest one needs under valgrind on a slow machine
 SECONDS = 60
-PAGE = TOP / 'docs/SECURITY.md'
-MARKS = '<!-- costs: written by `tests/costs.py --write` -->', '<!-- end of the costs -->'
-CHECKS, unmet = Checks('costs'), set()
+PAGE = TOP / "docs/SECURITY.md"
+MARKS = "<!-- costs: written by `tests/costs.py --write` -->", "<!-- end of the costs -->"
+CHECKS, unmet = Checks("costs"), set()
 
 
 def check(good, name, command, what):
     is_open = (name, command) in OPEN
     unmet.update([(name, command)] if not good else [])
-    CHECKS.check(good or is_open, f'{name}: {command}: {what}')
+    CHECKS.check(good or is_open, f"{name}: {command}: {what}")
     if is_open and not good:
-        print(f'{name}: {command}: {what} (open)')
+        print(f"{name}: {command}: {what} (open)")
 
 
 def file_of(family, command, length):
@@ -81,12 +116,18 @@ def growth(task):
     """How much more four times the text costs: instructions, and memory; None for what isn't known."""
     family, command, least = task
     found = []
-    for measure, is_there, length, free in ((instructions, VALGRIND, least, 0),
-                                            (peak, GNU_TIME, max(least, MEMORY_LENGTH), (EMPTY or 0) - NOISE)):
-        files = [file_of(family, command, it) for it in (length, 4 * length)]
-        known = [is_there and measure([PROGRAM, *command.split(), path], SECONDS) for path, _ in files]
+    for measure, is_there, length, free in (
+        (instructions, VALGRIND, least, 0),
+        (peak, GNU_TIME, max(least, MEMORY_LENGTH), (EMPTY or 0) - NOISE),
+    ):
+        files = [file_of(family, command, size) for size in (length, 4 * length)]
+        known = [
+            is_there and measure([PROGRAM, *command.split(), path], SECONDS) for path, _ in files
+        ]
         times = files[1][1] / files[0][1] / 4
-        found.append((known[1] - free) / (known[0] - free) / times if all(known) else None if is_there else 0)
+        found.append(
+            (known[1] - free) / (known[0] - free) / times if all(known) else None if is_there else 0
+        )
     return found
 
 
@@ -100,121 +141,286 @@ def kept(task):
 
 
 def figure(number):
-    return f'over {SECONDS} seconds' if number is None else f'{number:.1f}' if number else 'not measured'
+    return (
+        f"over {SECONDS} seconds"
+        if number is None
+        else f"{number:.1f}"
+        if number
+        else "not measured"
+    )
 
 
 def row(what, command, found):
-    return f'| {what} | `{command}` | {figure(found[0])} | {figure(found[1])} |'
+    return f"| {what} | `{command}` | {figure(found[0])} | {figure(found[1])} |"
 
 
 def growths(pool):
     """Checks the families of PRODUCTS and HOSTILE, and gives the rows of their table."""
     chosen = families.PRODUCTS + families.HOSTILE
-    tasks = [(family, command) for command in ('check', *COMPACT) for family in chosen]
-    tasks.insert(len(chosen), (families.objective_tested, 'explain'))
-    tasks = [(*task, length) for task in tasks for length in LONG.get(task[0].__name__, [LENGTH])]
+    tasks = [(family, command) for command in ("check", *COMPACT) for family in chosen]
+    tasks.insert(len(chosen), (families.objective_tested, "explain"))
+    tasks = [
+        (family, command, length)
+        for family, command in tasks
+        for length in LONG.get(family.__name__, [LENGTH])
+    ]
     rows = {}
     for (family, command, _), found in zip(tasks, pool.map(growth, tasks)):
         name = family.__name__
-        for what, times in zip(('instructions', 'memory'), found):
-            check(times is not None, name, command, f'{what}: not verified within {SECONDS} seconds')
-            most = ROOT_GROWTH if name in ROOTS else GROWTH
-            check((times or 0) <= most, name, command, f'{what}: {times or 0:.1f} times for 4 times the text')
-        of = (ABOUT[name] if command not in COMPACT else 'the most of all these texts'), command
-        rows[of] = [max(*pair, key=lambda times: times or 0) for pair in zip(rows.get(of, (0, 0)), found)]
+        for what, times in zip(("instructions", "memory"), found):
+            check(
+                times is not None, name, command, f"{what}: not verified within {SECONDS} seconds"
+            )
+            check(
+                (times or 0) <= GROWTH,
+                name,
+                command,
+                f"{what}: {times or 0:.1f} times for 4 times the text",
+            )
+        of = (ABOUT[name] if command not in COMPACT else "the most of all these texts"), command
+        rows[of] = [
+            max(*pair, key=lambda times: times or 0) for pair in zip(rows.get(of, (0, 0)), found)
+        ]
     return [row(*of, found) for of, found in rows.items()]
 
 
 def memory(pool):
     """Checks the families of KEPT and those with `OBJ`, and gives the rows of their table."""
-    chosen = [(family, KEPT_LENGTH) for family in families.KEPT] + [(families.objective, WRITTEN_LENGTH)]
-    commands = ['check', 'show', 'tighten']
+    chosen = [(family, KEPT_LENGTH) for family in families.KEPT] + [
+        (families.objective, WRITTEN_LENGTH)
+    ]
+    commands = ["check", "show", "tighten"]
     tasks = [(family, command, length) for family, length in chosen for command in commands]
     found = dict(zip(tasks, pool.map(kept, tasks)))
     for family, length in chosen:
         cells = []
         for command in commands:
             times, good = found[family, command, length]
-            check(good, family.__name__, command, f'{figure(times)} bytes of memory for a byte of text')
+            check(
+                good,
+                family.__name__,
+                command,
+                f"{figure(times)} bytes of memory for a byte of text",
+            )
             cells.append(figure(times))
-        yield f'| {ABOUT[family.__name__]} | ' + ' | '.join(cells) + ' |'
+        yield f"| {ABOUT[family.__name__]} | " + " | ".join(cells) + " |"
+
+
+def of_sets(family):
+    """Bytes of memory and instructions for a byte of a long text, and whether both are within their bounds."""
+    path, size = file_of(family, "check", SETS_LENGTH)
+    words = [PROGRAM, "check", path]
+    room = GNU_TIME and peak(words, SECONDS)
+    count = VALGRIND and instructions(words, SECONDS)
+    most = SPACED_MOST if family in families.SPACED else MOST["check"]
+    return (
+        (
+            room and max(0, room - EMPTY) / size,
+            not GNU_TIME or room and room - EMPTY <= most * size + ROOM,
+        ),
+        (count and count / size, not VALGRIND or count and count <= SETS_STEPS * size),
+    )
+
+
+def sets(pool):
+    """Checks the families of SETS and SPACED, and gives the rows of their table."""
+    chosen = families.SETS + families.SPACED
+    for family, found in zip(chosen, pool.map(of_sets, chosen)):
+        cells = []
+        for (each, good), what in zip(found, ("bytes of memory", "instructions")):
+            check(good, family.__name__, "check", f"{figure(each)} {what} for a byte of text")
+            cells.append(figure(each))
+        yield f"| {ABOUT[family.__name__]} | " + " | ".join(cells) + " |"
 
 
 def steps(pool):
     """Checks the families of STEPS."""
+
     def cost(family):
-        return instructions([PROGRAM, 'check', file_of(family, 'check', STEPS_LENGTH)[0]], SECONDS) if VALGRIND else 0
+        return (
+            instructions([PROGRAM, "check", file_of(family, "check", STEPS_LENGTH)[0]], SECONDS)
+            if VALGRIND
+            else 0
+        )
 
     for family, found in zip(families.STEPS, pool.map(cost, families.STEPS)):
         good = found is not None and found <= STEPS_MOST[family.__name__]
-        check(good, family.__name__, 'check', f'{found} instructions for {STEPS_LENGTH} bytes')
+        check(good, family.__name__, "check", f"{found} instructions for {STEPS_LENGTH} bytes")
 
 
 def hidden(family):
     """How many divisions, allocations and steps that move bytes a check takes."""
-    path, counts = f'{ROOM_FOR_FILES}/{family}.steps', Path(ROOM_FOR_FILES, f'{family}.counts')
+    path, counts = f"{ROOM_FOR_FILES}/{family}.steps", Path(ROOM_FOR_FILES, f"{family}.counts")
     Path(path).write_bytes(text_of(getattr(families, family), HIDDEN_LENGTH))
-    run([VALGRIND, '--tool=callgrind', '--dump-instr=yes', '--compress-pos=no', '--compress-strings=no',
-         f'--callgrind-out-file={counts}', PROGRAM, 'check', path], timeout=20 * SECONDS)
+    run(
+        [
+            VALGRIND,
+            "--tool=callgrind",
+            "--dump-instr=yes",
+            "--compress-pos=no",
+            "--compress-strings=no",
+            f"--callgrind-out-file={counts}",
+            PROGRAM,
+            "check",
+            path,
+        ],
+        timeout=20 * SECONDS,
+    )
     divisions = allocations = moves = 0
     at, is_of_a_call = {}, False
-    for line in counts.read_text(encoding='utf-8').splitlines():
-        key, _, value = line.partition('=')
-        if key in ('ob', 'fn', 'cfn'):
+    for line in counts.read_text(encoding="utf-8").splitlines():
+        key, _, value = line.partition("=")
+        if key in ("ob", "fn", "cfn"):
             at[key] = value
-        elif key == 'calls':
+        elif key == "calls":
             is_of_a_call = True
-            allocations += int(value.split()[0]) if at['cfn'] in ('malloc', 'calloc', 'realloc') else 0
-        elif line.startswith('0x') and is_of_a_call:
+            allocations += (
+                int(value.split()[0]) if at["cfn"] in ("malloc", "calloc", "realloc") else 0
+            )
+        elif line.startswith("0x") and is_of_a_call:
             is_of_a_call = False
-        elif line.startswith('0x'):
+        elif line.startswith("0x"):
             place, _, times = line.split()
-            is_division = Path(at['ob']).name == Path(PROGRAM).name and int(place, 16) in DIVISIONS
+            is_division = Path(at["ob"]).name == Path(PROGRAM).name and int(place, 16) in DIVISIONS
             divisions += int(times) if is_division else 0
-            moves += int(times) if MOVES.match(at['fn']) else 0
+            moves += int(times) if MOVES.match(at["fn"]) else 0
     return divisions, allocations, moves
 
 
 def hidden_costs(pool):
     """Checks what instructions hide."""
     for family, found in zip(HIDDEN_MOST, pool.map(hidden, HIDDEN_MOST)):
-        for what, times, most in zip(('divisions', 'allocations', 'steps that move bytes'), found, HIDDEN_MOST[family]):
-            check(times <= most, family, 'check', f'{times} {what} for {HIDDEN_LENGTH} bytes')
+        for what, times, most in zip(
+            ("divisions", "allocations", "steps that move bytes"), found, HIDDEN_MOST[family]
+        ):
+            check(times <= most, family, "check", f"{times} {what} for {HIDDEN_LENGTH} bytes")
 
 
 def beyond():
     """A sentence that names what doesn't meet its bound yet."""
-    named = [f'`{command}` of {ABOUT[name]}' for name, command in sorted(OPEN)]
-    return ['', f'Not yet within these bounds: {"; ".join(named)}.'] if named else []
+    named = [f"`{command}` of {ABOUT[name]}" for name, command in sorted(OPEN)]
+    return ["", f'Not yet within these bounds: {"; ".join(named)}.'] if named else []
 
 
-def table(first, second):
-    return '\n'.join([
-        MARKS[0], '| Texts | Command | Instructions for 4 times the text | Memory for 4 times the text |',
-        '|---|---|---|---|', *first, '', 'Bytes of memory for a byte of text, beside what an empty run has:', '',
-        '| Texts | `check` | `show` | `tighten` |', '|---|---|---|---|', *second, *beyond(), MARKS[1]])
+def table(first, second, third):
+    return "\n".join(
+        [
+            MARKS[0],
+            "| Texts | Command | Instructions for 4 times the text | Memory for 4 times the text |",
+            "|---|---|---|---|",
+            *first,
+            "",
+            "Bytes of memory for a byte of text, beside what an empty run has:",
+            "",
+            "| Texts | `check` | `show` | `tighten` |",
+            "|---|---|---|---|",
+            *second,
+            "",
+            f"The same, and instructions, for a byte of texts of about {SETS_LENGTH // 10**6} MB with large sets of assumptions:",
+            "",
+            "| Texts | Memory of `check` | Instructions |",
+            "|---|---|---|",
+            *third,
+            *beyond(),
+            MARKS[1],
+        ]
+    )
 
 
 def long_texts(n):
     """Texts of which an explanation for people looks at much: some n items each, by their names."""
-    head = 'VER 1.0\nVAR {0}\n{1}\nINT 0\nOBJ min\n{0} {2}\nCON {3} 0\n{4}\nRTP {5}\nSOL {6}\n{7}DER {8}\n{9}'
+    head = "VER 1.0\nVAR {0}\n{1}\nINT 0\nOBJ min\n{0} {2}\nCON {3} 0\n{4}\nRTP {5}\nSOL {6}\n{7}DER {8}\n{9}"
 
-    def text(claim, con=(), sol='', count=0, der=(), variables=n):
-        names = ' '.join(f'x{it}' for it in range(variables))
-        row = ' '.join(f'{it} 1' for it in range(variables))
-        return head.format(variables, names, row, len(con), '\n'.join(con), claim, count, sol,
-                           len(der), '\n'.join(der))
+    def text(claim, con=(), sol="", count=0, der=(), variables=n):
+        names = " ".join(f"x{index}" for index in range(variables))
+        row = " ".join(f"{index} 1" for index in range(variables))
+        return head.format(
+            variables,
+            names,
+            row,
+            len(con),
+            "\n".join(con),
+            claim,
+            count,
+            sol,
+            len(der),
+            "\n".join(der),
+        )
 
-    assumed = [f'a{it} G 0 OBJ {{ asm }} -1' for it in range(n)]
-    named = [f'c{it} G 0 0' for it in range(n)]
-    chain = ['a G 0 OBJ { asm } -1'] + [f'd{it} G 0 OBJ {{ lin 1 {it} 1 }} {it + 2}' for it in range(n)]
-    yield 'listed solutions and a long objective', text('range -inf -2', sol='s 0\n' * (3 * n), count=3 * n)
-    yield 'many constraints near the claim', text('range 1 inf', der=assumed)
-    yield 'a chain near the claim', text('range 1 inf', der=chain, variables=1)
-    yield 'one index in a long sum', text('infeas', con=named, variables=0, der=[
-        f'd G 1 0 {{ lin {n} ' + f'{n + 9} 1 ' * n + '} -1'])
-    yield 'a long token', 'VER ' + '1' * (8 * n)
-    yield 'a long line', 'VER 1.0 VAR 1 ' + 'x ' * (8 * n)
+    assumed = [f"a{index} G 0 OBJ {{ asm }} -1" for index in range(n)]
+    named = [f"c{index} G 0 0" for index in range(n)]
+    chain = ["a G 0 OBJ { asm } -1"] + [
+        f"d{index} G 0 OBJ {{ lin 1 {index} 1 }} {index + 2}" for index in range(n)
+    ]
+    yield "listed solutions and a long objective", text(
+        "range -inf -2", sol="s 0\n" * (3 * n), count=3 * n
+    )
+    yield "many constraints near the claim", text("range 1 inf", der=assumed)
+    yield "a chain near the claim", text("range 1 inf", der=chain, variables=1)
+    yield "one index in a long sum", text(
+        "infeas", con=named, variables=0, der=[f"d G 1 0 {{ lin {n} " + f"{n + 9} 1 " * n + "} -1"]
+    )
+    yield "a long token", "VER " + "1" * (8 * n)
+    yield "a long line", "VER 1.0 VAR 1 " + "x " * (8 * n)
+    ones = " ".join(f"{index} 1" for index in range(n - 1))
+    objectives = ["c G 0 OBJ"] * (2 * n)
+    yield "constraints with the objective's row, and a sum that nearly lacks it", text(
+        "range -inf inf", con=objectives, der=[f"d G 0 {n} {ones} {n - 1} 2 {{ lin 0 }} -1"]
+    )
+    yield "constraints with the objective's row, and one that is nearly wanted", text(
+        "range -inf inf",
+        con=[f"b G 0 {n} {ones} {n - 1} 3", *objectives],
+        der=[f"d G 1 {n} {ones} {n - 1} 2 {{ lin 1 0 1 }} -1"],
+    )
+    yield "constraints with the objective's row, and a join that nearly states it", text(
+        "range -inf inf",
+        con=objectives,
+        der=[f"d G 1 {n} {ones} {n - 1} 2 {{ uns 0 1 2 3 }} -1"],
+    )
+    yield "a sum that lacks the row of many constraints", text(
+        "range -inf inf",
+        con=["z G 0 0"] + ["c G 0 1 0 1"] * n,
+        variables=1,
+        der=[f"d G 0 1 0 1 {{ lin {n}" + " 0 1" * n + " } -1"],
+    )
+    sets = overlapping_sets(n)
+    last = len(sets) - 1
+    yield "the nearest constraints rest on overlapping sets", text(
+        "infeas", variables=0, der=sets + [f"n G 1 0 {{ lin 2 {last} 1 0 1 }} -1"] * 3
+    )
+    yield "a join of overlapping sets", text(
+        "infeas", variables=0, der=sets + [f"s G 5 0 {{ uns {last} 2 {last} 0 }} -1"]
+    )
+
+
+def overlapping_sets(n):
+    """Derivations of an assumption, of a set, of n sets each of which has one index less, and of a sum of all of them."""
+    count = 1_100 + n
+    ders = ["g G 1 0 { asm } -1", "q G 0 0 { lin 1 0 1 } -1"]
+    ders += ["a L 0 0 { asm } -1"] * count
+    ders.append(
+        f"t G 0 0 {{ lin {count} " + " ".join(f"{index + 2} -1" for index in range(count)) + " } -1"
+    )
+    level = [len(ders) - 1]
+    for taken in range(n):
+        ders.append(f"p G 0 0 {{ uns {level[-1]} {count + 1 - taken} 1 0 }} -1")
+        level.append(len(ders) - 1)
+    # (beside another set, since a set that is one list takes in those that it has)
+    other, first = len(ders) + 1_100, len(ders)
+    ders += ["b L 0 0 { asm } -1"] * 1_100
+    ders.append(
+        "o G 0 0 { lin 1100 " + " ".join(f"{first + at} -1" for at in range(1_100)) + " } -1"
+    )
+    ders += [f"u G 0 0 {{ lin 2 {other} 1 {index} 1 }} -1" for index in level]
+    level = list(range(other + 1, len(ders)))
+    while len(level) > 1:
+        pairs = [level[start : start + 2] for start in range(0, len(level), 2)]
+        level = list(range(len(ders), len(ders) + len(pairs)))
+        ders += [
+            f"s G 0 0 {{ lin {len(pair)} " + " ".join(f"{index} 1" for index in pair) + " } -1"
+            for pair in pairs
+        ]
+    return ders
 
 
 def long_growth(task):
@@ -222,10 +428,18 @@ def long_growth(task):
     known = []
     for which, n in enumerate(task[1:]):
         name, text = list(long_texts(n))[task[0]]
-        path = Path(ROOM_FOR_FILES, f'long.{task[0]}.{which}')
-        path.write_text(text, encoding='utf-8')
-        words = [VALGRIND, '--tool=callgrind', '--callgrind-out-file=/dev/null', PROGRAM, 'explain', '--long', path]
-        found = re.search(rb'Collected : (\d+)', run(words, timeout=20 * SECONDS).stderr)
+        path = Path(ROOM_FOR_FILES, f"long.{task[0]}.{which}")
+        path.write_text(text, encoding="utf-8")
+        words = [
+            VALGRIND,
+            "--tool=callgrind",
+            "--callgrind-out-file=/dev/null",
+            PROGRAM,
+            "explain",
+            "--long",
+            path,
+        ]
+        found = re.search(rb"Collected : (\d+)", run(words, timeout=20 * SECONDS).stderr)
         known.append((found and int(found[1]), len(text)))
     (first, size), (second, larger) = known
     return name, None if None in (first, second) else second / first / (larger / size / 4)
@@ -233,42 +447,57 @@ def long_growth(task):
 
 def long_growths(pool):
     """Checks what `explain --long` costs."""
-    for name, times in pool.map(long_growth, [(it, 500, 2000) for it in range(6)]):
-        check(times is not None, name, 'explain --long', f'not explained within {SECONDS} seconds')
-        check((times or 0) <= GROWTH, name, 'explain --long', f'{times or 0:.1f} times for 4 times the text')
+    count = len(list(long_texts(2)))
+    for name, times in pool.map(long_growth, [(number, 500, 2000) for number in range(count)]):
+        check(times is not None, name, "explain --long", f"not explained within {SECONDS} seconds")
+        check(
+            (times or 0) <= GROWTH,
+            name,
+            "explain --long",
+            f"{times or 0:.1f} times for 4 times the text",
+        )
 
 
 def main():
     if not VALGRIND:
-        CHECKS.skip('valgrind', 'no instructions are counted')
+        CHECKS.skip("valgrind", "no instructions are counted")
     elif not OBJDUMP:
-        CHECKS.skip('objdump', 'no divisions are counted')
+        CHECKS.skip("objdump", "no divisions are counted")
     if not GNU_TIME:
-        CHECKS.skip('GNU time', 'no memory is measured')
+        CHECKS.skip("GNU time", "no memory is measured")
     with ThreadPoolExecutor(os.cpu_count()) as pool:
         first = growths(pool)
         second = list(memory(pool)) if GNU_TIME else []
+        third = list(sets(pool))
         steps(pool)
         if VALGRIND:
             long_growths(pool)
         if DIVISIONS:
             hidden_costs(pool)
     if WRITES:
-        text = PAGE.read_text(encoding='utf-8')
-        PAGE.write_text(replaced(text, MARKS, table(first, second)), encoding='utf-8')
+        text = PAGE.read_text(encoding="utf-8")
+        PAGE.write_text(replaced(text, MARKS, table(first, second, third)), encoding="utf-8")
     for name, command in sorted(OPEN - unmet):
-        print(f'{name}: {command}: meets its bound, and is in OPEN')
-    return CHECKS.end(f', {spent():.0f} seconds of processor time')
+        print(f"{name}: {command}: meets its bound, and is in OPEN")
+    return CHECKS.end(f", {spent():.0f} seconds of processor time")
 
 
-WRITES = '--write' in sys.argv
-PROGRAM = program([word for word in sys.argv[1:] if word != '--write'])
+WRITES = "--write" in sys.argv
+PROGRAM = program([word for word in sys.argv[1:] if word != "--write"])
 ABOUT = described(families)
 # where the program divides, and what moves bytes
-DIVISIONS = VALGRIND and OBJDUMP and {int(it, 16) for it in re.findall(
-    rb'^ *([0-9a-f]+):\t.*\ti?div[bwlq]? ', run([OBJDUMP, '-d', PROGRAM]).stdout, re.M)}
-MOVES = re.compile('_*mem(cpy|move|set)_')
-EMPTY = GNU_TIME and peak([PROGRAM, '--version'], SECONDS)
-with tempfile.TemporaryDirectory(prefix='vipr-costs-') as ROOM_FOR_FILES:
+DIVISIONS = (
+    VALGRIND
+    and OBJDUMP
+    and {
+        int(address, 16)
+        for address in re.findall(
+            rb"^ *([0-9a-f]+):\t.*\ti?div[bwlq]? ", run([OBJDUMP, "-d", PROGRAM]).stdout, re.M
+        )
+    }
+)
+MOVES = re.compile("_*mem(cpy|move|set)_")
+EMPTY = GNU_TIME and peak([PROGRAM, "--version"], SECONDS)
+with tempfile.TemporaryDirectory(prefix="vipr-costs-") as ROOM_FOR_FILES:
     STATUS = main()
 sys.exit(STATUS)

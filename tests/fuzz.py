@@ -35,19 +35,26 @@ import families
 
 # for each command its model: what goes to standard output, what to standard error, and the exit status
 MODELS = {
-    'check': lambda text, profile: of_verdict(verdict(text, profile)),
-    'explain': lambda text, profile: of_verdict(explained(text, profile)),
-    'show': lambda text, profile: shown(text),
-    'tighten': tightened,
+    "check": lambda text, profile: of_verdict(verdict(text, profile)),
+    "explain": lambda text, profile: of_verdict(explained(text, profile)),
+    "show": lambda text, profile: shown(text),
+    "tighten": tightened,
 }
-PROFILES = {'show': [1]}
+PROFILES = {"show": [1]}
 # for each status what may be on standard error, and how standard output may begin
-KEPT, REFUSED = rb'kept \d+ removed \d+ peak \d+ \d+\n', rb'refused \d+ at (byte \d+|SOL \d+|DER \d+|end)\n'
+KEPT, REFUSED = (
+    rb"kept \d+ removed \d+ peak \d+ \d+\n",
+    rb"refused \d+ at (byte \d+|SOL \d+|DER \d+|end)\n",
+)
 LINES = {
-    ('check', 0): (rb'', rb'verified '), ('check', 1): (rb'', rb'refused '),
-    ('explain', 0): (rb'', rb'verified '), ('explain', 1): (rb'', rb'refused '),
-    ('show', 0): (rb'', rb'VER 1\.0\n'), ('show', 1): (REFUSED, rb'$'),
-    ('tighten', 0): (KEPT, rb'VER 1\.0\n'), ('tighten', 1): (REFUSED, rb'$'),
+    ("check", 0): (rb"", rb"verified "),
+    ("check", 1): (rb"", rb"refused "),
+    ("explain", 0): (rb"", rb"verified "),
+    ("explain", 1): (rb"", rb"refused "),
+    ("show", 0): (rb"", rb"VER 1\.0\n"),
+    ("show", 1): (REFUSED, rb"$"),
+    ("tighten", 0): (KEPT, rb"VER 1\.0\n"),
+    ("tighten", 1): (REFUSED, rb"$"),
 }
 BLOCK = 100
 # seconds that a run may take, on a machine with other work
@@ -56,42 +63,48 @@ LONGEST = 60
 
 def of_verdict(lines):
     """What is printed, on both streams, and the exit status, of the lines of a verdict."""
-    return f'{lines}\n'.encode(), b'', 0 if lines.startswith('verified') else 1
+    return f"{lines}\n".encode(), b"", 0 if lines.startswith("verified") else 1
 
 
 def against_models(number):
     """Of a text what differs from the models, and how often each command and status came. The first texts are the examples."""
-    chance = random.Random(f'{GIVEN.seed} model {number}')
+    chance = random.Random(f"{GIVEN.seed} model {number}")
     text = WHOLE[number] if number < len(WHOLE) else damaged(chance.choice(SHORT), chance)
     found, counts = [], Counter()
     for command, model in MODELS.items():
         for profile in PROFILES.get(command, [1, 2]):
-            words = [command, '--profile', '2'] if profile == 2 else [command]
+            words = [command, "--profile", "2"] if profile == 2 else [command]
             wanted = model(text, profile)
             got = run([PROGRAM, *words], text)
             counts[f'{" ".join(words)}: status {wanted[2]}'] += 1
             if got != wanted:
-                found.append(f'text {number}: vipr {" ".join(words)}: wanted {wanted!r}, got {got!r}: {text[:2000]!r}')
+                found.append(
+                    f'text {number}: vipr {" ".join(words)}: wanted {wanted!r}, got {got!r}: {text[:2000]!r}'
+                )
     return found, counts
 
 
 def fault(command, words, text, file, out):
     """What is wrong with a run, or nothing."""
     before = out.read_bytes() if out and out.exists() else None
-    done = run([PROGRAM, *words], b'' if file else text, timeout=LONGEST)
+    done = run([PROGRAM, *words], b"" if file else text, timeout=LONGEST)
     if done.returncode is None:
-        return f'takes more than {LONGEST} seconds'
-    answer = f'status {done.returncode}, {done.stdout[:200]!r}, {done.stderr[:200]!r}'
+        return f"takes more than {LONGEST} seconds"
+    answer = f"status {done.returncode}, {done.stdout[:200]!r}, {done.stderr[:200]!r}"
     if (command, done.returncode) not in LINES:
         return answer
     said, begins = LINES[command, done.returncode]
     if not re.fullmatch(said, done.stderr):
         return answer
     if out and done.returncode == 0:
-        again = run([PROGRAM, 'check', *words[1:3], out])
-        return None if again.returncode == 0 and not done.stdout else f'{answer}; OUT is {again.stdout[:200]!r}'
+        again = run([PROGRAM, "check", *words[1:3], out])
+        return (
+            None
+            if again.returncode == 0 and not done.stdout
+            else f"{answer}; OUT is {again.stdout[:200]!r}"
+        )
     if out and (out.read_bytes() if out.exists() else None) != before:
-        return f'{answer}; OUT was changed'
+        return f"{answer}; OUT was changed"
     return None if re.match(begins, done.stdout) else answer
 
 
@@ -99,19 +112,23 @@ def block(first):
     """The faults of a block of runs."""
     found = []
     for number in range(first, min(first + BLOCK, GIVEN.runs)):
-        chance = random.Random(f'{GIVEN.seed} {number}')
+        chance = random.Random(f"{GIVEN.seed} {number}")
         text = chance.choice(TEXTS)
         text = chance.choice([damaged, damaged, changed])(text, chance)
         command = chance.choice(list(MODELS))
-        words = [command] if command == 'show' else [command, '--profile', chance.choice('12')]
+        words = [command] if command == "show" else [command, "--profile", chance.choice("12")]
         file = out = None
         if chance.randrange(2):
-            file = Path(ROOM, f'{os.getpid()}.vipr')
+            file = Path(ROOM, f"{os.getpid()}.vipr")
             file.write_bytes(text)
             words.append(str(file))
-        if command == 'tighten' and chance.randrange(2):
-            out = chance.choice([file, Path(ROOM, f'{os.getpid()}.out')]) if file else Path(ROOM, f'{os.getpid()}.out')
-            words += ['--out', str(out)]
+        if command == "tighten" and chance.randrange(2):
+            out = (
+                chance.choice([file, Path(ROOM, f"{os.getpid()}.out")])
+                if file
+                else Path(ROOM, f"{os.getpid()}.out")
+            )
+            words += ["--out", str(out)]
         what = fault(command, words, text, file, out)
         if what:
             found.append(f'run {number}: vipr {" ".join(words)}: {what}: {text[:2000]!r}')
@@ -120,32 +137,39 @@ def block(first):
 
 def main():
     failed, counts, texts = 0, Counter(), len(WHOLE) + GIVEN.models
-    with multiprocessing.get_context('fork').Pool(os.cpu_count()) as pool:
+    with multiprocessing.get_context("fork").Pool(os.cpu_count()) as pool:
         modelled = pool.imap_unordered(against_models, range(texts), 10)
-        for found, seen in (*modelled, *((it, {}) for it in pool.imap_unordered(block, range(0, GIVEN.runs, BLOCK)))):
+        for found, seen in (
+            *modelled,
+            *((faults, {}) for faults in pool.imap_unordered(block, range(0, GIVEN.runs, BLOCK))),
+        ):
             failed += len(found)
             counts.update(seen)
-            for it in found:
-                print(it)
+            for fault in found:
+                print(fault)
         pool.close()
         pool.join()
-    print(', '.join(f'{what} {number}' for what, number in sorted(counts.items())))
-    print(f'fuzz: {texts} texts and {GIVEN.runs} runs, {failed} failed, {spent():.0f} seconds of processor time')
+    print(", ".join(f"{what} {number}" for what, number in sorted(counts.items())))
+    print(
+        f"fuzz: {texts} texts and {GIVEN.runs} runs, {failed} failed, {spent():.0f} seconds of processor time"
+    )
     return int(failed > 0)
 
 
-words_of = argparse.ArgumentParser(description=__doc__.split('\n', maxsplit=1)[0])
-words_of.add_argument('program', nargs='*')
-words_of.add_argument('--models', type=int, default=1_000)
-words_of.add_argument('--runs', type=int, default=20_000)
-words_of.add_argument('--seed', default='1')
+words_of = argparse.ArgumentParser(description=__doc__.split("\n", maxsplit=1)[0])
+words_of.add_argument("program", nargs="*")
+words_of.add_argument("--models", type=int, default=1_000)
+words_of.add_argument("--runs", type=int, default=20_000)
+words_of.add_argument("--seed", default="1")
 GIVEN = words_of.parse_args()
 PROGRAM = program(GIVEN.program)
 # the models read numbers of any length
 sys.set_int_max_str_digits(0)
 WHOLE = [text for _, text in examples(10**9)]
 SHORT = [text for text in WHOLE if len(text) < 10_000]
-TEXTS = SHORT + [text_of(family, 1500) for family in families.FAMILIES + families.HOSTILE + families.PRODUCTS]
-with tempfile.TemporaryDirectory(prefix='vipr-fuzz-') as ROOM:
+TEXTS = SHORT + [
+    text_of(family, 1500) for family in families.FAMILIES + families.HOSTILE + families.PRODUCTS
+]
+with tempfile.TemporaryDirectory(prefix="vipr-fuzz-") as ROOM:
     STATUS = main()
 sys.exit(STATUS)

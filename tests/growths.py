@@ -27,20 +27,22 @@ from pathlib import Path
 from texts import TOP, Checks
 from sources import crates
 
-CHECKS = Checks('growths', 'runs')
+CHECKS = Checks("growths", "runs")
 # its growths are refused by tests/hostile.py
-PROGRAM = 'vipr'
+PROGRAM = "vipr"
 # tests whose growths aren't refused: reading and writing bytes takes no memory of its own
-ELSEWHERE = re.compile(r'tests::bytes::')
+ELSEWHERE = re.compile(r"tests::bytes::")
 # how many growths of a test are refused at most
 MOST = 400
 # what a failed test says of a call whose growth was refused; a vector that is written to fails a write then, and so does OUT
 # if it is one
-WANT = re.compile(r'\b(AllocError|AllocFailed|Memory|OutOfMemory|out of memory|fault memory|memory: Write)\b'
-                  r'|left: "fault write after 0\\n"')
+WANT = re.compile(
+    r"\b(AllocError|AllocFailed|Memory|OutOfMemory|out of memory|fault memory|memory: Write)\b"
+    r'|left: "fault write after 0\\n"'
+)
 # the tests that call again after it, and what they say then
-CALLS_AGAIN = re.compile(r'\bspent_\w+$')
-SPENT = 'Memory, then Spent'
+CALLS_AGAIN = re.compile(r"\bspent_\w+$")
+SPENT = "Memory, then Spent"
 
 
 class Tests:
@@ -48,18 +50,28 @@ class Tests:
 
     def __init__(self, program, library, room):
         self.program, self.library, self.room = program, library, room
-        said = self.run('--list')[1]
-        self.names = [it for it in re.findall(r'^(\S+): test$', said, re.M) if not ELSEWHERE.match(it)]
+        said = self.run("--list")[1]
+        self.names = [
+            name for name in re.findall(r"^(\S+): test$", said, re.M) if not ELSEWHERE.match(name)
+        ]
 
     def run(self, *words, refused=None):
         """The status, what was said, and how many growths there were."""
         file, report = tempfile.mkstemp(dir=self.room)
         os.close(file)
-        settings = {'PATH': '/usr/bin:/bin', 'LD_PRELOAD': self.library, 'REPORT': report}
+        settings = {"PATH": "/usr/bin:/bin", "LD_PRELOAD": self.library, "REPORT": report}
         if refused:
-            settings['REFUSE_GROWTH'] = str(refused)
-        done = subprocess.run([self.program, *words], stdin=subprocess.DEVNULL, capture_output=True, text=True,
-                              errors='replace', env=settings, timeout=120, check=False)
+            settings["REFUSE_GROWTH"] = str(refused)
+        done = subprocess.run(
+            [self.program, *words],
+            stdin=subprocess.DEVNULL,
+            capture_output=True,
+            text=True,
+            errors="replace",
+            env=settings,
+            timeout=120,
+            check=False,
+        )
         counted = Path(report).read_text().split()
         os.remove(report)
         return done.returncode, done.stdout + done.stderr, int(counted[0]) if counted else None
@@ -68,15 +80,19 @@ class Tests:
         """The number of runs of a test with a growth refused, up to one that meets none, and those that failed."""
         status, said, growths = self.run(name)
         if status or growths is None:
-            return 1, [f'{name} without a refusal: status {status}: {said:.300}']
+            return 1, [f"{name} without a refusal: status {status}: {said:.300}"]
 
         def one(number):
             return number, *self.run(name, refused=number)
+
         ended = list(pool.map(one, chosen(growths + 1)))
-        bad = [f'{name}, growth {number}: status {status}: {said:.300}' for number, status, said, _ in ended
-               if status and not WANT.search(said)]
+        bad = [
+            f"{name}, growth {number}: status {status}: {said:.300}"
+            for number, status, said, _ in ended
+            if status and not WANT.search(said)
+        ]
         if CALLS_AGAIN.search(name) and not any(SPENT in said for _, _, said, _ in ended):
-            bad.append(f'{name}: no run says `{SPENT}`')
+            bad.append(f"{name}: no run says `{SPENT}`")
         return len(ended) + 1, bad
 
 
@@ -91,30 +107,39 @@ def chosen(last):
 
 def libraries():
     """The libraries with tests."""
-    return [it for it in crates() if it != PROGRAM
-            and any('#[test]' in file.read_text() for file in (TOP / 'crates' / it / 'src').rglob('*.rt'))]
+
+    def has_tests(crate):
+        files = (TOP / "crates" / crate / "src").rglob("*.rt")
+        return any("#[test]" in file.read_text() for file in files)
+
+    return [crate for crate in crates() if crate != PROGRAM and has_tests(crate)]
 
 
 def main():
-    compiler = os.environ.get('CC') or shutil.which('cc') or shutil.which('gcc')
+    compiler = os.environ.get("CC") or shutil.which("cc") or shutil.which("gcc")
     if not compiler:
-        CHECKS.skip('C compiler', 'no growth was refused')
+        CHECKS.skip("C compiler", "no growth was refused")
         return 0
-    with tempfile.TemporaryDirectory(prefix='vipr-growths-') as room, ThreadPoolExecutor(os.cpu_count()) as pool:
-        library = f'{room}/refuse.so'
-        subprocess.run([compiler, '-O1', '-shared', '-fPIC', '-o', library, TOP / 'tests/refuse.c'], check=True)
+    with tempfile.TemporaryDirectory(prefix="vipr-growths-") as room, ThreadPoolExecutor(
+        os.cpu_count()
+    ) as pool:
+        library = f"{room}/refuse.so"
+        subprocess.run(
+            [compiler, "-O1", "-shared", "-fPIC", "-o", library, TOP / "tests/refuse.c"], check=True
+        )
         for crate in sys.argv[1:] or libraries():
-            program = TOP / f'crates/{crate}/out/{crate}_tests'
+            program = TOP / f"crates/{crate}/out/{crate}_tests"
             if not program.exists():
-                CHECKS.fail(f'{crate}: its tests are not built')
+                CHECKS.fail(f"{crate}: its tests are not built")
                 continue
             tests = Tests(program, library, room)
             of_crate = [tests.refuse_each(pool, name) for name in tests.names]
-            tried, bad = sum(it[0] for it in of_crate), [line for it in of_crate for line in it[1]]
+            tried = sum(runs for runs, _ in of_crate)
+            bad = [fault for _, faults in of_crate for fault in faults]
             CHECKS.count += tried
-            for it in bad:
-                CHECKS.fail(f'{crate} {it}')
-            print(f'{crate}: {tried} runs, {len(bad)} failed')
+            for fault in bad:
+                CHECKS.fail(f"{crate} {fault}")
+            print(f"{crate}: {tried} runs, {len(bad)} failed")
     return CHECKS.end() or int(not CHECKS.count)
 
 

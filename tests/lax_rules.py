@@ -7,6 +7,7 @@ version with the value in place of each `@`; `kinds` are the kinds of numbers of
 excused.txt names the versions, of these and of made_wrong.py, that no case of the format can tell, below `##` and the reason.
 A line of it is a name, or the beginning of names that ends with a `*`.
 """
+import ast
 import re
 from functools import partial
 from pathlib import Path
@@ -52,9 +53,16 @@ def made(source):
     return run(compile(source, "wrong", "exec"), across=across)
 
 
+def lines_of_functions(source):
+    """The lines within functions. Others are run as the model is loaded, and not for each case."""
+    functions = [node for node in ast.walk(ast.parse(source)) if isinstance(node, ast.FunctionDef)]
+    return {line for node in functions for line in range(node.lineno + 1, node.end_lineno + 1)}
+
+
 def versions():
     """The wrong versions by hand."""
     text = SOURCE.read_text()
+    inside = lines_of_functions(text)
     for words, pieces in rules():
         changed, lines = text, set()
         for old, new in zip(pieces[::2], pieces[1::2]):
@@ -63,7 +71,7 @@ def versions():
             first = text[: text.index(old)].count("\n") + 1
             lines.update(range(first, first + old.count("\n") + 1))
             changed = changed.replace(old, new)
-        yield Version(words, lines, True, partial(made, changed))
+        yield Version(words, lines if lines <= inside else None, True, partial(made, changed))
 
 
 def excuses():
@@ -85,4 +93,5 @@ def is_excused(name):
 
 def unused(names):
     """The excuses that are for none of the wrong versions."""
-    return [excuse for excuse in excuses() if not any(begins(name, excuse) for name in names)]
+    used = {excuse for excuse in excuses() for name in names if begins(name, excuse)}
+    return [excuse for excuse in excuses() if excuse not in used]

@@ -16,22 +16,16 @@ SOURCE = Path(__file__).resolve().parent.parent / "bench/plain_check.py"
 # what a wrong version is called, the lines of the source that it changes (None if each case reaches them), whether it may be
 # wrong past some number of things, and what makes it
 Version = namedtuple("Version", "name lines is_of_size make")
-# functions that make no difference to the verdict, and what tests the limits of numbers, which are vipr's choice
+# functions and variables that make no difference to the verdict, and what tests the limits of numbers, which are vipr's choice
 PRINTING = {
-    "readable",
-    "written",
-    "hold",
-    "verdict",
-    "explained",
-    "main",
-    "name_ahead",
-    "refuse",
-    "solution",
-}
+    "readable", "written", "claim", "hold", "verdict", "explained", "main", "name_ahead", "refuse", "solution"
+}  # fmt: skip
+PRINTED = {"goal", "counts", "constraint", "variable"}
 LIMITS = {"bounded", "LARGEST", "LARGEST_COUNT", "LONGEST_TOKEN", "CAUSES"}
 # functions that compare numbers, and functions that compute them
 COMPARING = {
-    "dominates", "is_absurd", "holds", "is_split", "covers", "primal_side", "rounded", "whole_at", "test_solution", "combined",
+    "dominates", "is_absurd", "holds", "is_split", "are_opposite", "covers", "primal_side", "rounded", "whole_at",
+    "test_solution", "combined",
 }  # fmt: skip
 COMPUTING = {"add", "multiply", "value_at", "combined", "number", "rounded"}
 # how many rounds a loop is cut to
@@ -233,9 +227,8 @@ def is_left_alone(node, function):
         return True
     # what is computed for the test of a limit alone, and what is printed
     in_sum = function == "add" and isinstance(node, ast.Assign)
-    return (
-        in_sum or isinstance(node, ast.JoinedStr) or code.startswith(("claim = ", "constraint = "))
-    )
+    is_printed = isinstance(node, ast.Assign) and code.split(" ")[0] in PRINTED
+    return in_sum or is_printed or isinstance(node, ast.JoinedStr)
 
 
 def places(node, function=""):

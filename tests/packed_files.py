@@ -58,10 +58,16 @@ def packed_files(check, room, words, program, has_library):
             for name, arguments in tried.items():
                 done = run([*words[name], *arguments])
                 is_told = done.returncode == 3 and b"not unpacked" in done.stderr
-                check(is_whole == (done.returncode == 0) != is_told, f"{name} of {suffix}, {what}: {done}")
+                check(
+                    is_whole == (done.returncode == 0) != is_told,
+                    f"{name} of {suffix}, {what}: {done}",
+                )
             done = run([*words["check-all"], "--vipr", program, path])
             result = done.stdout.partition(b"\t")[0]
-            check(result == (b"verified" if is_whole else b"unpack"), f"check-all of {suffix}, {what}: {done}")
+            check(
+                result == (b"verified" if is_whole else b"unpack"),
+                f"check-all of {suffix}, {what}: {done}",
+            )
         for what, data, is_whole in files(pack, MODEL):
             path = room / f"plan.mps{suffix}"
             path.write_bytes(data)
@@ -70,7 +76,8 @@ def packed_files(check, room, words, program, has_library):
 
 
 def closed_streams(check, words, program):
-    """A command without standard output ends as one that can't write, and never with the status of a verdict."""
+    """A command without standard output ends as one that can't write, and never with the status of a verdict. A full standard
+    error changes no status."""
     certificate = TOP / "examples/plan.vipr"
     arguments = {
         "audit": [TOP / "examples/plan.mps", certificate],
@@ -83,6 +90,13 @@ def closed_streams(check, words, program):
     for name, given in arguments.items():
         line = 'exec "$@" >&-'
         done = run(["sh", "-c", line, "sh", *words[name], *given])
-        check(done.returncode == 3 and done.stderr == b"standard output is closed\n", f"{name} >&-: {done}")
+        check(
+            done.returncode == 3 and done.stderr == b"standard output is closed\n",
+            f"{name} >&-: {done}",
+        )
         done = run(["sh", "-c", 'exec "$@" > /dev/full', "sh", *words[name], *given])
         check(done.returncode == 3, f"{name} > /dev/full: {done}")
+        for paths in given, [*given[:-1], "no-such-file"]:
+            wanted = run([*words[name], *paths]).returncode
+            done = run(["sh", "-c", 'exec "$@" 2> /dev/full', "sh", *words[name], *paths])
+            check(done.returncode == wanted, f"{name} {paths} 2> /dev/full: {done}, not {wanted}")

@@ -8,22 +8,48 @@ import os
 import re
 from collections import Counter
 from fractions import Fraction
+from math import gcd
 
 from page_facts import (
-    EMPTY, ITEMS, KEYWORDS, MOST_CARETS, MOST_ENTRIES, MOST_NEAR, MOST_OF_SET, MOST_SHOWN, MOST_VALUES,
-    NOTHING, NUMBER, SIGNS, algebra, constraint_shown, difference, measured, place_of, rounded, rules, same, shown, shown_name, true, variable,
+    EMPTY,
+    ITEMS,
+    KEYWORDS,
+    MOST_CARETS,
+    MOST_ENTRIES,
+    MOST_NEAR,
+    MOST_OF_SET,
+    MOST_SHOWN,
+    MOST_VALUES,
+    NOTHING,
+    NUMBER,
+    SIGNS,
+    algebra,
+    constraint_shown,
+    difference,
+    measured,
+    place_of,
+    rounded,
+    rules,
+    same,
+    shown,
+    shown_name,
+    true,
+    variable,
 )
 
 
 FORMS = []
-LISTED = r'\[(\d+)\] (\S+)(?:  (.+)|, which was dropped)  \(line (\d+)\)'
+LISTED = r"\[(\d+)\] (\S+)(?:  (.+)|, which was dropped)  \(line (\d+)\)"
+LISTED_NAME = r"\[(\d+)\] (\S+)  \(line (\d+)\)"
 
 
 def form(pattern, kind=None):
     """Makes a function the test of the lines that a pattern fits: it gets the page so far, and the groups."""
+
     def add(test):
         FORMS.append((re.compile(pattern), kind or test.__name__, test))
         return test
+
     return add
 
 
@@ -35,753 +61,1252 @@ class Page:
         self.said = Counter()
         self.place = self.part = self.mended = None
         self.changed, self.mends, self.abouts = [], {}, []
-        self.entries, self.sources, self.near, self.cases, self.faults, self.offers = [], 0, [], [], [], []
+        self.entries, self.sources, self.near, self.cases, self.faults, self.offers = (
+            [],
+            0,
+            [],
+            [],
+            [],
+            [],
+        )
 
 
-@form(r'error: (\w+): (.*)')
+@form(r"error: (\w+): (.*)")
 def text_error(page, name: str, words: str):
     facts = page.facts
-    true(facts.is_text_fault(), 'no fault of the text')
-    same('the cause', name, rules.CAUSES[facts.refused])
+    true(facts.is_text_fault(), "no fault of the text")
+    same("the cause", name, rules.CAUSES[facts.refused])
     if facts.refused == 18:
-        same('what is wrong', words, 'text behind the last derivation')
+        same("what is wrong", words, "text after the last derivation")
     else:
-        same('what is wanted', words, ('the text ends where this is wanted: ' if facts.is_end else 'wanted ') + wanted(facts))
+        same(
+            "what is wanted",
+            words,
+            ("the text ends where this is wanted: " if facts.is_end else "wanted ") + wanted(facts),
+        )
 
 
 WANTED = {
-    'keyword': 'the keyword `{section}`', 'version': 'the version `1.0`', 'count': 'the number of {what}s, a count in digits',
-    'bound count': 'the number of bounds among the constraints, a count in digits', 'name': 'the name of {what} {index}',
-    'integer index': 'the index of a variable, {indices}', 'direction': '`min` or `max`', 'sense': 'the sense `E`, `L` or `G`',
-    'right-hand side': 'the right-hand side, a number', 'row count': 'the number of coefficients, a count in digits',
-    'row index': 'the index of a variable, {indices}', 'row coefficient': 'the {value} of pair {part} (of {parts}, counted from 0)',
-    'claim': '`infeas` or `range`', 'lower bound': 'the lower bound, a number or `-inf`',
-    'upper bound': 'the upper bound, a number or `inf`', 'open brace': '`{{`, a token of its own',
-    'reason': 'a reason: `asm`, `lin`, `rnd`, `uns` or `sol`', 'entry count': 'the number of entries, a count in digits',
-    'entry index': "the constraint's index in entry {part} (of {parts}, counted from 0)",
-    'multiplier': 'the multiplier of entry {part} (of {parts}, counted from 0)', 'close brace': '`}}`, a token of its own',
-    'last reference': "the last reference: a constraint's index or -1",
+    "keyword": "the keyword `{section}`",
+    "version": "the version `1.0`",
+    "count": "the number of {what}s, a count in digits",
+    "bound count": "the number of bounds among the constraints, a count in digits",
+    "name": "the name of {what} {index}",
+    "integer index": "the index of a variable, {indices}",
+    "direction": "`min` or `max`",
+    "sense": "the sense `E`, `L` or `G`",
+    "right-hand side": "the right-hand side, a number",
+    "row count": "the number of coefficients, a count in digits",
+    "row index": "the index of a variable, {indices}",
+    "row coefficient": "the {value} of pair {part} (of {parts}, counted from 0)",
+    "claim": "`infeas` or `range`",
+    "lower bound": "the lower bound, a number or `-inf`",
+    "upper bound": "the upper bound, a number or `inf`",
+    "open brace": "`{{`, a token of its own",
+    "reason": "a reason: `asm`, `lin`, `rnd`, `uns` or `sol`",
+    "entry count": "the number of entries, a count in digits",
+    "entry index": "the constraint's index in entry {part} (of {parts}, counted from 0)",
+    "multiplier": "the multiplier of entry {part} (of {parts}, counted from 0)",
+    "close brace": "`}}`, a token of its own",
+    "last reference": "the last reference: a constraint's index or -1",
 }
-BRANCHES = ('i1 of `uns`: the constraint that holds in the first case', 'l1 of `uns`: the assumption of the first case',
-            'i2 of `uns`: the constraint that holds in the second case', 'l2 of `uns`: the assumption of the second case')
+BRANCHES = (
+    "i1 of `uns`: the constraint that holds in the first case",
+    "l1 of `uns`: the assumption of the first case",
+    "i2 of `uns`: the constraint that holds in the second case",
+    "l2 of `uns`: the assumption of the second case",
+)
 
 
 def index_of(facts):
     """The index of the item that is read, among all constraints for a derivation."""
-    return facts.role.item + (facts.given if facts.role.section == 'DER' else 0)
+    return facts.role.item + (facts.given if facts.role.section == "DER" else 0)
 
 
 def wanted(facts):
     role = facts.role
-    if role.wanted == 'branch':
+    if role.wanted == "branch":
         return BRANCHES[role.part]
-    count = facts.counts.get('VAR', 0)
+    count = facts.counts.get("VAR", 0)
+    if (role.section, role.wanted) == ("SOL", "row count"):
+        return "the number of values, a count in digits"
     return WANTED[role.wanted].format(
-        section=role.section, what=ITEMS.get(role.section), index=role.item is not None and index_of(facts),
-        indices=f'0 to {count - 1}' if count else 'but there is none', part=role.part, parts=role.parts,
-        value='value' if role.section == 'SOL' else 'coefficient')
+        section=role.section,
+        what=ITEMS.get(role.section),
+        index=role.item is not None and index_of(facts),
+        indices=f"0 to {count - 1}" if count else "but there is none",
+        part=role.part,
+        parts=role.parts,
+        value="value" if role.section == "SOL" else "coefficient",
+    )
 
 
-@form(r'( *)--> (.*):(\d+):(\d+)')
+@form(r"( *)--> (.*):(\d+):(\d+)")
 def arrow(page, margin: str, file: str, line, column):
-    same('the file', file, shown(os.fsencode(page.file)))
-    same('the margin', len(margin), len(str(line)))
-    lines = page.facts.text.split(b'\n', line - 1 + 1)[:line]
-    true(len(lines) == line and column <= len(lines[-1]) + 1, 'there is no such place')
+    same("the file", file, shown(os.fsencode(page.file)))
+    same("the margin", len(margin), len(str(line)))
+    lines = page.facts.text.split(b"\n", line - 1 + 1)[:line]
+    true(len(lines) == line and column <= len(lines[-1]) + 1, "there is no such place")
     page.place = sum(map(len, lines[:-1])) + line - 1 + column - 1
     page.line, page.excerpt = line, None
 
 
-@form(r'( *) \|')
+@form(r"( *) \|")
 def bar(page, margin: str):
-    same('the margin', len(margin), len(str(page.line)))
+    same("the margin", len(margin), len(str(page.line)))
 
 
-@form(r'( *)(\d+) \| (.*)')
+@form(r"( *)(\d+) \| (.*)")
 def excerpt(page, margin: str, line, text: str):
-    if page.said['carets'] % 2 and page.facts.refused == 22:
-        page.place = page.facts.names['CON', int(page.facts.details['constraint'].split()[0])].at
-    same('the line', line, place_of(page.facts.text, page.place)[0])
-    same('the margin', len(margin) + len(str(line)), len(str(page.line)))
+    if page.said["carets"] % 2 and page.facts.refused == 22:
+        page.place = page.facts.names["CON", int(page.facts.details["constraint"].split()[0])].at
+    same("the line", line, place_of(page.facts.text, page.place)[0])
+    same("the margin", len(margin) + len(str(line)), len(str(page.line)))
     page.excerpt = text
 
 
-@form(r'(\d+) ~ (.*)')
+@form(r"(\d+) ~ (.*)")
 def mended(page, line, text: str):
-    same('the line', line, page.line)
-    front, token = page.excerpt[:page.front], shown(page.facts.tokens[page.part].bytes)
-    rest = page.excerpt[page.front + len(token):] if page.excerpt[page.front:].startswith(token) else page.excerpt[-2:]
-    true(text.startswith(front) and text.endswith(rest), f'it has not {front!r} and {rest!r}')
-    page.mended = text[len(front):len(text) - len(rest)]
+    same("the line", line, page.line)
+    front, token = page.excerpt[: page.front], shown(page.facts.tokens[page.part].bytes)
+    rest = (
+        page.excerpt[page.front + len(token) :]
+        if page.excerpt[page.front :].startswith(token)
+        else page.excerpt[-2:]
+    )
+    true(text.startswith(front) and text.endswith(rest), f"it has not {front!r} and {rest!r}")
+    page.mended = text[len(front) : len(text) - len(rest)]
 
 
-@form(r'( *) \| ( *)(\^+) (.+)')
+@form(r"( *) \| ( *)(\^+) (.+)")
 def carets(page, margin: str, front: str, marks: str, label: str):
-    page.said[f'label {label.split()[0]}'] += 1
+    page.said[f"label {label.split()[0]}"] += 1
     tokens = labelled(page, label)
-    true(page.place in [it.at for it in tokens], f'the place of {label!r} is another one')
-    test_marks(page, margin, front, marks, next(it for it in tokens if it.at == page.place))
+    token = next((token for token in tokens if token.at == page.place), None)
+    true(token is not None, f"the place of {label!r} is another one")
+    test_marks(page, margin, front, marks, token)
 
 
-@form(r'( *) \| ( *)(-+) this constraint')
+@form(r"( *) \| ( *)(-+) this constraint")
 def other_place(page, margin: str, front: str, marks: str):
-    test_marks(page, margin, front, marks, page.facts.names['CON', int(page.facts.details['constraint'].split()[0])])
+    test_marks(
+        page,
+        margin,
+        front,
+        marks,
+        page.facts.names["CON", int(page.facts.details["constraint"].split()[0])],
+    )
 
 
 def test_marks(page, margin, front, marks, token):
     """Tests that the marks are below a token, and the excerpt is of its line."""
     facts = page.facts
-    same('the margin', len(margin), len(str(page.line)))
-    true(page.excerpt is not None, 'no excerpt is in front of this')
+    same("the margin", len(margin), len(str(page.line)))
+    true(page.excerpt is not None, "no excerpt is in front of this")
     # where the part of the line that is shown begins follows from the column of the carets
-    begin = facts.text.rfind(b'\n', 0, token.at) + 1
-    end = re.compile(rb'[\r\n]|$').search(facts.text, token.at).start()
-    window = facts.text[token.at:min(end, token.at + len(page.excerpt) + 1)]
+    begin = facts.text.rfind(b"\n", 0, token.at) + 1
+    end = re.compile(rb"[\r\n]|$").search(facts.text, token.at).start()
+    window = facts.text[token.at : min(end, token.at + len(page.excerpt) + 1)]
     width, ends = 0, set()
     for at in range(token.at, max(begin, token.at - len(front)) - 1, -1):
-        width += len(shown(facts.text[at:at + 1])) if at < token.at else 0
+        width += len(shown(facts.text[at : at + 1])) if at < token.at else 0
         cut = 2 * (at > begin)
         if width + cut == len(front):
-            whole = '..'[:cut] + shown(facts.text[at:token.at] + window)
+            whole = ".."[:cut] + shown(facts.text[at : token.at] + window)
             if whole == page.excerpt and token.at + len(window) == end:
                 ends.add(len(whole))
-            elif page.excerpt.endswith('..') and whole.startswith(page.excerpt[:-2]) and len(whole) > len(page.excerpt) - 2:
+            elif (
+                page.excerpt.endswith("..")
+                and whole.startswith(page.excerpt[:-2])
+                and len(whole) > len(page.excerpt) - 2
+            ):
                 ends.add(len(page.excerpt) - 2)
     page.front = len(front)
-    true(ends, f'the excerpt {page.excerpt!r} is not of the line, or the carets are at another place of it')
-    same('the marks', len(marks), max(1, min(MOST_CARETS, len(shown(token.bytes)), max(ends) - len(front))))
+    true(
+        ends,
+        f"the excerpt {page.excerpt!r} is not of the line, or the carets are at another place of it",
+    )
+    same(
+        "the marks",
+        len(marks),
+        max(1, min(MOST_CARETS, len(shown(token.bytes)), max(ends) - len(front))),
+    )
 
 
 def labelled(page, label):
     """The tokens that a label may be about."""
     facts = page.facts
-    if label == 'this was found':
-        true(facts.is_text_fault() and not facts.is_end, 'the text ends here')
+    if label == "this was found":
+        true(facts.is_text_fault() and not facts.is_end, "the text ends here")
         return [facts.token]
-    if label in ('the text ends behind this', 'no token is here'):
-        true(facts.is_text_fault() and facts.is_end, 'the text does not end here')
-        same('whether there is a token', label != 'no token is here', facts.token != NOTHING)
+    if label in ("the text ends after this", "no token is here"):
+        true(facts.is_text_fault() and facts.is_end, "the text does not end here")
+        same("whether there is a token", label != "no token is here", facts.token != NOTHING)
         return [facts.token]
-    if label in ('this solution', 'this value'):
+    if label in ("this solution", "this value"):
         value = facts.value_at_fault()
-        same('whether a value is at fault', label == 'this value', value is not None)
-        return [value or facts.names['SOL', facts.number()]]
+        same("whether a value is at fault", label == "this value", value is not None)
+        return [value or facts.names["SOL", facts.number()]]
     if label == "this isn't proved":
-        same('the cause', facts.refused, 51)
+        same("the cause", facts.refused, 51)
         return facts.dual_tokens()
-    if label == 'the primal bound':
-        same('the cause', facts.refused, 52)
-        return [facts.claims['upper bound' if facts.checker.minimizes else 'lower bound']]
-    found = re.fullmatch(r'write (\d+) or -1 here', label)
+    if label == "the primal bound":
+        same("the cause", facts.refused, 52)
+        return [facts.claims["upper bound" if facts.checker.minimizes else "lower bound"]]
+    found = re.fullmatch(r"write (\d+) or -1 here", label)
     if found:
-        index = int(facts.details['index'])
-        same(f'the last use of [{index}]', (facts.refused, int(found[1])), (32, facts.last_use(index)))
+        index = int(facts.details["index"])
+        same(
+            f"the last use of [{index}]",
+            (facts.refused, int(found[1])),
+            (32, facts.last_use(index)),
+        )
         return [facts.lasts[index]]
-    true(label in PARTS, f'an unknown label {label!r}')
+    true(label in PARTS, f"an unknown label {label!r}")
     parts = {at: token for at, token in facts.tokens.items() if at[0] in PARTS[label]}
     page.part = next((at for at, token in parts.items() if token.at == page.place), None)
     return list(parts.values())
 
 
 # parts of a derivation: how each is called, and which tokens it may be
-PARTS = {'this derivation': ('name',), 'this sense': ('sense',), 'this right-hand side': ('right-hand side',),
-         'this reason': ('reason',), 'this multiplier': ('multiplier',), 'this index': ('entry index', 'branch'),
-         'this assumption, and that of case 2': ('branch',)}
+PARTS = {
+    "this derivation": ("name",),
+    "this sense": ("sense",),
+    "this right-hand side": ("right-hand side",),
+    "this reason": ("reason",),
+    "this multiplier": ("multiplier",),
+    "this index": ("entry index", "branch"),
+    "this assumption, and that of case 2": ("branch",),
+}
 
 
 def is_at_fault(facts, kind, part):
     """Whether this part of a derivation is the one at fault, if no change of it is offered."""
     if facts.refused == 38 and not facts.differences():
-        computed, stated = facts.written('computed')[1], facts.written('stated')[1]
-        return kind == ('right-hand side' if computed in ('E', stated) else 'sense')
-    if kind == 'branch' and 'index' in facts.details:
-        index = int(facts.details['index'])
+        computed, stated = facts.written("computed")[1], facts.written("stated")[1]
+        return kind == ("right-hand side" if computed in ("E", stated) else "sense")
+    if kind == "branch" and "index" in facts.details:
+        index = int(facts.details["index"])
         return facts.own().indices[part] == index and (facts.refused != 33 or part % 2 == 1)
     if facts.entry_at_fault() is not None:
         return part == facts.entry_at_fault()
-    return kind == ('branch' if facts.refused == 37 else 'name' if facts.refused == 38 else 'reason') and part in (None, 1)
+    return kind == (
+        "branch" if facts.refused == 37 else "name" if facts.refused == 38 else "reason"
+    ) and part in (None, 1)
 
 
-@form(r'  = reading: (\w+)(?:, ([a-z ]+) (\d+) \((\d+) of (\d+)\)(?:, `(\S*)`)?)?')
+@form(r"  = reading: (\w+)(?:, ([a-z ]+) (\d+) \((\d+) of (\d+)\)(?:, `(\S*)`)?)?")
 def reading(page, section, what: str, index, number, items, name: str):
     facts, role = page.facts, page.facts.role
-    same('the section', section, role.section)
+    same("the section", section, role.section)
     if role.item is None:
-        same('the item', what, None)
+        same("the item", what, None)
         return
-    same('the item', (what, index, number, items), (ITEMS[section], index_of(facts), role.item + 1, role.items))
-    is_named = role.wanted not in ('name', 'integer index')
-    same('the name', name, shown_name(facts.name.bytes) if is_named else None)
+    same(
+        "the item",
+        (what, index, number, items),
+        (ITEMS[section], index_of(facts), role.item + 1, role.items),
+    )
+    is_named = role.wanted not in ("name", "integer index")
+    same("the name", name, shown_name(facts.name.bytes) if is_named else None)
 
 
-@form(r'  = see: docs/FORMAT\.md, cause (\d+)')
+@form(r"  = see: docs/FORMAT\.md, cause (\d+)")
 def see(page, cause):
-    same('the cause', cause, page.facts.refused)
+    same("the cause", cause, page.facts.refused)
 
 
 # ---- pages of a solution
 
-@form(r'error: solution (\d+) `(\S+)` (.*)')
+
+@form(r"error: solution (\d+) `(\S+)` (.*)")
 def solution_error(page, number, name: str, words: str):
     facts = page.facts
-    same('the place', f'SOL {number}', facts.place)
-    same('the name', name, shown_name(facts.solutions[number].name))
-    same('what is wrong', words, {21: 'is not whole at an integer variable', 22: 'breaks a constraint',
-                                  23: 'passes 2^127 - 1'}.get(facts.refused))
+    same("the place", f"SOL {number}", facts.place)
+    same("the name", name, shown_name(facts.solutions[number].name))
+    same(
+        "what is wrong",
+        words,
+        {
+            21: "is not whole at an integer variable",
+            22: "breaks a constraint",
+            23: "passes 2^127 - 1",
+        }.get(facts.refused),
+    )
 
 
-@form(rf'  (\S+) \(variable (\d+)\) is ({NUMBER}) here, and has to be whole \(INT\)')
+@form(rf"  (\S+) \(variable (\d+)\) is ({NUMBER}) here, and has to be whole \(INT\)")
 def not_whole(page, name: str, index, value):
     facts = page.facts
-    same('the variable', (21, index, name), (facts.refused, int(facts.details['variable'].split()[0]), variable(facts, index)))
-    same('the value', value, facts.solutions[facts.number()].values[index])
+    same(
+        "the variable",
+        (21, index, name),
+        (facts.refused, int(facts.details["variable"].split()[0]), variable(facts, index)),
+    )
+    same("the value", value, facts.solutions[facts.number()].values[index])
 
 
-@form(rf'  = help: write whole values, or take the variable out of INT: is ({NUMBER}) meant, which is ({NUMBER}) off\?')
+@form(
+    rf"  = help: write whole values, or take the variable out of INT: did you mean ({NUMBER})\? It is off by ({NUMBER})"
+)
 def nearest_whole(page, nearest, gap):
     facts = page.facts
-    value = Fraction(facts.details['value'])
-    same('how far off it is', (facts.refused, gap), (21, abs(value - nearest)))
-    true(nearest.denominator == 1 and gap <= Fraction(1, 2), 'another one is nearer')
+    value = Fraction(facts.details["value"])
+    same("how far off it is", (facts.refused, gap), (21, abs(value - nearest)))
+    true(nearest.denominator == 1 and gap <= Fraction(1, 2), "another one is nearer")
 
 
-@form(r'  constraint (\d+) `(\S+)`: (.+)  \(line (\d+)\)')
+@form(r"  constraint (\d+) `(\S+)`: (.+)  \(line (\d+)\)")
 def broken(page, index, name: str, text: str, line):
-    same('the constraint', (22, index), (page.facts.refused, int(page.facts.details['constraint'].split()[0])))
+    same(
+        "the constraint",
+        (22, index),
+        (page.facts.refused, int(page.facts.details["constraint"].split()[0])),
+    )
     constraint_shown(page.facts, index, name, text, line)
 
 
-@form(rf'  (?:at the solution: (.+)|the row is empty); the left side is ({NUMBER}), which is not (<=|>=|=) ({NUMBER})(?:, off by (.+))?')
+@form(
+    rf"  (?:at the solution: (.+)|the row is empty); the left side is ({NUMBER}), which is not (<=|>=|=) ({NUMBER})(?:, off by (.+))?"
+)
 def left_side(page, values: str, left, sign, right, gap: str):
     facts = page.facts
-    index = int(facts.details['constraint'].split()[0])
+    index = int(facts.details["constraint"].split()[0])
     row, sense, bound = facts.plain(index)
     point = facts.solutions[facts.number()].values
-    texts = [f'{variable(facts, it)} = {point.get(it, 0)}' for it in sorted(row)[:MOST_VALUES]]
-    more = f' .. ({len(row)} variables)' if len(row) > MOST_VALUES else ''
-    same('the values', values, ', '.join(texts) + more if row else None)
-    total = sum((value * Fraction(point.get(it, 0)) for it, value in row.items()), Fraction(0))
-    same('the sides', (left, sign, right), (total, SIGNS[sense], bound))
-    true(not rules.holds(total, sense, bound), 'the constraint holds')
+    texts = [f"{variable(facts, at)} = {point.get(at, 0)}" for at in sorted(row)[:MOST_VALUES]]
+    more = f" .. ({len(row)} variables)" if len(row) > MOST_VALUES else ""
+    same("the values", values, ", ".join(texts) + more if row else None)
+    total = sum((value * Fraction(point.get(at, 0)) for at, value in row.items()), Fraction(0))
+    same("the sides", (left, sign, right), (total, SIGNS[sense], bound))
+    true(not rules.holds(total, sense, bound), "the constraint holds")
     off = difference(bound, total)
-    same('the gap', gap, None if off is None else measured(off))
+    same("the gap", gap, None if off is None else measured(off))
 
 
-@form(r'  it is past the limit in (?:constraint (\d+)|the objective)')
+@form(r"  it is past the limit in (?:constraint (\d+)|the objective)")
 def past_limit(page, index):
-    same('the constraint', (23, None if index is None else str(index)),
-         (page.facts.refused, page.facts.details.get('constraint', '').split(' ')[0] or None))
+    same(
+        "the constraint",
+        (23, None if index is None else str(index)),
+        (page.facts.refused, page.facts.details.get("constraint", "").split(" ")[0] or None),
+    )
 
 
-@form(r'error: no listed solution attains the primal bound')
+@form(r"error: no listed solution attains the primal bound")
 def no_primal(page):
-    same('the cause', page.facts.refused, 52)
+    same("the cause", page.facts.refused, 52)
 
 
-@form(rf'  wanted: a solution whose objective is ({NUMBER}) or better')
+@form(rf"  wanted: a solution whose objective is ({NUMBER}) or better")
 def wanted_value(page, bound):
-    same('the bound', bound, page.facts.checker.primal)
+    same("the bound", bound, page.facts.checker.primal)
 
 
-@form(r'  (primal )?solution (\d+) `(\S+)`: objective (.+)')
+@form(r"  (primal )?solution (\d+) `(\S+)`: objective (.+)")
 def value(page, primal, number, name: str, objective: str):
     facts = page.facts
-    same('the name', name, shown_name(facts.solutions[number].name))
+    same("the name", name, shown_name(facts.solutions[number].name))
     known = facts.objective(number)
-    same('the objective', objective, measured(known))
-    same('the cause', facts.refused, None if primal else 52)
-    same('the best value', known, facts.best())
-    same('the first of the best', number, [facts.objective(it) for it in range(len(facts.solutions))].index(known))
+    same("the objective", objective, measured(known))
+    same("the cause", facts.refused, None if primal else 52)
+    same("the best value", known, facts.best())
+    same(
+        "the first of the best",
+        number,
+        facts.objectives().index(known),
+    )
 
 
-@form(r'  primal no solution is listed')
+@form(r"  primal no solution is listed")
 def none_listed(page):
-    same('the solutions', page.facts.listed, 0)
+    same("the solutions", page.facts.listed, 0)
 
 
-@form(rf'  = help: ({NUMBER}) is attained: is that the primal bound \(the upper one for min, the lower one for max\), is a better '
-      r'solution left out, or is a constant of the objective in the claim\? The format has none')
+@form(
+    r"  = help: solution (\d+) `(\S+)` lists no value, so each variable is 0: is its count right\?",
+    "attained",
+)
+def best_lists_none(page, number, name: str):
+    facts = page.facts
+    same("the name", name, shown_name(facts.solutions[number].name))
+    same("the cause and its values", (facts.refused, facts.value_counts[number]), (52, 0))
+    same("the best value", facts.objective(number), facts.best())
+
+
+@form(
+    rf"  = help: ({NUMBER}) is attained: is that the primal bound \(the upper one for min, the lower one for max\), is a better "
+    r"solution left out, or is a constant of the objective in the claim\? The format has none"
+)
 def attained(page, best):
-    same('the best value', best, page.facts.best())
+    facts = page.facts
+    same("the best value", best, facts.best())
+    best_one = facts.objectives().index(best)
+    true(facts.value_counts[best_one] > 0, "the best solution lists no value")
 
 
-@form(r'  the text lists no solution \(SOL 0\)')
+@form(r"  the text lists no solution \(SOL 0\)")
 def lists_none(page):
-    same('the solutions', page.facts.listed, 0)
+    same("the solutions", page.facts.listed, 0)
 
 
-@form(r'  = help: the lower bound of the claim is above the upper one: are they exchanged\?')
+@form(r"  = help: the lower bound of the claim is above the upper one: are they exchanged\?")
 def exchanged(page):
     lower, upper = page.facts.checker.bounds
-    true(lower is not None and upper is not None and lower > upper, f'the bounds are {lower} and {upper}')
+    true(
+        lower is not None and upper is not None and lower > upper,
+        f"the bounds are {lower} and {upper}",
+    )
 
 
 # ---- pages of a derivation
 
-HEADS = {31: 'names constraint {index}, which is not earlier', 32: 'needs constraint {index}, which was dropped',
-         33: 'takes constraint {index} for an assumption, which it is not', 34: 'turns a sense around at entry {entry} of its sum',
-         35: 'passes 2^127 - 1 at entry {entry} of its sum', 36: "has a sum that can't be rounded",
-         37: 'has two assumptions that are no split', 38: 'does not follow from its reason', 39: 'needs a listed solution'}
+HEADS = {
+    31: "names constraint {index}, which is not earlier",
+    32: "needs constraint {index}, which was dropped",
+    33: "takes constraint {index} for an assumption, which it is not",
+    34: "has a sum of both senses: entry {entry} gives {given}, and the sum before it is {before}",
+    35: "passes 2^127 - 1 at entry {entry} of its sum",
+    36: "has a sum that can't be rounded",
+    37: "has two assumptions that are no split",
+    38: "does not follow from its reason",
+    39: "needs a listed solution",
+}
 
 
-@form(r'error: derivation (\d+) `(\S+)` (.*)')
+@form(r"error: derivation (\d+) `(\S+)` (.*)")
 def derivation_error(page, index, name: str, words: str):
     facts = page.facts
-    same('the place', f'DER {index}', facts.place)
-    same('the name', name, shown_name(facts.own().constraint.name))
-    same('what is wrong', words, HEADS[facts.refused].format_map(facts.details))
+    same("the place", f"DER {index}", facts.place)
+    same("the name", name, shown_name(facts.own().constraint.name))
+    known = dict(facts.details)
+    if facts.refused == 34:
+        given, *before = given_senses(facts, int(known["entry"]))
+        true(before and {*before} == {"<=", ">="} - {given}, f"the sum before it is {before}")
+        known |= {"given": given, "before": before[0]}
+    same("what is wrong", words, HEADS[facts.refused].format_map(known))
 
 
-@form(r'  it states    (.+)')
+def given_senses(facts, end):
+    """The senses that the entries of a sum give up to this one, the last one first: an equation and a multiplier 0 give none."""
+    for index, multiplier in reversed(facts.own().entries[: end + 1]):
+        sense = facts.constraint(index).sense
+        if sense != "E" and multiplier:
+            yield ">=" if (sense == "G") == (multiplier > 0) else "<="
+
+
+@form(r"  it states    (.+)")
 def states(page, text: str):
-    same('what it states', text, algebra(page.facts, page.facts.plain(page.facts.number())))
+    same("what it states", text, algebra(page.facts, page.facts.plain(page.facts.number())))
 
 
-@form(r'  its reason   (lin|rnd) of (\d+):')
+@form(r"  its reason   (lin|rnd) of (\d+):")
 def sum_reason(page, word, count):
-    same('the reason', (word, count), (page.facts.own().reason, len(page.facts.own().entries)))
+    same("the reason", (word, count), (page.facts.own().reason, len(page.facts.own().entries)))
 
 
-@form(r'  its reason   (asm|sol)(, the cutoff at the best listed solution)?')
+@form(r"  its reason   (asm|sol)(, the cutoff at the best listed solution)?")
 def plain_reason(page, word, note):
-    same('the reason', (word, note is not None), (page.facts.own().reason, word == 'sol'))
+    same("the reason", (word, note is not None), (page.facts.own().reason, word == "sol"))
 
 
-@form(rf'      ({NUMBER}) x (?:{LISTED}|\[(\d+)\], (this derivation itself|which is not before this derivation))(?: <-- entry (\d+))?')
+@form(
+    rf"      ({NUMBER}) x (?:{LISTED}|\[(\d+)\], (this derivation itself|which is not before this derivation))(?: <-- entry (\d+))?"
+)
 def entry(page, multiplier, index, name: str, text: str, line, later, what: str, marked):
     facts = page.facts
     position = len(page.entries)
     if len(page.entries) == MOST_ENTRIES:
-        position = facts.entry_at_fault()
+        position = marked_entry(page)
     page.entries.append(position)
     index = later if index is None else index
-    same(f'entry {position}', (index, multiplier), facts.own().entries[position])
-    same('the mark of an entry', marked, position if 'entry' in facts.details and position == facts.entry_at_fault() else None)
+    same(f"entry {position}", (index, multiplier), facts.own().entries[position])
+    is_marked = "entry" in facts.details and position == marked_entry(page)
+    same("the mark of an entry", marked, position if is_marked else None)
     named(facts, index, name, text, line, what)
+
+
+def marked_entry(page):
+    """The position of the entry that is marked: the one that a help changes, if it changes one of a sum with both senses."""
+    is_changed = page.facts.refused == 34 and page.part in page.changed
+    return page.part[1] if is_changed else page.facts.entry_at_fault()
 
 
 def named(facts, index, name, text, line, what):
     """A constraint that a reason names: an earlier one is listed."""
     own = facts.number()
     if what is None:
-        true(index < own, f'[{index}] is not earlier')
-        same(f'whether [{index}] was dropped', text is None, facts.was_dropped(index))
+        true(index < own, f"[{index}] is not earlier")
+        same(f"whether [{index}] was dropped", text is None, facts.was_dropped(index))
         constraint_shown(facts, index, name, text, line)
     else:
-        same(f'what [{index}] is', what, {True: 'this derivation itself', False: 'which is not before this derivation'}[index == own])
-        true(index >= own, f'[{index}] is earlier')
+        same(
+            f"what [{index}] is",
+            what,
+            {True: "this derivation itself", False: "which is not before this derivation"}[
+                index == own
+            ],
+        )
+        true(index >= own, f"[{index}] is earlier")
 
 
-@form(r'      \.\. \((\d+) entries\)')
+@form(r"      \.\. \((\d+) entries\)")
 def entries_left(page, count):
-    same('the entries', count, len(page.facts.own().entries))
-    true(count > MOST_ENTRIES, 'few entries are all shown')
+    same("the entries", count, len(page.facts.own().entries))
+    true(count > MOST_ENTRIES, "few entries are all shown")
 
 
-CASES = '  case 1 gives ', '     assuming  ', '  case 2 gives ', '     assuming  '
+CASES = "  case 1 gives ", "     assuming  ", "  case 2 gives ", "     assuming  "
 
 
-@form(rf'(  case [12] gives |     assuming  )(?:{LISTED}(?: (asm|lin|rnd|uns|sol|given))?|\[(\d+)\], (this derivation itself|which is not before this derivation))')
+@form(
+    rf"(  case [12] gives |     assuming  )(?:{LISTED}(?: (asm|lin|rnd|uns|sol|given))?|\[(\d+)\], (this derivation itself|which is not before this derivation))"
+)
 def case(page, label: str, index, name: str, text: str, line, word, later, what: str):
     facts = page.facts
     index = later if index is None else index
-    same('the case', (label, index), (CASES[len(page.cases)], facts.own().indices[len(page.cases)]))
+    same("the case", (label, index), (CASES[len(page.cases)], facts.own().indices[len(page.cases)]))
     page.cases.append(index)
     named(facts, index, name, text, line, what)
     if word is not None or index < facts.number() and not facts.was_dropped(index):
-        same('its reason', word, 'given' if index < facts.given else facts.derivations[index - facts.given].reason)
+        same(
+            "its reason",
+            word,
+            "given" if index < facts.given else facts.derivations[index - facts.given].reason,
+        )
 
 
-@form(r'    (computed|stated|sum|first|second) +(.+)')
+@form(r"    (computed|stated|sum|first|second) +(.+)")
 def constraint_of(page, label: str, text: str):
     same(label, text, algebra(page.facts, page.facts.written(label)))
     page.said[label] += 1
 
 
-@form(r'    difference (.*)')
+@form(r"    difference (.*)")
 def compared(page, words: str):
     facts = page.facts
-    (computed, sense, side), (stated, wanted_sense, bound) = facts.written('computed'), facts.written('stated')
+    (computed, sense, side), (stated, wanted_sense, bound) = facts.written(
+        "computed"
+    ), facts.written("stated")
     different = facts.differences()
     if different:
-        texts = [f'{variable(facts, it)} (variable {it}): computed {computed.get(it, 0)}, stated {stated.get(it, 0)}' for it in different]
-        more = f' .. ({len(texts)} differences)' if len(texts) > MOST_SHOWN else ''
-        same('the difference', words, f'the rows are not the same: {"; ".join(texts[:MOST_SHOWN])}{more}')
-    elif sense not in ('E', wanted_sense):
-        same('the difference', words, f'the sense: computed {SIGNS[sense]}, stated {SIGNS[wanted_sense]}')
+        texts = [
+            f"{variable(facts, at)} (variable {at}): "
+            f"computed {computed.get(at, 0)}, stated {stated.get(at, 0)}"
+            for at in different
+        ]
+        more = f" .. ({len(texts)} differences)" if len(texts) > MOST_SHOWN else ""
+        same(
+            "the difference",
+            words,
+            f'the rows are not the same: {"; ".join(texts[:MOST_SHOWN])}{more}',
+        )
+    elif sense not in ("E", wanted_sense):
+        same(
+            "the difference",
+            words,
+            f"the sense: computed {SIGNS[sense]}, stated {SIGNS[wanted_sense]}",
+        )
     else:
         gap = difference(side, bound)
-        more = '' if gap is None else f', which is {measured(gap)} off' if wanted_sense == 'E' else f', which says {measured(gap)} too much'
-        same('the difference', words, f'right-hand side: computed {side}, stated {bound}{more}')
+        more = (
+            ""
+            if gap is None
+            else f", which is {measured(gap)} off"
+            if wanted_sense == "E"
+            else f", which says {measured(gap)} too much"
+        )
+        same("the difference", words, f"right-hand side: computed {side}, stated {bound}{more}")
 
 
-@form(r'      (\S+) comes from (.*)')
+@form(r"      (\S+) comes from (.*)")
 def source(page, name: str, words: str):
     facts = page.facts
     index = facts.differences()[page.sources]
     page.sources += 1
-    same('the variable', name, variable(facts, index))
-    terms = [f'{Fraction(multiplier)} x {facts.constraint(at).row[index]} of [{at}]'
-             for at, multiplier in facts.own().entries if Fraction(multiplier) and index in facts.constraint(at).row]
-    listed = [it for it in re.sub(r' ?\.\.$', '', words).split(', ') if it not in ('', 'no entry')]
-    same('the entries of a coefficient', listed, terms[:len(listed)] if len(listed) == len(terms) else [it for it in terms if it in listed][:len(listed)])
-    is_cut = words.endswith('..')
-    true(is_cut or listed == terms, f'it comes from {terms}')
-    true(not is_cut or len(terms) > len(listed), 'nothing is left out')
-    true(len(terms) == len(listed) or len(listed) >= MOST_SHOWN, 'more is left out than has to be')
-    same('whether there is none', words == 'no entry', not terms and not is_cut)
+    same("the variable", name, variable(facts, index))
+    terms = [
+        f"{Fraction(multiplier)} x {facts.constraint(at).row[index]} of [{at}]"
+        for at, multiplier in facts.own().entries
+        if Fraction(multiplier) and index in facts.constraint(at).row
+    ]
+    listed = [
+        term for term in re.sub(r" ?\.\.$", "", words).split(", ") if term not in ("", "no entry")
+    ]
+    same(
+        "the entries of a coefficient",
+        listed,
+        terms[: len(listed)]
+        if len(listed) == len(terms)
+        else [term for term in terms if term in listed][: len(listed)],
+    )
+    is_cut = words.endswith("..")
+    true(is_cut or listed == terms, f"it comes from {terms}")
+    true(not is_cut or len(terms) > len(listed), "nothing is left out")
+    true(len(terms) == len(listed) or len(listed) >= MOST_SHOWN, "more is left out than has to be")
+    same("whether there is none", words == "no entry", not terms and not is_cut)
 
 
-@form(rf'    the coefficient ({NUMBER}) of (\S+) is not whole')
+@form(rf"    the coefficient ({NUMBER}) of (\S+) is not whole")
 def coefficient_fault(page, number, name: str):
-    row_fault(page, 'coefficient', name, number)
+    row_fault(page, "coefficient", name, number)
 
 
-@form(r'    (\S+) is not an integer variable: is its index (\d+) left out behind INT\?')
+@form(r"    (\S+) is not an integer variable: is its index (\d+) left out after INT\?")
 def variable_fault(page, name: str, index):
-    row_fault(page, 'variable', name, index)
+    true(page.facts.problem.integers, "no variable is an integer one")
+    row_fault(page, "variable", name, index)
+
+
+@form(r"    (\S+) \(variable (\d+)\) is not an integer variable", "variable_fault")
+def one_of_no_integers(page, name: str, index):
+    true(not page.facts.problem.integers, "others are integer variables")
+    row_fault(page, "variable", name, index)
 
 
 def row_fault(page, kind, name, number):
     facts = page.facts
-    row = facts.written('sum' if facts.refused == 36 else 'first')[0]
+    row = facts.written("sum" if facts.refused == 36 else "first")[0]
     known = list(facts.row_faults(row))[len(page.faults)]
-    same('the next fault of the row', (kind, name), (known[0], variable(facts, known[1])))
-    same(f'the {kind}', number, row[known[1]] if kind == 'coefficient' else known[1])
+    same("the next fault of the row", (kind, name), (known[0], variable(facts, known[1])))
+    same(f"the {kind}", number, row[known[1]] if kind == "coefficient" else known[1])
     page.faults.append(known)
 
 
-@form(r'    they are about different rows: a split is of one row, `<=` and `>=`')
+@form(r"    they are about different rows: a split is of one row, `<=` and `>=`")
 def other_rows(page):
-    true(page.facts.written('first')[0] != page.facts.written('second')[0], 'they are of one row')
+    true(page.facts.written("first")[0] != page.facts.written("second")[0], "they are of one row")
 
 
-@form(rf'    a split is (.+); here it is (<=|>=|=) ({NUMBER}) and (<=|>=|=) ({NUMBER})')
+@form(rf"    a split is (.+); here it is (<=|>=|=) ({NUMBER}) and (<=|>=|=) ({NUMBER})")
 def split(page, words: str, sign, side, other_sign, other):
     facts = page.facts
-    same('a split', words, ('<= k and >= k + 1 with k whole', '<= k and >= h, where h rounded up is at most k rounded down plus 1')[facts.profile - 1])
-    first, second = facts.written('first'), facts.written('second')
-    same('the sides', (sign, side, other_sign, other), (SIGNS[first[1]], first[2], SIGNS[second[1]], second[2]))
+    same(
+        "a split",
+        words,
+        (
+            "<= k and >= k + 1 with k whole",
+            "<= k and >= h, where h rounded up is at most k rounded down plus 1",
+        )[facts.profile - 1],
+    )
+    first, second = facts.written("first"), facts.written("second")
+    same(
+        "the sides",
+        (sign, side, other_sign, other),
+        (SIGNS[first[1]], first[2], SIGNS[second[1]], second[2]),
+    )
 
 
-@form(r'  = help: `--profile 2` accepts these')
+@form(r"  = help: `--profile 2` accepts these")
 def second_profile(page):
-    true(is_second(page.facts), 'it does not')
+    true(is_second(page.facts), "it does not")
 
 
 def is_second(facts):
     """Whether two assumptions that are no split by the first profile are one by the second."""
-    return facts.profile == 1 and rules.covers(facts.written('first'), facts.written('second'), facts.problem.integers)
+    return facts.profile == 1 and rules.covers(
+        facts.written("first"), facts.written("second"), facts.problem.integers
+    )
 
 
-def products(facts):
-    """The products at which a number may be past the limit: a factor, a coefficient, and its variable."""
-    if facts.refused == 35:
-        index, multiplier = facts.own().entries[int(facts.details['entry'])]
-        return [(Fraction(multiplier), Fraction(it), at) for at, it in sorted(facts.constraint(index).row.items())]
-    values = facts.solutions[facts.number()].values
-    at = facts.details.get('constraint')
-    row = facts.constraint(int(at.split()[0])).row if at else facts.problem.objective
-    return [(Fraction(values.get(at, 0)), Fraction(it), at) for at, it in sorted(row.items())]
+def additions(facts):
+    """What is added up where a number passes the limit: the sum so far, a factor, a number, and the place."""
+    if facts.refused == 23:
+        values = facts.solutions[facts.number()].values
+        at = facts.details.get("constraint")
+        row = facts.constraint(int(at.split()[0])).row if at else facts.problem.objective
+        total = Fraction(0)
+        for index, number in sorted(row.items()):
+            value = Fraction(values.get(index, 0))
+            yield total, value, Fraction(number), variable(facts, index)
+            total += value * Fraction(number)
+        return
+    own, end = facts.own().entries, int(facts.details["entry"])
+    index, multiplier = own[end]
+    added = [(facts.constraint(at), Fraction(other)) for at, other in own[:end] if other]
+    for at, number in sorted(facts.constraint(index).row.items()):
+        terms = (other * Fraction(constraint.row.get(at, 0)) for constraint, other in added)
+        yield sum(terms, Fraction(0)), Fraction(multiplier), Fraction(number), variable(facts, at)
+    total = sum((other * Fraction(constraint.bound) for constraint, other in added), Fraction(0))
+    side = Fraction(facts.constraint(index).bound)
+    yield total, Fraction(multiplier), side, "the right-hand side"
+
+
+def past_limit_in(total, factor, number):
+    """Which number is past the limit if a factor times a number is added to a sum, and how many bits it has."""
+    product = factor * number
+    long = max(abs(product.numerator), product.denominator)
+    if long >= 2**127:
+        return "the product", long.bit_length()
+    common = gcd(total.denominator, product.denominator)
+    first = total.numerator * (product.denominator // common)
+    second = product.numerator * (total.denominator // common)
+    for name, integer in (
+        ("the first numerator", first),
+        ("the second numerator", second),
+        ("the sum of the numerators", first + second),
+        ("the denominator of the sum", (total + product).denominator),
+    ):
+        if abs(integer) >= 2**127:
+            return name, abs(integer).bit_length()
+    return None
 
 
 def first_past(facts):
-    return next((it for it in products(facts) if not fits(*it[:2])), None)
+    """The first addition that passes the limit, with the number that does."""
+    known = ((addition, past_limit_in(*addition[:3])) for addition in additions(facts))
+    return next((*addition, past) for addition, past in known if past)
 
 
-@form(rf'    ({NUMBER}) x ({NUMBER}) at (\S+) has (\d+) bits')
-def past_bits(page, factor, coefficient, name: str, bits):
-    first, other, at = first_past(page.facts)
-    same('the first product past the limit', (factor, coefficient, name), (first, other, variable(page.facts, at)))
-    same('its bits', bits, max((first * other).numerator.bit_length(), (first * other).denominator.bit_length()))
+@form(rf"    ({NUMBER}) x ({NUMBER}) at (the right-hand side|\S+) has (\d+) bits")
+def past_bits(page, factor, number, place: str, bits):
+    _, *known, past = first_past(page.facts)
+    same("the product past the limit", ([factor, number, place], bits), (known, past[1]))
+    same("what is past the limit", past[0], "the product")
 
 
-@form(rf'    adding ({NUMBER}) x \[(\d+)\] makes a number of more than 127 bits')
-def past_sum(page, multiplier, index):
-    facts = page.facts
-    same('the entry', (index, multiplier), facts.own().entries[int(facts.details['entry'])])
-    true(first_past(facts) is None, 'a product is past the limit')
+@form(
+    rf"    ({NUMBER}) \+ ({NUMBER}) at (the right-hand side|\S+): over the common denominator (.+) has (\d+) bits",
+    "past_bits",
+)
+def past_sum(page, total, term, place: str, what: str, bits):
+    known, factor, number, where, past = first_past(page.facts)
+    same("the sum past the limit", (total, term, place), (known, factor * number, where))
+    same("what is past the limit", (what, bits), past)
 
 
-def fits(one, other):
-    """Whether a product is within the limit."""
-    try:
-        rules.multiply(Fraction(one), Fraction(other))
-    except rules.Unfit:
-        return False
-    return True
-
-
-@form(r'  constraint (\d+) was dropped behind the last reference that it states')
+@form(r"  constraint (\d+) was dropped after its stated last reference")
 def dropped(page, index):
     facts = page.facts
-    same('the constraint', (32, index), (facts.refused, int(facts.details['index'])))
-    true(facts.was_dropped(index), 'it was not dropped')
+    same("the constraint", (32, index), (facts.refused, int(facts.details["index"])))
+    true(facts.was_dropped(index), "it was not dropped")
 
 
-@form(r'  = help: or is a constraint other than \[(\d+)\] meant\?')
+@form(r"  = help: or is a constraint other than \[(\d+)\] meant\?")
 def other_constraint(page, index):
-    same('the constraint', index, int(page.facts.details['index']))
+    same("the constraint", index, int(page.facts.details["index"]))
 
 
-@form(r'  = help: indices count from 0: the problem has (\d+) constraints?, so the first derivation is (\d+); is this line in front of one that it needs\?')
+@form(
+    r"  = help: indices count from 0: the problem has (\d+) constraints?, so the first derivation is (\d+); is this line in front of one that it needs\?"
+)
 def from_zero(page, count, first):
     facts = page.facts
-    same('the constraints', (facts.refused, count, first), (31, facts.given, facts.given))
+    same("the constraints", (facts.refused, count, first), (31, facts.given, facts.given))
 
 
-NAMED = r'\[(\d+)\] (\S+)'
+NAMED = r"\[(\d+)\] (\S+)"
 # the kinds of lines that offer a change
-OFFERS = 'other_join', 'other_word', 'other_multiplier', 'other_index', 'one_more'
+OFFERS = (
+    "other_join",
+    "other_word",
+    "other_multiplier",
+    "other_index",
+    "one_more",
+    "shift_of_all",
+    "factor_of_all",
+)
 
 
 def offered(page, parts, word=None):
     """A change that is offered is one with which the derivation follows."""
-    true(page.facts.refused in (31, 32, 33, 34, 36, 37, 38), 'no reason is changed')
+    true(page.facts.refused in (31, 32, 33, 34, 36, 37, 38), "no reason is changed")
     page.offers.append(parts)
-    true(page.facts.accepts(parts, word), 'the derivation does not follow with this')
+    true(page.facts.accepts(parts, word), "the derivation does not follow with this")
 
 
-@form(r'  = help: with `uns (\d+) (\d+) (\d+) (\d+)` the derivation follows')
+@form(r"  = help: with `uns (\d+) (\d+) (\d+) (\d+)` the derivation follows")
 def other_join(page, *join):
-    same('the reason', page.facts.own().reason, 'uns')
+    same("the reason", page.facts.own().reason, "uns")
     old = page.facts.own().indices
-    others = [('branch', at) for at in range(4) if join[at] != old[at]]
-    page.changed += others if 'index' in page.facts.details else others[:1]
+    others = [("branch", at) for at in range(4) if join[at] != old[at]]
+    page.changed += others if "index" in page.facts.details else others[:1]
     offered(page, list(join))
 
 
-@form(r'  = help: with `(lin|rnd)` in place of `(lin|rnd)` the derivation follows')
+@form(r"  = help: with `(lin|rnd)` in place of `(lin|rnd)` the derivation follows")
 def other_word(page, word, old):
-    same('the reason', (page.facts.own().reason, word != old), (old, True))
-    page.changed.append(('reason', None))
-    page.mends['reason', None] = str(word)
+    same("the reason", (page.facts.own().reason, word != old), (old, True))
+    page.changed.append(("reason", None))
+    page.mends["reason", None] = str(word)
     offered(page, page.facts.parts(page.facts.own()), word)
 
 
-@form(rf'  = help: with the multiplier ({NUMBER}) in place of ({NUMBER}) at {NAMED} the derivation follows')
+@form(
+    rf"  = help: with the multiplier ({NUMBER}) in place of ({NUMBER}) at {NAMED} the derivation follows"
+)
 def other_multiplier(page, new, old, index, name: str):
     parts = page.facts.parts(page.facts.own())
-    same('the name', name, shown_name(page.facts.constraint(index).name))
-    places = [at for at, it in enumerate(parts) if it == (index, old)]
-    true(places, 'there is no such entry')
+    same("the name", name, shown_name(page.facts.constraint(index).name))
+    places = [at for at, part in enumerate(parts) if part == (index, old)]
+    true(places, "there is no such entry")
     for at in places:
-        changed = [*parts[:at], (index, new), *parts[at + 1:]]
+        changed = [*parts[:at], (index, new), *parts[at + 1 :]]
         if page.facts.accepts(changed):
             break
-    page.changed += [('multiplier', it) for it in places]
-    page.mends.update({('multiplier', it): str(new) for it in places})
+    page.changed += [("multiplier", place) for place in places]
+    page.mends.update({("multiplier", place): str(new) for place in places})
     offered(page, changed)
 
 
-@form(rf'  = help: with {NAMED} in place of \[(\d+)\](?: (\S+))? at entry (\d+) the derivation follows')
+@form(
+    rf"  = help: with {NAMED} in place of \[(\d+)\](?: (\S+))? at entry (\d+) the derivation follows"
+)
 def other_index(page, new, new_name: str, old, old_name: str, at):
     facts = page.facts
     parts = facts.parts(facts.own())
-    true(new < facts.number(), f'[{new}] is not earlier')
-    same('the names', (new_name, old_name), tuple(shown_name(facts.constraint(it).name) if it <= facts.number() else None for it in (new, old)))
-    same(f'entry {at}', old, parts[at][0])
-    page.changed.append(('entry index', at))
-    page.mends['entry index', at] = str(new)
-    offered(page, [*parts[:at], (new, parts[at][1]), *parts[at + 1:]])
+    true(new < facts.number(), f"[{new}] is not earlier")
+    same(
+        "the names",
+        (new_name, old_name),
+        tuple(
+            shown_name(facts.constraint(index).name) if index <= facts.number() else None
+            for index in (new, old)
+        ),
+    )
+    same(f"entry {at}", old, parts[at][0])
+    page.changed.append(("entry index", at))
+    page.mends["entry index", at] = str(new)
+    offered(page, [*parts[:at], (new, parts[at][1]), *parts[at + 1 :]])
 
 
-@form(rf'  = help: with one more entry, ({NUMBER}) x {NAMED}, the derivation follows')
+@form(rf"  = help: with one more entry, ({NUMBER}) x {NAMED}, the derivation follows")
 def one_more(page, multiplier, index, name: str):
     facts = page.facts
-    true(index < facts.number(), f'[{index}] is not earlier')
-    same('the name', name, shown_name(facts.constraint(index).name))
+    true(index < facts.number(), f"[{index}] is not earlier")
+    same("the name", name, shown_name(facts.constraint(index).name))
     offered(page, [*facts.parts(facts.own()), (index, multiplier)])
+
+
+@form(
+    r"  = help: with every index (?:from (\d+) on )?(?:(\d+)|one) (more|less) the derivation follows(.+)"
+)
+def shift_of_all(page, first, count, way: str, words: str):
+    facts = page.facts
+    own, by = facts.own(), count or 1
+    if way != "more":
+        by = -by
+    named = own.indices or [index for index, _ in own.entries]
+    start = first or 0
+    true(sum(index >= start for index in named) > 1, "fewer than two are shifted")
+    true(first is None or min(named) < first, "all are shifted")
+    shifted = [index + by if index >= start else index for index in named]
+    is_join = own.reason == "uns"
+    offered(
+        page,
+        shifted
+        if is_join
+        else [(index, multiplier) for index, (_, multiplier) in zip(shifted, facts.parts(own))],
+    )
+    found = re.fullmatch(
+        rf": is (a line left out|there a line too many) before {LISTED_NAME}\?", words
+    )
+    if found:
+        index, name, line = int(found[2]), found[3], int(found[4])
+        same("the line", (index, "left" in found[1]), (first + by, by < 0))
+        constraint_shown(facts, index, name, None, line)
+        return
+    plural = "" if facts.given == 1 else "s"
+    same(
+        "the first derivation",
+        words,
+        f" (indices count from 0: the problem has {facts.given} constraint{plural}, "
+        f"so the first derivation is {facts.given})",
+    )
+    true(first in (None, facts.given), "indices are shifted from another one on")
+
+
+@form(rf"  = help: with every multiplier times ({NUMBER}) the derivation follows")
+def factor_of_all(page, factor):
+    facts = page.facts
+    parts = facts.parts(facts.own())
+    true(len(parts) > 1, "it has one multiplier")
+    offered(page, [(index, multiplier * factor) for index, multiplier in parts])
 
 
 # ---- pages of the claim
 
-@form(r'error: no constraint proves the claim')
+
+@form(r"error: no constraint proves the claim")
 def no_proof(page):
-    same('the cause', page.facts.refused, 51)
+    same("the cause", page.facts.refused, 51)
 
 
-@form(r'  wanted: a constraint that rests on no assumption and (?:says (.+) or stronger|is absurd, as 0 >= 1)')
+@form(
+    r"  wanted: a constraint that rests on no assumption and (?:says (.+) or stronger|is absurd, as 0 >= 1)"
+)
 def wanted_constraint(page, text: str):
     facts = page.facts
-    same('what is wanted', text, None if facts.checker.bounds is None else algebra(facts, facts.checker.goal))
+    same(
+        "what is wanted",
+        text,
+        None if facts.checker.bounds is None else algebra(facts, facts.checker.goal),
+    )
 
 
-@form(r'  no constraint (has this row|is absurd)')
+@form(r"  no constraint (has this row|is absurd)")
 def none_near(page, words: str):
     facts = page.facts
-    same('what is wanted', words, 'is absurd' if facts.checker.bounds is None else 'has this row')
-    same('the nearest', facts.nearest(), [])
+    same("what is wanted", words, "is absurd" if facts.checker.bounds is None else "has this row")
+    same("the nearest", facts.nearest(), [])
 
 
-@form(r'  nearest:')
+@form(r"  nearest:")
 def nearest(page):
-    true(page.facts.nearest(), 'nothing is near')
+    true(page.facts.nearest(), "nothing is near")
 
 
-@form(rf'    {LISTED}(?:, (strong enough|the other way round|too weak by {NUMBER}(?: \(about \S+\))?(?: when it is rounded)?))?'
-      r', rests on (?:no assumption|((?:\[\d+\] ?)+)(?:and (\d+) more)?)')
+@form(
+    rf"    {LISTED}(?:, (strong enough|the other way round|too weak by {NUMBER}(?: \(about \S+\))?(?: when it is rounded)?))?"
+    r", rests on (?:no assumption|((?:\[\d+\] ?)+)(?:and (\d+) more)?)"
+)
 def near(page, index, name: str, text: str, line, how: str, rest: str, more):
     facts = page.facts
-    same('the next of the nearest', index, (facts.nearest() + [None] * MOST_NEAR)[len(page.near)])
+    same("the next of the nearest", index, (facts.nearest() + [None] * MOST_NEAR)[len(page.near)])
     page.near.append(index)
-    constraint_shown(facts, index, name, algebra(facts, facts.plain(index)) if text == side_of(facts, index) else text, line)
+    constraint_shown(
+        facts,
+        index,
+        name,
+        algebra(facts, facts.plain(index)) if text == side_of(facts, index) else text,
+        line,
+    )
     gap = facts.gap(index)
     if facts.checker.bounds is None:
-        same('how near it is', how, None)
+        same("how near it is", how, None)
     elif facts.checker.meets(facts.plain(index)):
-        same('how near it is', how, 'strong enough')
+        same("how near it is", how, "strong enough")
     elif gap is not None:
         is_rounded = facts.rounds() and facts.constraint(index).bound.denominator != 1
-        same('how near it is', how, f'too weak by {measured(gap)}{" when it is rounded" if is_rounded else ""}')
+        same(
+            "how near it is",
+            how,
+            f'too weak by {measured(gap)}{" when it is rounded" if is_rounded else ""}',
+        )
     else:
-        same('how near it is', how, 'the other way round' if facts.turned(index) else None)
+        same("how near it is", how, "the other way round" if facts.turned(index) else None)
     wanted_set = facts.rest(index)
-    same('the assumptions', [int(it) for it in re.findall(r'\d+', rest or '')], wanted_set[:MOST_OF_SET])
-    same('how many more', more or 0, max(0, len(wanted_set) - MOST_OF_SET))
+    same(
+        "the assumptions",
+        [int(assumption) for assumption in re.findall(r"\d+", rest or "")],
+        wanted_set[:MOST_OF_SET],
+    )
+    same("how many more", more or 0, max(0, len(wanted_set) - MOST_OF_SET))
 
 
 def side_of(facts, index):
     """What a constraint with the objective's row says, as a page writes it."""
-    it = facts.constraint(index)
-    return f'objective {SIGNS[it.sense]} {it.bound}' if facts.checker.bounds is not None else None
+    constraint = facts.constraint(index)
+    if facts.checker.bounds is None:
+        return None
+    return f"objective {SIGNS[constraint.sense]} {constraint.bound}"
 
 
-@form(r'  = help: \[(\d+)\] rests on \[(\d+)\] and \[(\d+)\] on \[(\d+)\]: are l1 and l2 exchanged\? `uns (\d+) (\d+) (\d+) (\d+)`')
+@form(
+    r"  = help: \[(\d+)\] rests on \[(\d+)\] and \[(\d+)\] on \[(\d+)\]: are l1 and l2 exchanged\? `uns (\d+) (\d+) (\d+) (\d+)`"
+)
 def crossed(page, i1, l2, i2, l1, *join):
     facts = page.facts
-    same('the join', list(join), [i1, l2, i2, l1])
-    true(any(it.indices == (i1, l1, i2, l2) for it in facts.derivations), 'there is no such join')
-    true(l2 in facts.checker.sets[i1] and l1 in facts.checker.sets[i2], 'they do not')
+    same("the join", list(join), [i1, l2, i2, l1])
+    joins = [derivation.indices for derivation in facts.derivations]
+    true((i1, l1, i2, l2) in joins, "there is no such join")
+    true(l2 in facts.checker.sets[i1] and l1 in facts.checker.sets[i2], "they do not")
 
 
-@form(r'  = help: \[(\d+)\] is to take \[(\d+)\] away by `uns (\d+) (\d+) (\d+) (\d+)`, but its other case, \[(\d+)\], rests on \[(\d+)\], too')
+@form(
+    r"  = help: \[(\d+)\] is to take \[(\d+)\] away by `uns (\d+) (\d+) (\d+) (\d+)`, but its other case, \[(\d+)\], rests on \[(\d+)\], too"
+)
 def other_case(page, index, left, i1, l1, i2, l2, case, again):
     facts = page.facts
-    same('the join', (i1, l1, i2, l2), facts.derivations[index - facts.given].indices)
-    true((left, case) in ((l1, i2), (l2, i1)) and again == left, 'it is not the other case')
-    true(left in facts.checker.sets[case] and left in facts.checker.sets[index], 'it does not rest on it')
-    true(any(left in facts.checker.sets[it] for it in page.near), 'none of the nearest rests on it')
+    same("the join", (i1, l1, i2, l2), facts.derivations[index - facts.given].indices)
+    true((left, case) in ((l1, i2), (l2, i1)) and again == left, "it is not the other case")
+    true(
+        left in facts.checker.sets[case] and left in facts.checker.sets[index],
+        "it does not rest on it",
+    )
+    true(
+        any(left in facts.checker.sets[other] for other in page.near),
+        "none of the nearest rests on it",
+    )
 
 
-@form(r'  = help: \[(\d+)\] is an assumption that is left: is its reason left out, or a `uns i1 l1 i2 l2` that takes it away as l1 or l2\?')
+@form(
+    r"  = help: \[(\d+)\] is an assumption that is left: is its reason left out, or a `uns i1 l1 i2 l2` that takes it away as l1 or l2\?"
+)
 def left_over(page, index):
     facts = page.facts
-    true(index in facts.checker.assumptions and index in facts.checker.sets[facts.nearest()[0]], 'it is none of the strongest one')
+    true(
+        index in facts.checker.assumptions and index in facts.checker.sets[facts.nearest()[0]],
+        "it is none of the strongest one",
+    )
 
 
-@form(r'  = help: \[(\d+)\] has this bound with the other sign: is the sign in the claim wrong\?')
+@form(r"  = help: \[(\d+)\] has this bound with the other sign: is the sign in the claim wrong\?")
 def other_sign(page, index):
     facts = page.facts
-    same('the side', Fraction(facts.constraint(index).bound), -facts.checker.goal[2])
-    same('what is proved', index, proved(facts))
+    same("the side", Fraction(facts.constraint(index).bound), -facts.checker.goal[2])
+    same("what is proved", index, proved(facts))
 
 
-@form(r'  = help: \[(\d+)\] is an assumption itself: is its reason left out\?')
+@form(r"  = help: \[(\d+)\] is an assumption itself: is its reason left out\?")
 def assumption(page, index):
     facts = page.facts
-    true(index in page.near and index in facts.checker.assumptions and facts.checker.meets(facts.plain(index)), 'it is none, or not strong enough')
+    true(
+        index in page.near
+        and index in facts.checker.assumptions
+        and facts.checker.meets(facts.plain(index)),
+        "it is none, or not strong enough",
+    )
 
 
 def proved(facts):
     """The first of the nearest that rests on no assumption, and has a gap to what is wanted."""
-    return next((it for it in facts.nearest() if not facts.checker.sets[it] and facts.gap(it) is not None), None)
+    return next(
+        (
+            index
+            for index in facts.nearest()
+            if not facts.checker.sets[index] and facts.gap(index) is not None
+        ),
+        None,
+    )
 
 
-@form(r'  = help: is more claimed behind RTP than \[(\d+)\] says, or is a constant of the objective in the claim\? The format has none')
+@form(
+    r"  = help: is more claimed in RTP than \[(\d+)\] says, or is a constant of the objective in the claim\? The format has none"
+)
 def more_claimed(page, index):
-    same('what is proved', index, proved(page.facts))
+    same("what is proved", index, proved(page.facts))
 
 
-@form(r'  = help: \[(\d+)\] is the other way round: is `OBJ (min|max)` meant\?')
+@form(r"  = help: \[(\d+)\] is the other way round: is `OBJ (min|max)` meant\?")
 def other_direction(page, index, word):
     facts = page.facts
-    true(index in page.near and facts.turned(index) and not facts.checker.sets[index], 'it is not')
-    same('the other direction', word, 'max' if facts.checker.minimizes else 'min')
+    true(index in page.near and facts.turned(index) and not facts.checker.sets[index], "it is not")
+    same("the other direction", word, "max" if facts.checker.minimizes else "min")
 
 
-@form(rf'  = help: add the derivation `NAME ([GL]) ({NUMBER}) 0 {{ lin 0 }} -1`, and 1 to the count behind DER')
+@form(
+    rf"  = help: add the derivation `NAME ([GL]) ({NUMBER}) 0 {{ lin 0 }} -1`, and 1 to the count after DER"
+)
 def add_derivation(page, sense, side):
     facts = page.facts
-    same('what is wanted', ({}, sense, side), facts.checker.goal)
-    true(rules.dominates(({}, 'E', Fraction(0)), facts.checker.goal), 'it does not follow')
+    same("what is wanted", ({}, sense, side), facts.checker.goal)
+    true(rules.dominates(({}, "E", Fraction(0)), facts.checker.goal), "it does not follow")
 
 
 # ---- pages of what is verified
 
-@form(rf'  ({NUMBER}) is about (.*)')
+
+@form(rf"  ({NUMBER}) is about (.*)")
 def about(page, bound, words: str):
-    same('the bound', words, rounded(Fraction(bound)))
+    same("the bound", words, rounded(Fraction(bound)))
+    true(ended(Fraction(bound)) is None, "it is a decimal that ends")
     page.abouts.append(bound)
 
 
-@form(r'proved: (.*)')
+@form(rf"  ({NUMBER}) = (-?\d+[.]\d+)", "about")
+def exactly(page, bound, words: str):
+    same("the bound", words, ended(Fraction(bound)))
+    page.abouts.append(bound)
+
+
+def ended(number):
+    """A number as a decimal, if that ends after at most 18 places."""
+    places = next((count for count in range(19) if 10**count % number.denominator == 0), None)
+    if places is None or abs(number) * 10**places >= 2**128:
+        return None
+    whole, rest = divmod(int(abs(number) * 10**places), 10**places)
+    return f'{"-" * (number < 0)}{whole}.{rest:0{places}}'
+
+
+@form(r"proved: (.*)")
 def claim(page, words: str):
-    same('the claim', f'verified {words}', page.facts.lines[0])
+    same("the claim", f"verified {words}", page.facts.lines[0])
 
 
-@form(rf'  goal   {LISTED}')
+@form(rf"  goal   {LISTED}")
 def goal(page, index, name: str, text: str, line):
-    same('the goal', f'goal {index}', page.facts.lines[-1])
+    same("the goal", f"goal {index}", page.facts.lines[-1])
     constraint_shown(page.facts, index, name, text, line)
 
 
-@form(r'  nothing has to be proved of the dual side')
+@form(r"  nothing has to be proved of the dual side")
 def no_goal(page):
-    same('the goal', 'goal none', page.facts.lines[-1])
+    same("the goal", "goal none", page.facts.lines[-1])
 
 
 # ---- faults of the text: hints with a value
 
-@form(r'  = help: `(\w+)` was read as a name: is the count behind `(\w+)`, (\d+), too large, or is something missing in front of `(\w+)`\?')
+
+@form(
+    r"  = help: `(\w+)` was read as a name: is the count after `(\w+)`, (\d+), too large, or is something missing in front of `(\w+)`\?"
+)
 def read_as_name(page, word, section, count, again: str):
     facts = page.facts
-    same('the name', (word, again), (facts.name.bytes.decode('latin-1'),) * 2)
-    same('the count', (section, count), (KEYWORDS[KEYWORDS.index(word) - 1] if word != 'RTP' else 'CON', facts.counts.get(section)))
+    same("the name", word, again)
+    true(word.encode() in facts.read_names, "it is no name")
+    same(
+        "the count",
+        (section, count),
+        (KEYWORDS[KEYWORDS.index(word) - 1] if word != "RTP" else "CON", facts.counts.get(section)),
+    )
 
 
-@form(r'  = help: is the file cut\? `(\w+)` is missing: write (.*)')
+@form(r"  = help: is the file cut, or is `(\w+)` missing\? Then write (.*)")
 def keyword_missing(page, section, words: str):
-    true(page.facts.is_end, 'the text does not end here')
-    same('what is missing', (section, words), (page.facts.role.section, EMPTY[section]))
+    true(page.facts.is_end, "the text does not end here")
+    same("what is missing", (section, words), (page.facts.role.section, EMPTY[section]))
 
 
-@form(r'  = help: keywords are in capitals: is `(\w+)` meant\?')
-def capitals(page, word):
-    token = page.facts.token.bytes.decode('latin-1')
-    true(word in KEYWORDS and token.upper() == word != token, 'the token is another one')
+@form(r"  = help: keywords are in capitals: is `(\w+)` meant\?(?: In front of it write (.*))?")
+def capitals(page, word, words: str):
+    facts = page.facts
+    token, section = facts.token.bytes.decode("latin-1"), facts.role.section
+    true(word in KEYWORDS and token.upper() == word != token, "the token is another one")
+    same("the role", facts.role.wanted, "keyword")
+    true(KEYWORDS.index(word) >= KEYWORDS.index(section), "it is an earlier section")
+    same("what is in front of it", words, None if word == section else EMPTY[section])
 
 
-@form(r'  = help: the section `(\w+)` was read before: is it here twice\?')
+@form(r"  = help: the section `(\w+)` was read before: is it here twice\?")
 def twice(page, word):
-    same('the token', word.encode(), page.facts.token.bytes)
-    true(KEYWORDS.index(word) < KEYWORDS.index(page.facts.role.section), 'it was not')
+    same("the token", word.encode(), page.facts.token.bytes)
+    true(KEYWORDS.index(word) < KEYWORDS.index(page.facts.role.section), "it was not")
 
 
-@form(r'  = help: `(\w+)` is missing or in another place: in front of `(\w+)` write (.*)')
+@form(r"  = help: is `(\w+)` missing, or in another place\? Then in front of `(\w+)` write (.*)")
 def section_missing(page, section, found, words: str):
     facts = page.facts
-    same('what is missing', (section, words), (facts.role.section, EMPTY[section]))
-    same('the token', found.encode(), facts.token.bytes)
-    true(KEYWORDS.index(found) > KEYWORDS.index(section), 'it is no later section')
+    same("what is missing", (section, words), (facts.role.section, EMPTY[section]))
+    same("the token", found.encode(), facts.token.bytes)
+    true(KEYWORDS.index(found) > KEYWORDS.index(section), "it is no later section")
+    true(section.encode() not in facts.read_names, "it was read as a name")
 
 
-@form(r'  = help: `(\w+)` is the keyword of a section: is the count behind `INT`, (\d+), too large\?')
+@form(
+    r"  = help: `(\w+)` is the keyword of a section: is the count after `INT`, (\d+), too large\?"
+)
 def keyword_as_index(page, word, count):
-    same('the token', (word.encode(), count), (page.facts.token.bytes, page.facts.counts.get('INT')))
-    true(word in KEYWORDS, 'it is no keyword')
+    same(
+        "the token", (word.encode(), count), (page.facts.token.bytes, page.facts.counts.get("INT"))
+    )
+    true(word in KEYWORDS, "it is no keyword")
 
 
-@form(r'  = help: (?:indices count from 0: that of the last variable is (\d+)|the text has no variables \(VAR 0\))(; are the pairs INDEX COEFFICIENT\?)?((?:;| Or) is this a constant\? An objective has none)?')
-def last_variable(page, index, pairs, constant):
+@form(
+    r"  = help: (?:indices count from 0: that of the last variable is (\d+)|the text has no variables \(VAR 0\))(?:; are the pairs INDEX (COEFFICIENT|VALUE)\?)?((?:;| Or) is this a constant\? An objective has none)?"
+)
+def last_variable(page, index, pairs: str, constant):
     facts = page.facts
-    same('the last variable', -1 if index is None else index, facts.counts['VAR'] - 1)
-    same('whether it is the objective', constant is not None, facts.role.section == 'OBJ')
-    true(facts.token.bytes.isdigit() and (pairs is None or facts.role.wanted == 'row index'), 'the token is no number')
+    if facts.role.wanted == "row index":
+        same("the pairs", pairs, "VALUE" if facts.role.section == "SOL" else "COEFFICIENT")
+    same("the last variable", -1 if index is None else index, facts.counts["VAR"] - 1)
+    same("whether it is the objective", constant is not None, facts.role.section == "OBJ")
+    true(
+        facts.token.bytes.isdigit() and (pairs is None or facts.role.wanted == "row index"),
+        "the token is no number",
+    )
 
 
-@form(rf'  = help: decimals are not in the format: write ({NUMBER})')
-def decimal(page, number):
+@form(
+    rf"  = help: decimals are not in the format: write ({NUMBER})( if that is exact; is it a rounded number\?)?"
+)
+def decimal(page, number, doubt):
     token = page.facts.token.bytes
-    true(re.fullmatch(rb'[+-]?[0-9]*\.[0-9]*', token), 'the token is no decimal')
-    same('the number', number, Fraction(token.decode()))
+    true(re.fullmatch(rb"[+-]?[0-9]*\.[0-9]*", token), "the token is no decimal")
+    same("the number", number, Fraction(token.decode()))
+    same("the doubt", doubt is not None, len(token.partition(b".")[2]) >= 5)
+
+
+@form(r"  = help: is `(\S+)` meant\? Nothing else may be in its token")
+def alone(page, token: str):
+    facts = page.facts
+    true(token.encode() != facts.token.bytes, "it is the token")
+    same("what else is in it", token, facts.token.bytes.decode("latin-1").strip("\"'`()[]<>=,;:"))
+    true(is_token(facts, token), "it is not what is wanted")
+
+
+def is_token(facts, token):
+    """Whether a token has the form that is wanted."""
+    role = facts.role
+    number = re.fullmatch(r"[-+]?[0-9]+(/0*[1-9][0-9]*)?", token)
+    words = {
+        "keyword": (role.section,),
+        "version": ("1.0",),
+        "direction": ("min", "max"),
+        "sense": tuple("ELG"),
+        "claim": ("infeas", "range"),
+        "reason": ("asm", "lin", "rnd", "uns", "sol"),
+        "last reference": ("-1",),
+        "lower bound": ("-inf",),
+        "upper bound": ("inf",),
+    }
+    if token in words.get(role.wanted, ()):
+        return True
+    if role.wanted in ("integer index", "row index"):
+        return token.isdigit() and int(token) < facts.counts["VAR"]
+    if role.wanted in (
+        "lower bound",
+        "upper bound",
+        "right-hand side",
+        "row coefficient",
+        "multiplier",
+    ):
+        return number is not None
+    natural = "count", "bound count", "row count", "entry count", "entry index", "branch"
+    return role.wanted in (*natural, "last reference") and token.isdigit()
+
+
+# words that other tools and people have for those of the format
+SPELLINGS = {
+    "min": ("direction", "min|minimi[sz]e|minimum|minimization"),
+    "max": ("direction", "max|maximi[sz]e|maximum|maximization"),
+    "infeas": ("claim", "infeas|infeasible|infeasibility"),
+    "range": ("claim", "range|optimal|optimum|bounds"),
+    "asm": ("reason", "assumed|assumption"),
+    "lin": ("reason", "linear|lincomb|sum|farkas"),
+    "rnd": ("reason", "round|rounded|rounding|cg|chvatal"),
+    "uns": ("reason", "unsplit|split|join|branch"),
+    "sol": ("reason", "solution|cutoff|obj"),
+}
+
+
+@form(r"  = help: is `(\w+)` meant\?")
+def spelled(page, word: str):
+    facts = page.facts
+    wanted_role, others = SPELLINGS[word]
+    same("what is wanted", facts.role.wanted, wanted_role)
+    token = facts.token.bytes.decode("latin-1").strip("\"'`()[]<>=,;:")
+    true(re.fullmatch(others, token, re.I), f"{token} is no spelling of it")
+
+
+@form(
+    rf"  = help: \[(\d+)\] says objective (<=|>=) ({NUMBER}) and rests on no assumption: is `RTP range (\S+) (\S+)` meant\?"
+)
+def proved_bound(page, index, sign, side, lower: str, upper: str):
+    facts = page.facts
+    same("the strongest bound", (index, sign, side), strongest_bound(facts))
+    wanted_claim = [str(side), "inf"] if facts.checker.minimizes else ["-inf", str(side)]
+    same("the claim", [lower, upper], wanted_claim)
+
+
+def strongest_bound(facts):
+    """The first of the strongest bounds on the objective that derivations give, are kept, and rest on nothing, where infeasibility is
+    claimed."""
+    checker = facts.checker
+    if checker.bounds is not None or not checker.objective:
+        return None
+    sense, end = "G" if checker.minimizes else "L", len(checker.constraints)
+    found = [
+        (side if sense == "L" else -side, index)
+        for index, (row, its_sense, side) in enumerate(checker.constraints)
+        if index >= facts.given
+        and row == checker.objective
+        and its_sense in ("E", sense)
+        and not checker.sets[index]
+        and (checker.last[index] is None or checker.last[index] >= end)
+    ]
+    if not found:
+        return None
+    _, index = min(found)
+    return index, SIGNS[sense], Fraction(facts.constraint(index).bound)

@@ -117,13 +117,10 @@ def exhaustive(file, far):
     costs, best = file.entries[file.objective], None
     for values in itertools.product(*spans):
         fixed = dict(zip(whole, values))
-        left = [
-            (
-                [row.get(j, 0) for j in others],
-                side - sum(row.get(j, 0) * v for j, v in fixed.items()),
-            )
-            for row, side in conditions
-        ]
+        left = []
+        for row, side in conditions:
+            taken = sum(row.get(j, 0) * value for j, value in fixed.items())
+            left.append(([row.get(j, 0) for j in others], side - taken))
         for point in vertices(left, len(others)):
             if all(sum(a * v for a, v in zip(row, point)) >= side for row, side in left):
                 full = {**fixed, **dict(zip(others, point))}
@@ -205,6 +202,19 @@ def command():
             out, fault, status = run([sys.executable, SCRIPT, model.name, *options])
             is_refused = (status, out) == (1, b"") and word.encode() in fault
             check(is_refused, f"{bounds}: {status} {out} {fault}, wanted {word}")
+    with tempfile.NamedTemporaryFile(suffix=".mps") as model:
+        model.write(f"{front.format(1, 1)}BOUNDS\n UP x 3\nENDATA\n".encode())
+        model.flush()
+        for options, said, claim in (
+            ([], b"the file gives no direction: minimized (or say --maximize)\n", "1 1"),
+            (["--maximize"], b"", "3 3"),
+        ):
+            out, fault, status = run([sys.executable, SCRIPT, model.name, *options])
+            verdict = run([PROGRAM, "check"], out).stdout.decode().split("\n")[0]
+            check(
+                (status, fault, verdict) == (0, said, f"verified range {claim}"),
+                f"no direction {options}: {status} {fault} {verdict}",
+            )
     out, fault, status = run([sys.executable, SCRIPT, "missing.mps"])
     check((status, out) == (3, b"") and b"missing.mps: No such file" in fault, f"missing: {fault}")
 

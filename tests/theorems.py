@@ -4,18 +4,19 @@
 usage: tests/theorems.py [PROGRAM]
 
 Each example has to be a theorem by a profile if `vipr check` verifies it by that, and else to be
-refused; and so have a false claim, a certificate of 100 kB, and one with bytes that can't be
-printed. A theorem with one byte changed, or with a line more, isn't about the certificate. Nothing
+refused; and so have a false claim, a certificate with bytes that can't be printed, and some of 100
+kB, within 20 seconds of processor time. Of one of 1 MB, and of one whose rows `OBJ` are long, it
+has to be said beforehand how long it may take. A theorem with one byte changed, or with a line more, isn't about the certificate. Nothing
 in a name is run, and a file that the script did not write stays as it is.
 
 Prints each fault, and last `theorems: N checks, F failed`. The exit status is 1 if one failed.
 Without coqc nothing is tried, and a line says so.
 """
 import os
+import re
 import shutil
 import sys
 import tempfile
-import time
 from concurrent.futures import ThreadPoolExecutor
 from pathlib import Path
 
@@ -27,20 +28,20 @@ check = CHECKS.check
 WRITE, COMPARE = TOP / "rocq/theorem.py", TOP / "rocq/same_bytes.py"
 THEOREM = "the_claim_is_true\n     : Means certificate\nClosed under the global context\n"
 STATUSES = {"verified": 0, "refused": 1}
-# more than a certificate of 100 kB takes on a machine with other work
-SECONDS = 600
+# more than a certificate of 100 kB takes on a machine with other work, and its processor time
+SECONDS, PROCESSOR = 600, 20
+LARGE = families.dense, families.columns_and_objective
 NAMES = ["$(shell touch ran)", "$(touch ran)", "`touch ran`", "-x", "a b", "%\"'$$x", "a\nb"]
 SMALL = (TOP / "examples/infeasible.vipr").read_bytes()
 
 
 def certificates():
-    """Texts with their names: the examples, a false claim, strange bytes, and 100 kB."""
+    """Texts with their names: the examples, a false claim, and strange bytes."""
     for path, text in examples(10**9):
         yield path.stem, text
     claim = (TOP / "examples/branch_and_bound.vipr").read_bytes()
     yield "false_claim", claim.replace(b"RTP range 1 1", b"RTP range 2 2")
     yield "strange_bytes", SMALL.replace(b"x", b'"x\\\xff\0\x7f(*').replace(b" ", b"\t\r ")
-    yield "large", text_of(families.dense, 100_000)
 
 
 def proved(file, out, *more):
@@ -65,16 +66,53 @@ def try_certificate(first, folder, name, text):
             continue
         verdicts.add(verdict)
         out = folder / f"{name}_{number}.v"
-        begun = time.monotonic()
         done = proved(file, out, *words)
-        taken = time.monotonic() - begun
         said = done.stdout.decode()
         what = f"{name} by profile {number}: {done}"
         check(done.returncode == STATUSES[verdict], what)
         check(said == THEOREM if verdict == "verified" else said.startswith("refused "), what)
         check(same(out, file), f"{what}: the bytes")
-        if name == "large":
-            print(f"{len(text)} bytes: {taken:.0f} seconds", flush=True)
+
+
+def try_large(folder, family):
+    """Whether a certificate of 100 kB is a theorem in time."""
+    name = family.__name__
+    file, out = folder / f"{name}.vipr", folder / f"{name}.v"
+    file.write_bytes(text_of(family, 100_000))
+    words = [str(word) for word in (sys.executable, WRITE, file, out)]
+    with open(folder / f"{name}.said", "w+b") as said:
+        pid = os.posix_spawn(
+            words[0],
+            words,
+            os.environ,
+            file_actions=[(os.POSIX_SPAWN_DUP2, said.fileno(), 1)],
+        )
+        _, status, used = os.wait4(pid, 0)
+        said.seek(0)
+        check((status, said.read().decode()) == (0, THEOREM), f"{name}: {status}")
+    taken = used.ru_utime + used.ru_stime
+    print(f"{name}, {file.stat().st_size} bytes: {taken:.0f} seconds", flush=True)
+    check(taken <= PROCESSOR, f"{name}: {taken:.0f} seconds of processor time")
+
+
+def try_announced(folder):
+    """Whether it is said of large texts, and of no others, what they may take, before Rocq runs."""
+    tools = folder / "tools"
+    tools.mkdir()
+    (tools / "coqc").write_text("#!/bin/sh\nexit 1\n")
+    (tools / "coqc").chmod(0o755)
+    for family, size, wanted in [
+        (families.dense, 100_000, False),
+        (families.dense, 1_000_000, True),
+        (families.objective_kept, 100_000, True),
+    ]:
+        what = f"announced_{family.__name__}_{size}"
+        file = folder / f"{what}.vipr"
+        file.write_bytes(text_of(family, size))
+        words = [sys.executable, WRITE, file, folder / f"{what}.v"]
+        done = run(words, env=os.environ | {"PATH": str(tools)})
+        begins = re.match(rb"\d+ bytes may take \d+ seconds", done.stderr)
+        check(bool(begins) == wanted, f"{what}: {done}")
 
 
 def try_changes(folder):
@@ -138,7 +176,8 @@ def main():
                 pool.submit(try_certificate, first, folder, *certificate)
                 for certificate in certificates()
             ]
-            tried += [pool.submit(try_changes, folder), pool.submit(try_names, folder)]
+            tried += [pool.submit(try_large, folder, family) for family in LARGE]
+            tried += [pool.submit(one, folder) for one in (try_changes, try_names, try_announced)]
             for one in tried:
                 one.result()
     return CHECKS.end()

@@ -4,7 +4,7 @@
 usage: tests/written.py
 
 Also looks whether docs/STATEMENT.md has an example for each definition, and not more lines to
-believe than it may, and whether docs/PROOF.md names only clauses that there are.
+believe than it may, and whether docs/dev/CONTRACTS.md names only clauses that there are.
 
 Prints each fault, and last `written: N checks, F failed`; the exit status is 1 if one failed.
 """

@@ -1,5 +1,6 @@
 #!/usr/bin/env python3
-"""Tests the wrong versions of the code, without the prover: their files, and tools/wrong.py.
+"""Tests the wrong versions of the code and of definitions, without the prover: their files,
+tools/wrong.py and tools/wrong_definitions.py.
 
 usage: tests/wrong_versions.py
 
@@ -10,6 +11,10 @@ differ.
 tools/wrong.py runs in a small repository, over tests/toolchain.py under the name `rt`. It counts
 refusals by kind, and whatever an edit, a crate or a check comes to, it says so and its exit status
 fits. Right code in another form, as the prover refused it, isn't refused with values.
+
+Each edit of crates/*/wrong_definitions changes a definition, stands where it says, and names a law
+that refuses it and a case. tools/wrong_definitions.py tells a law that is proved from one that is
+refused and from one of which nothing is known.
 
 Prints each fault, and last `wrong_versions: N checks, F failed`; the exit status is 1 if one failed.
 """
@@ -23,6 +28,7 @@ from pathlib import Path
 
 from texts import TOP, Checks
 import wrong
+import wrong_definitions
 
 CHECKS = Checks("wrong_versions")
 check = CHECKS.check
@@ -89,6 +95,61 @@ def applied(crate, lines):
                 return texts, f"{old!r} stands {texts[file].count(old)} times in {file}"
             texts[file] = texts[file].replace(old, text)
     return texts, ""
+
+
+# ---- definitions
+
+
+def definitions():
+    """The edits of definitions."""
+    paths = sorted(TOP.glob("crates/*/wrong_definitions/*.edit"))
+    check(paths, "no wrong definitions")
+    for path in paths:
+        crate, name = path.parent.parent, str(path.relative_to(TOP))
+        lines = path.read_text().rstrip("\n").split("\n")
+        words = " ".join(line.partition(": ")[0] for line in lines)
+        form = "what( proved)*( refused)+ input right wrong( file( old new)+)+"
+        check(re.fullmatch(form, words), f"{name}: its lines are {words}")
+        texts, why = applied(crate, lines)
+        check(not why, f"{name}: {why}")
+        folders = {file.partition("/")[0] for file in texts}
+        check({"specs"} <= folders <= {"specs", "proofs"}, f"{name}: it changes {[*texts]}")
+        for word in ("proved", "refused"):
+            for law in wrong_definitions.laws(path, word):
+                file, _, function = law.partition("::")
+                source = crate / f"src/{file}.rt"
+                is_there = source.is_file() and f"pub fn {function}()" in source.read_text()
+                check(is_there, f"{name}: there is no law {law}")
+
+
+class LawJudge:
+    """A judge that knows no prover: what it says of a law stands in `says`."""
+
+    def __init__(self, says):
+        self.says, self.rt = says, self
+
+    def check(self, texts, names):
+        return self.says[names[0]]
+
+    def unread(self, line, texts):
+        return "cannot be read" in line
+
+
+def laws():
+    """What tools/wrong_definitions.py says of a law, by what the prover said."""
+    error = "./proofs/One.antt:2:1: error: `one`: the two types differ"
+    for said, wanted in (
+        ((0, ["only=1 proved=1"]), "proved"),
+        ((1, [error, "only=1 proved=0"]), "refused"),
+        ((1, ["only=1 proved=0"]), "unclear"),
+        ((1, ["specs/One.antt:1:1: error: this cannot be read", "only=1 proved=0"]), "unclear"),
+        ((1, [error, "only=0 proved=0"]), "unclear"),
+        ((0, [error, "only=1 proved=0"]), "unclear"),
+        ((3, [error, "only=1 proved=0"]), "unclear"),
+        ((-9, [error]), "unclear"),
+    ):
+        got, _ = wrong_definitions.answer_of(LawJudge({"law": said}), {}, "law")
+        check(got == wanted, f"a law of which the prover says {said}: {got}, not {wanted}")
 
 
 # ---- tools/wrong.py
@@ -332,6 +393,8 @@ def goes_on(place):
 
 def main():
     forms()
+    definitions()
+    laws()
     right_code()
     with tempfile.TemporaryDirectory(prefix="vipr-wrong-versions-") as name:
         place = Place(Path(name))

@@ -4,8 +4,9 @@
 usage: tools/build.py
 
 A crate begins once those below it are built. If several can begin, the first is the one with the
-longest chain of crates above it. It gets the processors that the others don't need, which get one
-each; and each process has to have 3 GB of free memory. What was proved before isn't proved again.
+longest chain of crates above it, by their sources: a proof takes about as long as the source is.
+It gets the processors that the others don't need, which get one each, and two if two are free. Each
+process has to have 3 GB of free memory. What was proved before isn't proved again.
 The program is crates/vipr/out/vipr afterwards, with its SHA-256 in vipr.sha256 beside it. RT names
 the command of the toolchain, `rt` without it. If a crate isn't proved or can't be built, its output
 is printed, the exit status is 1, and there is no vipr.sha256.
@@ -60,12 +61,13 @@ def crates_of_program():
 
 
 def chains(below):
-    """Of each crate how many bytes of text the longest chain from it up to the program has."""
+    """Of each crate how many bytes of source the longest chain from it up to the program has."""
     length = {}
 
     def measure(crate):
         if crate not in length:
-            own = sum(path.stat().st_size for path in kit.texts(crate))
+            sources = (TOP / "crates" / crate / "src").rglob("*.rt")
+            own = sum(path.stat().st_size for path in sources)
             above = [other for other in below if crate in below[other]]
             length[crate] = own + max(map(measure, above), default=0)
         return length[crate]
@@ -131,6 +133,11 @@ class Build:
         self.started, self.to_come = 0, len(below)
         self.seconds, self.spoke, self.is_unusable = 0.0, False, False
 
+    @staticmethod
+    def processes(free, others):
+        """How many of the free processors the first of several crates gets."""
+        return min(max(1, min(free, 2), free - others), MOST_PROCESSES)
+
     def command(self, crate, processes):
         """The command that builds a crate by so many processes."""
         if not self.locks:
@@ -184,7 +191,7 @@ class Build:
                 while well and ready and (free > 0 or not running):
                     crate = ready.pop(0)
                     waiting.remove(crate)
-                    processes = max(1, min(free - len(ready), MOST_PROCESSES))
+                    processes = self.processes(free, len(ready))
                     self.started += 1
                     task = pool.submit(self.build, crate, self.started, processes)
                     running[task] = crate, processes

@@ -17,30 +17,32 @@ import time
 from pathlib import Path
 
 TOP = Path(__file__).resolve().parent.parent
-RT = os.environ.get('RT', 'rt')
-PARTS = ('src', 'specs', 'proofs')
+RT = os.environ.get("RT", "rt")
+PARTS = ("src", "specs", "proofs")
 
 
 def missing():
     """What to say if the kit isn't on the path, and nothing if it is."""
     if shutil.which(RT):
-        return ''
-    return (f"'{RT}' isn't on the path. vipr is written in Rattle (Rust with contracts); the Rattle kit proves and builds it:\n"
-            'README.md, "Install and use", says what it is. RT=/path/to/rt make .. names another command.')
+        return ""
+    return (
+        f"'{RT}' isn't on the path. vipr is written in Rattle (Rust with contracts); the Rattle kit proves and builds it:\n"
+        'README.md, "Start", says what it is. RT=/path/to/rt make .. names another command.'
+    )
 
 
 def took(command, start):
     """What a command took since `start` of the monotonic clock, as one line."""
-    used = [resource.getrusage(it) for it in (resource.RUSAGE_SELF, resource.RUSAGE_CHILDREN)]
-    spent = sum(it.ru_utime + it.ru_stime for it in used)
-    return f'{command}: {(time.monotonic() - start) / 60:.1f} minutes, {spent / 60:.1f} of processor time'
+    used = [resource.getrusage(who) for who in (resource.RUSAGE_SELF, resource.RUSAGE_CHILDREN)]
+    spent = sum(usage.ru_utime + usage.ru_stime for usage in used)
+    return f"{command}: {(time.monotonic() - start) / 60:.1f} minutes, {spent / 60:.1f} of processor time"
 
 
 def toolchain():
     """The kit's `rt` as a module."""
-    loader = importlib.machinery.SourceFileLoader('rt', os.path.realpath(shutil.which(RT)))
-    module = importlib.util.module_from_spec(importlib.util.spec_from_loader('rt', loader))
-    sys.modules['rt'] = module
+    loader = importlib.machinery.SourceFileLoader("rt", os.path.realpath(shutil.which(RT)))
+    module = importlib.util.module_from_spec(importlib.util.spec_from_loader("rt", loader))
+    sys.modules["rt"] = module
     loader.exec_module(module)
     return module
 
@@ -50,40 +52,53 @@ def sum_of(file):
     return hashlib.sha256(file.read_bytes()).hexdigest()
 
 
+def write_sums(file, built):
+    """Writes the SHA-256 of files that were proved and built beside them, as `sha256sum -c` reads it: `make check`, `make
+    install`, `make install-lib` and `make dist` use no others."""
+    file.write_text("".join(f"{sum_of(path)}  {path.name}\n" for path in built))
+
+
 def mark(proved):
     """Writes the SHA-256 of the program beside it if all of it was proved and built, else takes an earlier one away, and says
-    which: `make check` and `make install` use no other program."""
-    program = TOP / 'crates/vipr/out/vipr'
-    written = program.with_name('vipr.sha256')
+    which."""
+    program = TOP / "crates/vipr/out/vipr"
+    written = program.with_name("vipr.sha256")
     written.unlink(missing_ok=True)
     if not proved or not program.is_file():
         return False
-    written.write_text(f'{sum_of(program)}  vipr\n')
+    write_sums(written, [program])
     return True
 
 
 def texts(crate):
     """The files that a crate is proved and built from."""
-    return [it for part in PARTS for it in (TOP / 'crates' / crate / part).rglob('*') if it.is_file()]
+    return [
+        path
+        for part in PARTS
+        for path in (TOP / "crates" / crate / part).rglob("*")
+        if path.is_file()
+    ]
 
 
 def is_of_one_run():
     """Whether each library here was made by `rt ci`, and from the text that stands there."""
-    made = [it.stat().st_mtime for it in TOP.glob('crates/*/out/rlib/*.rlib')]
-    newest = max(it.stat().st_mtime for crate in (TOP / 'crates').iterdir() for it in texts(crate.name))
-    return bool(made) and not any(TOP.glob('crates/*/out/rlib/stamp')) and min(made) > newest
+    made = [path.stat().st_mtime for path in TOP.glob("crates/*/out/rlib/*.rlib")]
+    newest = max(
+        path.stat().st_mtime for crate in (TOP / "crates").iterdir() for path in texts(crate.name)
+    )
+    return bool(made) and not any(TOP.glob("crates/*/out/rlib/stamp")) and min(made) > newest
 
 
 def stamp(copy):
     """Writes the stamps in a copy of the libraries of one run."""
     rt = toolchain()
     for crate in rt.rtlib.crates_below(str(copy)):
-        rlib, program = Path(crate.rlib), Path(crate.folder, 'out', crate.name)
+        rlib, program = Path(crate.rlib), Path(crate.folder, "out", crate.name)
         if rlib.is_dir():
-            (rlib.parent / 'stamp').write_text(crate.stamp())
+            (rlib.parent / "stamp").write_text(crate.stamp())
         if crate.is_program and program.is_file():
             rt.read_files(crate)
-            program.with_suffix('.stamp').write_text(crate.stamp() + sum_of(program))
+            program.with_suffix(".stamp").write_text(crate.stamp() + sum_of(program))
 
 
 def take_over(copy):
@@ -93,7 +108,7 @@ def take_over(copy):
             return False
         stamp(copy)
     except (Exception, SystemExit) as fault:
-        print(f'kit: {fault}: what rt ci proved is proved once more')
+        print(f"kit: {fault}: what rt ci proved is proved once more")
         return False
     return True
 
@@ -102,11 +117,11 @@ def copied(room, *names):
     """A copy of these files and folders that takes over what `rt ci` proved here; this repository, if that can't be done."""
     if not is_of_one_run():
         return TOP
-    copy = Path(room, 'vipr')
+    copy = Path(room, "vipr")
     copy.mkdir()
     for name in names:
         if (TOP / name).is_dir():
-            shutil.copytree(TOP / name, copy / name, ignore=shutil.ignore_patterns('incremental'))
+            shutil.copytree(TOP / name, copy / name, ignore=shutil.ignore_patterns("incremental"))
         else:
             shutil.copy(TOP / name, copy)
     return copy if take_over(copy) else TOP

@@ -12,17 +12,17 @@ import vipr
 
 def check(name):
     try:
-        with open(name, 'rb') as file:
+        with open(name, "rb") as file:
             verdict = vipr.check(file.read())
     except OSError as fault:
-        print(f'{name}: {fault.strerror}', file=sys.stderr)
+        print(f"{name}: {fault.strerror}", file=sys.stderr)
         return 2
     except vipr.OutOfMemory:
-        print(f'{name}: no memory')
+        print(f"{name}: no memory")
         return 3
     print(f'{name}: {", ".join(str(verdict).splitlines())}')
     return 0 if verdict else 1
 
 
-if __name__ == '__main__':
+if __name__ == "__main__":
     sys.exit(max(map(check, sys.argv[1:]), default=0))

@@ -18,8 +18,9 @@ from fractions import Fraction
 from math import ceil, floor, gcd, lcm
 from pathlib import Path
 
-# (without an installed package the one of this repository is taken)
-sys.path.append(str(Path(__file__).resolve().parents[2] / "python"))
+# (without an installed package that of a folder above is taken: of this repository, or of an archive of it)
+ABOVE = Path(__file__).resolve().parents
+sys.path += [str(folder / "python") for folder in ABOVE if (folder / "python/vipr").is_dir()]
 import vipr  # noqa: E402
 from simplex import Infeasible, LinearProgram, Unbounded  # noqa: E402
 from vipr import mps  # noqa: E402
@@ -219,7 +220,7 @@ def read_model(words):
     try:
         return mps.read_mps(vipr.files.read_file(words.model), words.integers, words.maximize)
     except mps.Refused as fault:
-        help_ = " (docs/PYTHON.md has the causes)"
+        help_ = " (docs/USE.md has the causes)"
         if fault.cause is mps.Cause.UNCLEAR_INTEGER:
             help_ = ": say --integers one or --integers inf, or give the column an UP bound"
         raise NoProof("\n".join([f"{words.model}: {fault}{help_}", *fault.shown])) from None
@@ -254,6 +255,8 @@ def main(program=LinearProgram):
     sys.setrecursionlimit(100_000)
     try:
         file = read_model(words)
+        if not (file.has_direction or words.maximize):
+            print("the file gives no direction: minimized (or say --maximize)", file=sys.stderr)
         if file.constant():
             print(f"the constant {file.constant()} is in no bound", file=sys.stderr)
         prove(file, sys.stdout.buffer, program)
@@ -261,7 +264,8 @@ def main(program=LinearProgram):
         print(fault, file=sys.stderr)
         return 1
     except OSError as fault:
-        print(f"{fault.filename}: {fault.strerror or fault}", file=sys.stderr)
+        where = f"{fault.filename}: " if fault.filename else ""
+        print(f"{where}{fault.strerror or fault}", file=sys.stderr)
         return 3
     return 0
 

@@ -14,9 +14,13 @@ from fractions import Fraction
 from math import inf, lcm
 
 import solve
-from scipy.optimize import linprog
-from scipy.sparse import csr_matrix
 from simplex import Infeasible, LinearProgram, Optimum
+
+try:
+    from scipy.optimize import linprog
+    from scipy.sparse import csr_matrix
+except ImportError:
+    sys.exit("solve_floats.py needs scipy, which is python3-scipy in Debian; solve.py does without")
 
 CLOSE = 1e-6
 SIMPLE, FINE = 1000, 10**6

@@ -7,10 +7,20 @@ import sys
 
 from .version import VERSION
 
-COMMANDS = ("audit", "check-all", "compare-mps", "html", "picture", "stats")
+COMMANDS = {
+    "audit": "answers a referee: is the claim proved, and is it about this model?",
+    "check-all": "checks folders of certificates on all cores",
+    "compare-mps": "compares a certificate's problem with an MPS file",
+    "html": "writes a page on which a person browses a proof",
+    "picture": "draws a proof as SVG",
+    "stats": "counts derivations, and measures rows and numbers",
+}
+_ROWS = "\n".join(f"  {name:12} {does}" for name, does in COMMANDS.items())
 USAGE = f"""usage: python3 -m vipr COMMAND ..
 
-The commands are {", ".join(COMMANDS)}; `python3 -m vipr COMMAND --help` says what each does."""
+{_ROWS}
+
+`python3 -m vipr COMMAND --help` lists what each takes. The program `vipr` checks a certificate alone."""
 
 
 def main() -> int:

@@ -7,28 +7,45 @@ import os
 import sys
 import time
 from pathlib import Path
-from typing import Callable, Iterable, NoReturn, Optional, Union
+from typing import Any, Callable, Iterable, NoReturn, Optional, Tuple, Union
 
-from .packed import SUFFIXES, NotWhole, unpacked
+from .packed import SUFFIXES, NotWhole, text_of, unpacked
 from .version import VERSION
 
 VERIFIED, REFUSED, MISUSED, FAILED = range(4)
 LONG, OFTEN = 2, 0.5  # seconds until a terminal shows how far a command is, and until it changes
-SHORT = {'\\': '\\\\', '\t': '\\t', '\n': '\\n', '\r': '\\r'}
+SHORT = {"\\": "\\\\", "\t": "\\t", "\n": "\\n", "\r": "\\r"}
 
 
 def read_file(name: str) -> bytes:
     """The bytes of a file, unpacked by its suffix; `-` is standard input. Raises OSError, also if it can't be unpacked."""
-    if name == '-':
+    if name == "-":
         return sys.stdin.buffer.read()
     suffix = Path(name).suffix
     if suffix not in SUFFIXES:
         return Path(name).read_bytes()
-    with open(name, 'rb') as file:
+    with open(name, "rb") as file:
         try:
-            return b''.join(unpacked(file, suffix))
+            return b"".join(unpacked(file, suffix))
         except NotWhole as fault:
-            raise OSError(None, f'not unpacked: {fault}', name) from fault
+            raise not_unpacked(name, fault) from fault
+
+
+def read_both(name: str) -> Tuple[bytes, bytes]:
+    """The bytes of a file, and its text, which is unpacked by its suffix. Raises what `read_file` raises."""
+    suffix = Path(name).suffix
+    if name == "-" or suffix not in SUFFIXES:
+        text = read_file(name)
+        return text, text
+    packed = Path(name).read_bytes()
+    try:
+        return packed, text_of(packed, suffix)
+    except NotWhole as fault:
+        raise not_unpacked(name, fault) from fault
+
+
+def not_unpacked(name: str, fault: NotWhole) -> OSError:
+    return OSError(None, f"not unpacked: {fault}", name)
 
 
 def is_one_file(name: str, others: Iterable[str]) -> bool:
@@ -46,39 +63,66 @@ def is_one_file(name: str, others: Iterable[str]) -> bool:
     return False
 
 
+def keep_apart(out: Optional[str], name: str) -> None:
+    """Ends a command whose output would replace what it reads. `-` is standard input."""
+    if out and is_one_file(out, ["/dev/stdin" if name == "-" else name]):
+        raise OSError(None, "it is the file that is read", out)
+
+
 def escaped(character: str) -> str:
     """A character that isn't printed as it is. A byte that isn't UTF-8 is `\\xff`, a control byte `\\x1b`, others `\\u202e`."""
     code = ord(character)
     if character in SHORT:
         return SHORT[character]
-    if code < 0x80 or 0xdc80 <= code <= 0xdcff:
-        return f'\\x{code & 0xff:02x}'
-    return f'\\u{code:04x}' if code < 0x10000 else f'\\U{code:08x}'
+    if code < 0x80 or 0xDC80 <= code <= 0xDCFF:
+        return f"\\x{code & 0xff:02x}"
+    return f"\\u{code:04x}" if code < 0x10000 else f"\\U{code:08x}"
 
 
 def decoded(name: bytes) -> str:
     """A name of a text as a str. Bytes that aren't UTF-8 are kept, as Python keeps them in the names of files."""
-    return name.decode('utf-8', 'surrogateescape')
+    return name.decode("utf-8", "surrogateescape")
 
 
 def encoded(name: str) -> bytes:
     """The bytes of a name that `decoded` gave."""
-    return name.encode('utf-8', 'surrogateescape')
+    return name.encode("utf-8", "surrogateescape")
 
 
 def printable(name: Union[bytes, str]) -> str:
     """A name of a certificate or a file, as each is printed and stored: what isn't printable is escaped, so that it can't
     control a terminal or end a line. Two names have two such texts."""
-    text = name.decode('utf-8', 'surrogateescape') if isinstance(name, bytes) else name
-    return ''.join(it if it.isprintable() and it != '\\' else escaped(it) for it in text)
+    text = name.decode("utf-8", "surrogateescape") if isinstance(name, bytes) else name
+    return "".join(
+        character if character.isprintable() and character != "\\" else escaped(character)
+        for character in text
+    )
+
+
+class Said(io.FileIO):
+    """Standard error. What can't be written to it is left out, and changes no status."""
+
+    def write(self, text: Any) -> int:
+        try:
+            return super().write(text)
+        except OSError:
+            return len(text)
 
 
 def open_streams() -> None:
     """Ends a run without standard output, with the status of a failed write. Without standard error nothing is said."""
     if sys.stderr is None:
-        sys.stderr = open(os.devnull, 'w', encoding='utf-8')
+        sys.stderr = open(os.devnull, "w", encoding="utf-8")
+    elif isinstance(sys.stderr, io.TextIOWrapper):
+        said = Said(sys.stderr.fileno(), "w", closefd=False)
+        sys.stderr = io.TextIOWrapper(
+            io.BufferedWriter(said),
+            sys.stderr.encoding,
+            sys.stderr.errors,
+            line_buffering=True,
+        )
     if sys.stdout is None:
-        print('standard output is closed', file=sys.stderr)
+        print("standard output is closed", file=sys.stderr)
         sys.exit(FAILED)
 
 
@@ -87,8 +131,17 @@ class Parser(argparse.ArgumentParser):
 
     def __init__(self, name: str, about: Optional[str]):
         open_streams()
-        super().__init__(prog=f'vipr-{name}', description=about, formatter_class=argparse.RawDescriptionHelpFormatter)
-        self.add_argument('--version', action='version', version=f'vipr-{name} {VERSION}', help='the version of the package')
+        super().__init__(
+            prog=f"vipr-{name}",
+            description=about,
+            formatter_class=argparse.RawDescriptionHelpFormatter,
+        )
+        self.add_argument(
+            "--version",
+            action="version",
+            version=f"vipr-{name} {VERSION}",
+            help="the version of the package",
+        )
 
     def error(self, message: str) -> NoReturn:
         super().error(printable(message))
@@ -97,7 +150,7 @@ class Parser(argparse.ArgumentParser):
 def number(word: str) -> int:
     """A number of a command line, from 1 to a million."""
     if not (word.isascii() and word.isdigit() and len(word) < 20 and 1 <= int(word) <= 1_000_000):
-        raise argparse.ArgumentTypeError(f'{word} is no number from 1 to 1000000')
+        raise argparse.ArgumentTypeError(f"{word} is no number from 1 to 1000000")
     return int(word)
 
 
@@ -111,24 +164,31 @@ class Alive:
 
     def part(self, words: str, whole: int) -> Callable[[int], None]:
         """What is called with how much of a part is done."""
+
         def progress(done: int) -> None:
             now = time.monotonic()
             if self.is_terminal and now > self.shown:
-                print(f'\r{words} {100 * done // max(whole, 1)} %, {now - self.start:.0f} s ', end='', file=sys.stderr, flush=True)
+                print(
+                    f"\r{words} {100 * done // max(whole, 1)} %, {now - self.start:.0f} s ",
+                    end="",
+                    file=sys.stderr,
+                    flush=True,
+                )
                 self.shown, self.is_shown = now + OFTEN, True
+
         return progress
 
     def end(self) -> None:
         """Takes the line away."""
         if self.is_shown:
-            print('\r\x1b[K', end='', file=sys.stderr, flush=True)
+            print("\r\x1b[K", end="", file=sys.stderr, flush=True)
 
 
 def run(command: Callable[[], int]) -> int:
     """Runs a command, and gives its status: a file that can't be read or written is status 3, as for `vipr`."""
     try:
         if isinstance(sys.stdout, io.TextIOWrapper):
-            sys.stdout.reconfigure(errors='backslashreplace')
+            sys.stdout.reconfigure(errors="backslashreplace")
         status = command()
         sys.stdout.flush()
         return status
@@ -136,11 +196,11 @@ def run(command: Callable[[], int]) -> int:
         os.dup2(os.open(os.devnull, os.O_WRONLY), sys.stdout.fileno())
         return FAILED
     except OSError as fault:
-        where = f'{printable(os.fsencode(fault.filename))}: ' if fault.filename else ''
-        print(f'{where}{fault.strerror or fault}', file=sys.stderr)
+        where = f"{printable(os.fsencode(fault.filename))}: " if fault.filename else ""
+        print(f"{where}{fault.strerror or fault}", file=sys.stderr)
     except MemoryError:
-        print('fault memory', file=sys.stderr)
+        print("fault memory", file=sys.stderr)
     except KeyboardInterrupt:
-        print('stopped', file=sys.stderr)
+        print("stopped", file=sys.stderr)
         return 130
     return FAILED

@@ -24,15 +24,17 @@ from typing import IO, Dict, FrozenSet, Iterator, List, Optional, Tuple
 from . import proof as structure
 from .algebra import row_text
 from .certificate import Certificate, Progress, read
-from .files import REFUSED, VERIFIED, Alive, Parser, printable, read_file, run
+from .files import REFUSED, VERIFIED, Alive, Parser, keep_apart, printable, read_file, run
 from .library import LibraryMissing, check, explain_long
 from .verdict import Place, Verdict
 
 MOST_SOLUTIONS = 100  # how many are listed
 MOST_REMEMBERED = 1 << 12  # how many small sets are found again
 PIECE = 1 << 10  # how many constraints are written at once
-UNCHECKED = 'This certificate was not checked: the library of `vipr` is not installed. Run: vipr check FILE'
-VERIFIED_PAGE = 'Verified by the library of `vipr`. This page is not proved: for what counts, run: vipr check FILE'
+UNCHECKED = (
+    "This certificate was not checked: the library of `vipr` is not installed. Run: vipr check FILE"
+)
+VERIFIED_PAGE = "Verified by the library of `vipr`. This page is not proved: for what counts, run: vipr check FILE"
 
 
 def counted(count: int, word: str) -> str:
@@ -46,11 +48,13 @@ class SetWriter:
         self.lines: List[str] = []
         self.small: Dict[FrozenSet[int], int] = {}
         # the set of each derivation
-        self.rests = array('I')
+        self.rests = array("I")
 
     def see(self, found: structure.Found) -> None:
         """The set of the next derivation."""
-        self.rests.append(self.of_small(found) if isinstance(found, frozenset) else self.of_large(found))
+        self.rests.append(
+            self.of_small(found) if isinstance(found, frozenset) else self.of_large(found)
+        )
 
     def added(self, line: str) -> int:
         self.lines.append(line)
@@ -61,7 +65,7 @@ class SetWriter:
         if number is None:
             if len(self.small) > MOST_REMEMBERED:
                 self.small.clear()
-            number = self.small[found] = self.added(' '.join(map(str, sorted(found))))
+            number = self.small[found] = self.added(" ".join(map(str, sorted(found))))
         return number
 
     def of_large(self, found: structure.Assumptions) -> int:
@@ -74,8 +78,11 @@ class SetWriter:
             if not missing:
                 open_ones.pop()
                 if part.number < 0:
-                    part.number = self.added(f'+{part.halves[0].number} {part.halves[1].number}' if part.halves
-                                             else f'@{part.start} {part.bits:x}')
+                    part.number = self.added(
+                        f"+{part.halves[0].number} {part.halves[1].number}"
+                        if part.halves
+                        else f"@{part.start} {part.bits:x}"
+                    )
         return found.number
 
 
@@ -90,56 +97,88 @@ class Page:
         """The first solutions, with their objective values."""
         problem, found = self.proof.problem, []
         for solution in islice(self.proof.solutions, MOST_SOLUTIONS):
-            values = ', '.join(f'{printable(problem.names[index])} = {value}' for index, value in sorted(solution.values.items()))
-            objective = sum(problem.objective.get(index, 0) * value for index, value in solution.values.items())
-            found.append(f'{printable(solution.name)}: {values or "all variables are 0"}; objective {objective}')
+            values = ", ".join(
+                f"{printable(problem.names[index])} = {value}"
+                for index, value in sorted(solution.values.items())
+            )
+            objective = sum(
+                problem.objective.get(index, 0) * value for index, value in solution.values.items()
+            )
+            found.append(
+                f'{printable(solution.name)}: {values or "all variables are 0"}; objective {objective}'
+            )
         rest = len(self.proof.solutions) - len(found)
-        return [*found, f'.. ({rest:,} more)'] if rest else found
+        return [*found, f".. ({rest:,} more)"] if rest else found
 
     def lines(self) -> Iterator[str]:
         """Each constraint as the text spells it, with a name that can be printed."""
         for line in self.proof.lines():
-            if not line.isprintable() or '\\' in line:
-                name, _, rest = line.partition(' ')
-                line = f'{printable(name)} {rest}'
+            if not line.isprintable() or "\\" in line:
+                name, _, rest = line.partition(" ")
+                line = f"{printable(name)} {rest}"
             yield line
 
     def data(self, fault: Optional[int]) -> Iterator[str]:
         """The data of the page's script, in pieces: JSON."""
         problem = self.proof.problem
-        yield json.dumps({'first': len(problem.constraints), 'goal': self.outline.goal, 'fault': fault,
-                          'names': list(map(printable, problem.names)), 'solutions': self.solutions(),
-                          'objective': [[index, str(value)] for index, value in sorted(problem.objective.items())],
-                          'rests': self.sets.rests.tolist()}, separators=(',', ':'))[:-1]
-        for name, lines in (('sets', iter(self.sets.lines)), ('lines', self.lines())):
+        yield json.dumps(
+            {
+                "first": len(problem.constraints),
+                "goal": self.outline.goal,
+                "fault": fault,
+                "names": list(map(printable, problem.names)),
+                "solutions": self.solutions(),
+                "objective": [
+                    [index, str(value)] for index, value in sorted(problem.objective.items())
+                ],
+                "rests": self.sets.rests.tolist(),
+            },
+            separators=(",", ":"),
+        )[:-1]
+        for name, lines in (("sets", iter(self.sets.lines)), ("lines", self.lines())):
             yield f',"{name}":['
-            front = ''
+            front = ""
             while True:
                 piece = list(islice(lines, PIECE))
                 if not piece:
                     break
-                yield front + json.dumps(piece, separators=(',', ':'))[1:-1]
-                front = ','
-            yield ']'
-        yield '}'
+                yield front + json.dumps(piece, separators=(",", ":"))[1:-1]
+                front = ","
+            yield "]"
+        yield "}"
 
     def html(self, name: str, verdict: Optional[Verdict], page: str) -> Iterator[str]:
         """The page of a file of this name, in pieces, with its verdict, if there is one, and what stands above the rows."""
         problem = self.proof.problem
         refusal = verdict.refusal if verdict is not None else None
         fault = refusal.number if refusal and refusal.place is Place.DERIVATION else None
-        counts = ', '.join([counted(len(problem.names), 'variable'), f'{len(problem.integers):,} integral',
-                            counted(len(problem.constraints), 'constraint'), counted(len(self.proof.derivations), 'derivation')])
-        state = 'not checked' if verdict is None else 'verified' if verdict else str(refusal)
-        parts = {'TITLE': f'{name}: {state}', 'HEADING': f'{name}: {state}', 'CLAIM': f'claim: {problem.claim}', 'COUNTS': counts,
-                 'SOLUTIONS': counted(len(self.proof.solutions), 'solution'),
-                 'OBJECTIVE': f'{"max" if problem.maximizes else "min"} {row_text(problem.objective, problem.names)}',
-                 'MOOD': 'bad' if refusal else '', 'PAGE': page}
-        template = Path(__file__).with_name('proof.html').read_text(encoding='utf-8')
-        front, behind = template.split('@DATA@')
-        yield re.sub('@([A-Z]+)@', lambda found: escape(parts[str(found[1])]), front)
+        counts = ", ".join(
+            [
+                counted(len(problem.names), "variable"),
+                f"{len(problem.integers):,} integral",
+                counted(len(problem.constraints), "constraint"),
+                counted(len(self.proof.derivations), "derivation"),
+            ]
+        )
+        if verdict is None:
+            state = "not checked"
+        else:
+            state = "verified" if verdict else str(refusal)
+        parts = {
+            "TITLE": f"{name}: {state}",
+            "HEADING": f"{name}: {state}",
+            "CLAIM": f"claim: {problem.claim}",
+            "COUNTS": counts,
+            "SOLUTIONS": counted(len(self.proof.solutions), "solution"),
+            "OBJECTIVE": f'{"max" if problem.maximizes else "min"} {row_text(problem.objective, problem.names)}',
+            "MOOD": "bad" if refusal else "",
+            "PAGE": page,
+        }
+        template = Path(__file__).with_name("proof.html").read_text(encoding="utf-8")
+        front, behind = template.split("@DATA@")
+        yield re.sub("@([A-Z]+)@", lambda found: escape(parts[str(found[1])]), front)
         # (a script's data can't end the script, nor begin a comment)
-        yield from (piece.replace('<', '\\u003c') for piece in self.data(fault))
+        yield from (piece.replace("<", "\\u003c") for piece in self.data(fault))
         yield behind
 
 
@@ -149,24 +188,27 @@ def verdict_of(text: bytes, name: str, profile: int) -> Tuple[Optional[Verdict],
         verdict = check(text, profile)
         if verdict:
             return verdict, VERIFIED_PAGE
-        return verdict, explain_long(text, name, profile).decode('utf-8', 'backslashreplace')
+        return verdict, explain_long(text, name, profile).decode("utf-8", "backslashreplace")
     except LibraryMissing:
         return None, UNCHECKED
 
 
 def command(words: argparse.Namespace) -> int:
+    keep_apart(words.out, words.certificate)
     text, alive = read_file(words.certificate), Alive()
-    proof = read(text, alive.part('reading', len(text)))
+    proof = read(text, alive.part("reading", len(text)))
     if not isinstance(proof, Certificate):
         alive.end()
         print(proof)
         return REFUSED
-    name = printable(words.certificate.encode('utf-8', 'surrogateescape'))
-    page = Page(proof, alive.part('assumptions', len(proof.derivations)))
+    name = printable(words.certificate.encode("utf-8", "surrogateescape"))
+    page = Page(proof, alive.part("assumptions", len(proof.derivations)))
     pieces = page.html(name, *verdict_of(text, words.certificate, words.profile))
     with contextlib.ExitStack() as stack:
-        out: IO[bytes] = stack.enter_context(open(words.out, 'wb')) if words.out else sys.stdout.buffer
-        progress = alive.part('writing', len(proof.derivations))
+        out: IO[bytes] = (
+            stack.enter_context(open(words.out, "wb")) if words.out else sys.stdout.buffer
+        )
+        progress = alive.part("writing", len(proof.derivations))
         for at, piece in enumerate(pieces):
             out.write(piece.encode())
             progress(min(at * PIECE, len(proof.derivations)))
@@ -175,10 +217,22 @@ def command(words: argparse.Namespace) -> int:
 
 
 def parser() -> Parser:
-    made = Parser('html', __doc__)
-    made.add_argument('certificate', metavar='CERT', help='a certificate, also .gz, .xz, .bz2 or .zst; - is standard input')
-    made.add_argument('-o', '--out', metavar='FILE', help='where the page is written; standard output without it')
-    made.add_argument('--profile', type=int, choices=(1, 2), default=1, help='by which profile of the rules; 1 without it')
+    made = Parser("html", __doc__)
+    made.add_argument(
+        "certificate",
+        metavar="CERT",
+        help="a certificate, also .gz, .xz, .bz2 or .zst; - is standard input",
+    )
+    made.add_argument(
+        "-o", "--out", metavar="FILE", help="where the page is written; standard output without it"
+    )
+    made.add_argument(
+        "--profile",
+        type=int,
+        choices=(1, 2),
+        default=1,
+        help="by which profile of the rules; 1 without it",
+    )
     return made
 
 
@@ -187,5 +241,5 @@ def main() -> int:
     return run(lambda: command(words))
 
 
-if __name__ == '__main__':
+if __name__ == "__main__":
     sys.exit(main())

@@ -1,7 +1,7 @@
 """MPS files that have one meaning, read exactly.
 
 MPS has no standard, and tools read some texts in different ways. This reader takes the texts that all read alike. It refuses
-any other at its line, with a cause that says what is unclear; docs/PYTHON.md lists them. Nothing proves it.
+any other at its line, with a cause that says what is unclear; docs/USE.md lists them. Nothing proves it.
 
 A point gives each column a value. A row's sides are its least and its greatest value, None for none; so are a column's.
 """
@@ -15,22 +15,27 @@ from dataclasses import dataclass, field
 from fractions import Fraction
 from typing import Callable, Dict, Iterator, List, Optional, Set, Tuple, TypeVar, Union
 
-from .certificate import LARGEST, Number, Row
+from .certificate import LARGEST, STEP, Number, Progress, Row
 from .files import decoded, printable
 
 Sides = Tuple[Optional[Number], Optional[Number]]
-Part = TypeVar('Part')
-SECTIONS = [b'NAME', b'OBJSENSE', b'ROWS', b'COLUMNS', b'RHS', b'RANGES', b'BOUNDS', b'ENDATA']
-REQUIRED = {b'NAME', b'ROWS', b'COLUMNS', b'ENDATA'}
-WHITE = b' \t\r\v\f'
+Part = TypeVar("Part")
+SECTIONS = [b"NAME", b"OBJSENSE", b"ROWS", b"COLUMNS", b"RHS", b"RANGES", b"BOUNDS", b"ENDATA"]
+REQUIRED = {b"NAME", b"ROWS", b"COLUMNS", b"ENDATA"}
+WHITE = b" \t\r\v\f"
 UNCLEAR = 10**20  # tools take a number from here on for infinite
-MAXIMIZE, MINIMIZE = (b'MAX', b'MAXIMIZE'), (b'MIN', b'MINIMIZE')
-INFINITE = {sign + word: sign != b'-' for sign in (b'', b'+', b'-') for word in (b'inf', b'Inf', b'infinity', b'Infinity')}
-_DECIMAL = re.compile(rb'([+-]?)(?:([0-9]+)(?:\.([0-9]*))?|\.([0-9]+))(?:[eE]([+-]?)([0-9]+))?')
+MAXIMIZE, MINIMIZE = (b"MAX", b"MAXIMIZE"), (b"MIN", b"MINIMIZE")
+INFINITE = {
+    sign + word: sign != b"-"
+    for sign in (b"", b"+", b"-")
+    for word in (b"inf", b"Inf", b"infinity", b"Infinity")
+}
+_DECIMAL = re.compile(rb"([+-]?)(?:([0-9]+)(?:\.([0-9]*))?|\.([0-9]+))(?:[eE]([+-]?)([0-9]+))?")
 
 
 class Cause(enum.IntEnum):
     """Why a file is refused, from 101 on, and how a certificate's problem differs from it, from 201 on."""
+
     PROBLEM_ENDS = 101
     UNKNOWN_SECTION = 102
     SECTION_ORDER = 103
@@ -69,21 +74,22 @@ class Cause(enum.IntEnum):
     @property
     def word(self) -> str:
         """The name that is printed, as UnclearInteger."""
-        return self.name.title().replace('_', '')
+        return self.name.title().replace("_", "")
 
 
 class Refused(Exception):
     """A fault of a file or a difference: its cause, its place (a line of the file is `line N`), and what shows it, a line each."""
 
     def __init__(self, cause: Cause, place: str, *shown: str):
-        super().__init__(f'refused {int(cause)} at {place}')
+        super().__init__(f"refused {int(cause)} at {place}")
         self.cause, self.place, self.shown = cause, place, shown
 
 
 @dataclass
 class Column:
     """A column: its number, the line that it begins at, whether it is whole, and what lines of BOUNDS set."""
-    __slots__ = 'number', 'line', 'is_whole', 'lower', 'upper'
+
+    __slots__ = "number", "line", "is_whole", "lower", "upper"
     number: int
     line: int
     is_whole: bool
@@ -92,20 +98,23 @@ class Column:
 
     def sides(self) -> Sides:
         """Its bounds: from 0 on, if no line says otherwise."""
-        return (0 if self.lower is None else self.lower[0]), (None if self.upper is None else self.upper[0])
+        return (0 if self.lower is None else self.lower[0]), (
+            None if self.upper is None else self.upper[0]
+        )
 
     def last_line(self) -> int:
         """The last line of BOUNDS that sets a side, or else the line that it begins at."""
-        return max((it[1] for it in (self.lower, self.upper) if it), default=self.line)
+        return max((set_by[1] for set_by in (self.lower, self.upper) if set_by), default=self.line)
 
 
 @dataclass
 class MpsFile:
-    """What a file says; names are str, as those of a certificate. `objective` is the name of its first row of type N, and `entries` has for each row the coefficients that
-    are written, by the number of the column."""
+    """What a file says; names are str, as those of a certificate. `objective` is the name of its first row of type N, and
+    `entries` has for each row the coefficients that are written, by the number of the column."""
+
     maximizes: bool = False
     has_direction: bool = False
-    objective: str = ''
+    objective: str = ""
     rows: Dict[str, Tuple[str, int]] = field(default_factory=dict)
     entries: Dict[str, Row] = field(default_factory=dict)
     columns: Dict[str, Column] = field(default_factory=dict)
@@ -120,14 +129,14 @@ class MpsFile:
     def sides(self, name: str) -> Sides:
         """The sides of a row."""
         kind, right = self.rows[name][0], self.right_side(name)
-        if kind == 'N':
+        if kind == "N":
             return None, None
         if name not in self.ranges:
-            return (right if kind in 'GE' else None), (right if kind in 'LE' else None)
+            return (right if kind in "GE" else None), (right if kind in "LE" else None)
         size = self.ranges[name][0]
-        if kind == 'E':
+        if kind == "E":
             return min(right, right + size), max(right, right + size)
-        return (right - magnitude(size), right) if kind == 'L' else (right, right + magnitude(size))
+        return (right - magnitude(size), right) if kind == "L" else (right, right + magnitude(size))
 
     def constant(self) -> Number:
         """The number that RHS gives the objective's row. Tools add it, subtract it or ignore it; the row has none."""
@@ -138,6 +147,11 @@ def magnitude(value: Number) -> Number:
     return -value if value < 0 else value
 
 
+def is_short_integer(token: bytes) -> bool:
+    """Whether a token is an integer that is surely within the limit."""
+    return len(token) < 39 and (token.isdigit() or (token[:1] == b"-" and token[1:].isdigit()))
+
+
 @functools.lru_cache(maxsize=1 << 16)
 def decimal(token: bytes) -> Optional[Number]:
     """The exact value of a decimal, or None if the token is none. Raises OverflowError past the limit."""
@@ -145,20 +159,22 @@ def decimal(token: bytes) -> Optional[Number]:
     if not match:
         return None
     sign, whole, behind, alone, minus, power = match.groups()
-    fraction = behind or alone or b''
-    digits = ((whole or b'') + fraction).lstrip(b'0')
-    short = digits.rstrip(b'0')
+    fraction = behind or alone or b""
+    digits = ((whole or b"") + fraction).lstrip(b"0")
+    short = digits.rstrip(b"0")
     if not short:
         return 0
-    power = (power or b'').lstrip(b'0')
-    exponent = int(power or b'0') if len(power) <= 9 else 10**9
-    exponent = (-exponent if minus == b'-' else exponent) - len(fraction) + len(digits) - len(short)
+    power = (power or b"").lstrip(b"0")
+    exponent = int(power or b"0") if len(power) <= 9 else 10**9
+    exponent = (-exponent if minus == b"-" else exponent) - len(fraction) + len(digits) - len(short)
     if len(short) > 39 or not -38 <= exponent <= 38 or int(short) > LARGEST:
         raise OverflowError
-    value: Number = int(short) * 10**exponent if exponent >= 0 else Fraction(int(short), 10**-exponent)
+    value: Number = (
+        int(short) * 10**exponent if exponent >= 0 else Fraction(int(short), 10**-exponent)
+    )
     if magnitude(value) > LARGEST:
         raise OverflowError
-    return -value if sign == b'-' else value
+    return -value if sign == b"-" else value
 
 
 class _Reader:
@@ -174,7 +190,7 @@ class _Reader:
         self.ranges: Dict[bytes, Tuple[Number, int]] = {}
         self.infinity = infinity
         self.unclear: Number = infinity if infinity else UNCLEAR
-        self.section = b''
+        self.section = b""
         self.seen: Set[bytes] = set()
         self.line = 0
         self.is_marked = False
@@ -183,34 +199,49 @@ class _Reader:
         self.at = 0
         self.sets: Dict[bytes, Optional[bytes]] = {}
         self.readers: Dict[bytes, Callable[[List[bytes]], None]] = {
-            b'ROWS': self.row, b'COLUMNS': self.entry, b'RHS': self.right_side, b'RANGES': self.range_, b'BOUNDS': self.bound}
+            b"ROWS": self.row,
+            b"COLUMNS": self.entry,
+            b"RHS": self.right_side,
+            b"RANGES": self.range_,
+            b"BOUNDS": self.bound,
+        }
 
     def fault(self, cause: Cause, *tokens: Union[bytes, str]) -> Refused:
-        return Refused(cause, f'line {self.line}', f'cause {cause.word}', *(f'field {printable(it)}' for it in tokens))
+        return Refused(
+            cause,
+            f"line {self.line}",
+            f"cause {cause.word}",
+            *(f"field {printable(token)}" for token in tokens),
+        )
 
-    def lines(self, text: bytes) -> None:
-        for self.line, line in enumerate(io.BytesIO(text), 1):
+    def lines(self, text: bytes, progress: Optional[Progress]) -> None:
+        stream = io.BytesIO(text)
+        for self.line, line in enumerate(stream, 1):
+            if progress and self.line % STEP == 0:
+                progress(stream.tell())
             fields = line.split()
             if len(fields) == 3 and fields[0] == self.column and self.is_plain_entry(line, fields):
                 continue
-            if not fields or line[:1] == b'*':
+            if not fields or line[:1] == b"*":
                 continue
-            if self.section == b'ENDATA':
+            if self.section == b"ENDATA":
                 raise self.fault(Cause.TEXT_BEHIND)
             if line[0] not in WHITE:
                 self.open(fields)
                 continue
-            if self.section in (b'', b'NAME'):
+            if self.section in (b"", b"NAME"):
                 raise self.fault(Cause.SECTION_ORDER)
-            if self.section == b'OBJSENSE':
+            if self.section == b"OBJSENSE":
                 if self.maximizes is not None or len(fields) != 1:
                     raise self.fault(Cause.FIELD_COUNT)
                 self.direction(fields[0])
                 continue
-            if b'$' in line:
-                fields = fields[:next((at for at, word in enumerate(fields) if at and word[:1] == b'$'), None)]
+            if b"$" in line:
+                fields = fields[
+                    : next((at for at, word in enumerate(fields) if at and word[:1] == b"$"), None)
+                ]
             self.readers[self.section](fields)
-        if self.section != b'ENDATA':
+        if self.section != b"ENDATA":
             self.line += 1
             raise self.fault(Cause.PROBLEM_ENDS)
 
@@ -219,16 +250,18 @@ class _Reader:
         word = fields[0]
         if word not in SECTIONS:
             raise self.fault(Cause.UNKNOWN_SECTION, word)
-        skipped = SECTIONS[:SECTIONS.index(word)]
-        if any(it not in skipped for it in self.seen) or any(it in REQUIRED and it not in self.seen for it in skipped):
+        skipped = SECTIONS[: SECTIONS.index(word)]
+        if any(section not in skipped for section in self.seen) or any(
+            section in REQUIRED and section not in self.seen for section in skipped
+        ):
             raise self.fault(Cause.SECTION_ORDER, word)
-        if self.section == b'OBJSENSE' and self.maximizes is None:
+        if self.section == b"OBJSENSE" and self.maximizes is None:
             raise self.fault(Cause.BAD_DIRECTION)
-        if self.section == b'ROWS' and self.objective is None:
+        if self.section == b"ROWS" and self.objective is None:
             raise self.fault(Cause.NO_OBJECTIVE)
-        if word == b'OBJSENSE' and len(fields) == 2:
+        if word == b"OBJSENSE" and len(fields) == 2:
             self.direction(fields[1])
-        elif word != b'NAME' and len(fields) > 1:
+        elif word != b"NAME" and len(fields) > 1:
             raise self.fault(Cause.FIELD_COUNT)
         self.seen.add(word)
         self.section, self.column = word, None
@@ -242,12 +275,12 @@ class _Reader:
         if len(fields) != 2:
             raise self.fault(Cause.FIELD_COUNT)
         kind, name = fields
-        if kind not in (b'N', b'L', b'G', b'E'):
+        if kind not in (b"N", b"L", b"G", b"E"):
             raise self.fault(Cause.BAD_ROW_TYPE, kind)
         if name in self.rows:
             raise self.fault(Cause.REPEATED_ROW, name)
         self.rows[name], self.entries[name] = (kind.decode(), self.line), {}
-        if kind == b'N' and self.objective is None:
+        if kind == b"N" and self.objective is None:
             self.objective = name
 
     def entry(self, fields: List[bytes]) -> None:
@@ -260,7 +293,7 @@ class _Reader:
                 raise self.fault(Cause.BAD_MARKER, *fields[2:])
             self.is_marked, self.column = not self.is_marked, None
             return
-        if name[:1] == b'$':
+        if name[:1] == b"$":
             raise self.fault(Cause.UNCLEAR_NAME, name)
         if name != self.column:
             if name in self.columns:
@@ -280,17 +313,25 @@ class _Reader:
     def is_plain_entry(self, line: bytes, fields: List[bytes]) -> bool:
         """Takes one more entry of the column at hand, if nothing about it needs a second look: most lines are such ones."""
         row, token = self.entries.get(fields[1]), fields[2]
-        if row is None or self.at in row or not (token.isdigit() and len(token) < 39) or line[0] not in WHITE or b'$' in line:
+        if (
+            row is None
+            or self.at in row
+            or not is_short_integer(token)
+            or line[0] not in WHITE
+            or b"$" in line
+        ):
             return False
         row[self.at] = int(token)
         return True
 
-    def pairs(self, fields: List[bytes], before: Dict[bytes, Tuple[Number, int]]) -> Iterator[Tuple[bytes, Number]]:
+    def pairs(
+        self, fields: List[bytes], before: Dict[bytes, Tuple[Number, int]]
+    ) -> Iterator[Tuple[bytes, Number]]:
         """Pairs of a row and a number; no row comes twice."""
         for row, token in zip(fields[::2], fields[1::2]):
             if row not in self.rows:
                 raise self.fault(Cause.UNKNOWN_ROW, row)
-            if self.section == b'RANGES' and self.rows[row][0] == 'N':
+            if self.section == b"RANGES" and self.rows[row][0] == "N":
                 raise self.fault(Cause.RANGE_OF_FREE_ROW, row)
             value = self.number(token)
             if magnitude(value) >= self.unclear:
@@ -300,7 +341,7 @@ class _Reader:
             yield row, value
 
     def number(self, token: bytes) -> Number:
-        if len(token) < 39 and token.isdigit():
+        if is_short_integer(token):
             return int(token)
         try:
             value = decimal(token)
@@ -333,11 +374,11 @@ class _Reader:
     def bound(self, fields: List[bytes]) -> None:
         """A line of BOUNDS: it sets sides, and each side of a column is set at most once."""
         kind = fields[0]
-        if kind in (b'UP', b'LO', b'FX', b'UI', b'LI'):
+        if kind in (b"UP", b"LO", b"FX", b"UI", b"LI"):
             if len(fields) not in (3, 4):
                 raise self.fault(Cause.FIELD_COUNT)
             *front, name, token = fields[1:]
-        elif kind in (b'FR', b'MI', b'PL', b'BV'):
+        elif kind in (b"FR", b"MI", b"PL", b"BV"):
             if not 2 <= len(fields) <= 4:
                 raise self.fault(Cause.FIELD_COUNT)
             if len(fields) == 4:
@@ -352,22 +393,26 @@ class _Reader:
             raise self.fault(Cause.UNKNOWN_COLUMN, name)
         column = self.columns[name]
         lower = upper = None
-        if kind in (b'UP', b'UI'):
+        if kind in (b"UP", b"UI"):
             upper = self.side(token, True), self.line
-        elif kind in (b'LO', b'LI'):
+        elif kind in (b"LO", b"LI"):
             lower = self.side(token, False), self.line
-        elif kind == b'FX':
+        elif kind == b"FX":
             lower = upper = self.side(token, None), self.line
         else:
-            lower = {b'FR': (None, self.line), b'MI': (None, self.line), b'BV': (0, self.line)}.get(kind)
-            upper = {b'FR': (None, self.line), b'PL': (None, self.line), b'BV': (1, self.line)}.get(kind)
+            lower = {b"FR": (None, self.line), b"MI": (None, self.line), b"BV": (0, self.line)}.get(
+                kind
+            )
+            upper = {b"FR": (None, self.line), b"PL": (None, self.line), b"BV": (1, self.line)}.get(
+                kind
+            )
         if (lower and column.lower) or (upper and column.upper):
             raise self.fault(Cause.REPEATED_BOUND, name)
         column.lower, column.upper = lower or column.lower, upper or column.upper
-        column.is_whole = column.is_whole or kind in (b'BV', b'LI', b'UI')
+        column.is_whole = column.is_whole or kind in (b"BV", b"LI", b"UI")
 
     def infinite_or_number(self, token: bytes) -> None:
-        """A number behind a bound that needs none: it counts for nothing."""
+        """A number after a bound that needs none: it counts for nothing."""
         try:
             if token not in INFINITE and decimal(token) is None:
                 raise self.fault(Cause.BAD_DECIMAL, token)
@@ -389,10 +434,20 @@ class _Reader:
 
     def made(self) -> MpsFile:
         """The file, with names that are str."""
+
         def named(values: Dict[bytes, Part]) -> Dict[str, Part]:
             return {decoded(name): value for name, value in values.items()}
-        return MpsFile(bool(self.maximizes), self.maximizes is not None, decoded(self.objective or b''), named(self.rows),
-                       named(self.entries), named(self.columns), named(self.right_sides), named(self.ranges))
+
+        return MpsFile(
+            bool(self.maximizes),
+            self.maximizes is not None,
+            decoded(self.objective or b""),
+            named(self.rows),
+            named(self.entries),
+            named(self.columns),
+            named(self.right_sides),
+            named(self.ranges),
+        )
 
     def whole(self, file: MpsFile, integers: Optional[str]) -> None:
         """What only the whole file shows: an upper bound below 0 alone, an integer column without an upper bound, and a range
@@ -406,22 +461,32 @@ class _Reader:
                 if integers is None:
                     self.line = column.line
                     raise self.fault(Cause.UNCLEAR_INTEGER, name)
-                column.upper = (1 if integers == 'one' else None), column.line
+                column.upper = (1 if integers == "one" else None), column.line
         for name, (_, line) in file.ranges.items():
-            if any(it is not None and max(abs(it.numerator), it.denominator) > LARGEST for it in file.sides(name)):
+            if any(
+                side is not None and max(abs(side.numerator), side.denominator) > LARGEST
+                for side in file.sides(name)
+            ):
                 self.line = line
                 raise self.fault(Cause.RANGE_TOO_LARGE, name)
 
 
-def read_mps(text: bytes, integers: Optional[str] = None, maximize: bool = False, infinity: Number = 0) -> MpsFile:
+def read_mps(
+    text: bytes,
+    integers: Optional[str] = None,
+    maximize: bool = False,
+    infinity: Number = 0,
+    progress: Optional[Progress] = None,
+) -> MpsFile:
     """The file that a text spells. Raises Refused.
 
     `integers` is the upper bound of an integer column that no line gives one: 'one' or 'inf'; without it such a file is
     refused. With `maximize` a file without a direction is to be maximized, and one with a direction is refused. A bound of
-    `infinity` or more is infinite, and all smaller ones are numbers; without it a bound of 1e20 or more is refused.
+    `infinity` or more is infinite, and all smaller ones are numbers; without it a bound of 1e20 or more is refused. Now and
+    then `progress` is told how many bytes were read.
     """
     reader = _Reader(infinity)
-    reader.lines(text)
+    reader.lines(text, progress)
     file = reader.made()
     reader.whole(file, integers)
     if maximize:

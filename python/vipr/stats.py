@@ -16,12 +16,15 @@ from collections import Counter
 from typing import Dict, Iterable, Iterator, List, Optional, Tuple, Union
 
 from . import algebra, proof as structure
-from .certificate import STEP, Certificate, Problem, Progress, Row, read
+from .certificate import STEP, Certificate, Constraint, Problem, Progress, Row, read
 from .files import REFUSED, VERIFIED, Alive, Parser, printable, read_file, run
 
-STEPS, LEAST_STEPS = 100, 1_000_000  # of sums that are added up: for each number that is written, and in any case
+STEPS, LEAST_STEPS = (
+    100,
+    1_000_000,
+)  # of sums that are added up: for each number that is written, and in any case
 MOST_TERMS = 12  # of a constraint that is listed
-REASONS = ('asm', 'lin', 'rnd', 'uns', 'sol')
+REASONS = ("asm", "lin", "rnd", "uns", "sol")
 Figure = Union[int, str, None]
 
 
@@ -47,68 +50,85 @@ class Longest:
         self.objectives += bool(row) and structure.is_objective(self.problem, row)
 
 
-def measured(proof: Certificate, found: structure.Outline, progress: Optional[Progress] = None) -> Dict[str, Union[Figure, Dict[str, int]]]:
+def measured(
+    proof: Certificate, found: structure.Outline, progress: Optional[Progress] = None
+) -> Dict[str, Union[Figure, Dict[str, int]]]:
     """All figures of a certificate of this outline. `progress` is told how many derivations were looked at."""
     problem, derivations, reasons = proof.problem, proof.derivations, proof.references.reasons
     first, objective = len(problem.constraints), problem.objective
     widths, longest, written = structure.Widths(proof, LEAST_STEPS), Longest(problem), 0
-    widths.see(*objective.values())
+    widths.see(objective.values())
+
+    def see(constraint: Constraint) -> int:
+        """How many coefficients of a constraint are written."""
+        row = {} if constraint.row is objective else constraint.row
+        longest.see(constraint.row)
+        widths.see([constraint.bound, *row.values()])
+        return len(row)
+
     for constraint in problem.constraints:
-        longest.see(constraint.row)
-        if constraint.row is not objective:
-            widths.see(constraint.bound, *constraint.row.values())
-            written += len(constraint.row)
-        else:
-            widths.see(constraint.bound)
+        written += see(constraint)
     for solution in proof.solutions:
-        widths.see(*solution.values.values())
+        widths.see(solution.values.values())
     widths.most_steps += STEPS * (written + proof.references.numbers)
-    for index, derivation in enumerate(derivations, first):
+    for at, derivation in enumerate(derivations):
         constraint, entries = derivation.constraint, derivation.entries
-        longest.see(constraint.row)
-        longest.reason = max(longest.reason, len(entries))
-        widths.see(constraint.bound, *[multiplier for _, multiplier in entries])
-        if constraint.row is not objective:
-            widths.see(*constraint.row.values())
-        widths.combine(entries, index)
-        if constraint.row is not objective:
-            widths.keep(index, constraint)
-        if progress and index % STEP == 0:
-            progress(index - first)
+        see(constraint)
+        widths.keep(first + at, constraint)
+        if entries:
+            longest.reason = max(longest.reason, len(entries))
+            widths.see([multiplier for _, multiplier in entries])
+            widths.combine(entries, first + at)
+        if progress and at % STEP == 0:
+            progress(at)
     needed = found.needed
     return {
-        'claim': str(problem.claim),
-        'variables': len(problem.names),
-        'integer_variables': len(problem.integers),
-        'constraints': first,
-        'bounds': problem.bounds,
-        'solutions': len(proof.solutions),
-        'derivations': len(derivations),
-        'by_reason': by_reason(reasons),
-        'assumption_depth': max(found.sizes, default=0),
-        'longest_row': longest.row,
-        'longest_reason': longest.reason,
-        'objective_rows': longest.objectives,
-        'written_bits': widths.written,
-        'computed_bits': None if widths.computed is None else max(widths.written, widths.computed),
-        'goal': found.goal,
-        'needed_constraints': sum(needed[:first]),
-        'needed_derivations': sum(needed[first:]),
-        'needed_by_reason': by_reason(reason for reason, is_needed in zip(reasons, needed[first:]) if is_needed),
+        "claim": str(problem.claim),
+        "variables": len(problem.names),
+        "integer_variables": len(problem.integers),
+        "constraints": first,
+        "bounds": problem.bounds,
+        "solutions": len(proof.solutions),
+        "derivations": len(derivations),
+        "by_reason": by_reason(reasons),
+        "assumption_depth": max(found.sizes, default=0),
+        "longest_row": longest.row,
+        "longest_reason": longest.reason,
+        "objective_rows": longest.objectives,
+        "written_bits": widths.written,
+        "computed_bits": None if widths.computed is None else max(widths.written, widths.computed),
+        "goal": found.goal,
+        "needed_constraints": sum(needed[:first]),
+        "needed_derivations": sum(needed[first:]),
+        "needed_by_reason": by_reason(
+            reason for reason, is_needed in zip(reasons, needed[first:]) if is_needed
+        ),
     }
 
 
 ROWS = [
-    ('claim', 'claim'), ('variables', 'variables'), ('integer_variables', '  integer'), ('constraints', 'constraints'),
-    ('bounds', '  counted as bounds'), ('solutions', 'solutions'), ('derivations', 'derivations'), ('by_reason', '  {}'),
-    ('assumption_depth', 'most assumptions that one rests on'), ('longest_row', 'longest row'),
-    ('longest_reason', 'longest sum'), ('objective_rows', 'rows that are the objective\'s'),
-    ('written_bits', 'bits of the largest number, written'), ('computed_bits', 'bits of the largest number, computed (127 at most)'),
-    ('goal', 'goal'), ('needed_constraints', 'constraints that the goal needs'),
-    ('needed_derivations', 'derivations that the goal needs'), ('needed_by_reason', '  {}')]
+    ("claim", "claim"),
+    ("variables", "variables"),
+    ("integer_variables", "  integer"),
+    ("constraints", "constraints"),
+    ("bounds", "  counted as bounds"),
+    ("solutions", "solutions"),
+    ("derivations", "derivations"),
+    ("by_reason", "  {}"),
+    ("assumption_depth", "most assumptions that one rests on"),
+    ("longest_row", "longest row"),
+    ("longest_reason", "longest sum"),
+    ("objective_rows", "rows that are the objective's"),
+    ("written_bits", "bits of the largest number, written"),
+    ("computed_bits", "bits of the largest number, computed (127 at most)"),
+    ("goal", "goal"),
+    ("needed_constraints", "constraints that the goal needs"),
+    ("needed_derivations", "derivations that the goal needs"),
+    ("needed_by_reason", "  {}"),
+]
 
 
-NONE = {'computed_bits': 'too many steps to compute it'}
+NONE = {"computed_bits": "too many steps to compute it"}
 
 
 def table(found: Dict[str, Union[Figure, Dict[str, int]]]) -> List[Tuple[str, Figure]]:
@@ -116,8 +136,10 @@ def table(found: Dict[str, Union[Figure, Dict[str, int]]]) -> List[Tuple[str, Fi
     rows: List[Tuple[str, Figure]] = []
     for key, label in ROWS:
         value = found[key]
-        rows.extend([(label.format(word), count) for word, count in value.items() if count] if isinstance(value, dict)
-                    else [(label, value)] if value is not None else [(label, NONE.get(key, 'none'))])
+        if isinstance(value, dict):
+            rows.extend((label.format(word), count) for word, count in value.items() if count)
+        else:
+            rows.append((label, NONE.get(key, "none") if value is None else value))
     return rows
 
 
@@ -125,52 +147,68 @@ def needed_rows(proof: Certificate, found: structure.Outline) -> Iterator[Tuple[
     """The constraints of the problem that the goal needs: index, name and algebra."""
     for index, constraint in enumerate(proof.problem.constraints):
         if found.needed[index]:
-            yield index, printable(constraint.name), algebra.constraint_text(constraint, proof.problem.names, MOST_TERMS)
+            yield index, printable(constraint.name), algebra.constraint_text(
+                constraint, proof.problem.names, MOST_TERMS
+            )
 
 
 def needed_table(proof: Certificate, found: structure.Outline) -> List[str]:
     """Those constraints, a line each, with a first line that counts them."""
-    count, all_of = sum(found.needed[:len(proof.problem.constraints)]), len(proof.problem.constraints)
+    count, all_of = sum(found.needed[: len(proof.problem.constraints)]), len(
+        proof.problem.constraints
+    )
     if found.goal is None:
-        return ['nothing is needed: no constraint proves the dual side of the claim, or none has to']
-    return [f'{count} of {all_of} constraints of the problem are needed for the goal {found.goal}',
-            *('\t'.join(map(str, row)) for row in needed_rows(proof, found))]
+        return [
+            "nothing is needed: no constraint proves the dual side of the claim, or none has to"
+        ]
+    return [
+        f"{count} of {all_of} constraints of the problem are needed for the goal {found.goal}",
+        *("\t".join(map(str, row)) for row in needed_rows(proof, found)),
+    ]
 
 
 def command(words: argparse.Namespace) -> int:
     text = read_file(words.certificate)
     alive = Alive()
-    proof = read(text, alive.part('reading', len(text)))
+    proof = read(text, alive.part("reading", len(text)))
     if not isinstance(proof, Certificate):
         alive.end()
         print(proof)
         return REFUSED
     count = len(proof.derivations)
-    found = structure.outline(proof, alive.part('assumptions', count))
+    found = structure.outline(proof, alive.part("assumptions", count))
     if words.needed:
         alive.end()
         if words.json:
-            rows = [dict(zip(('index', 'name', 'text'), row)) for row in needed_rows(proof, found)]
-            print(json.dumps({'goal': found.goal, 'constraints': rows}, indent=2))
+            rows = [dict(zip(("index", "name", "text"), row)) for row in needed_rows(proof, found)]
+            print(json.dumps({"goal": found.goal, "constraints": rows}, indent=2))
         else:
-            print(*needed_table(proof, found), sep='\n')
+            print(*needed_table(proof, found), sep="\n")
         return VERIFIED
-    figures = measured(proof, found, alive.part('sums', count))
+    figures = measured(proof, found, alive.part("sums", count))
     alive.end()
     if words.json:
         print(json.dumps(figures, indent=2))
     else:
         lines = table(figures)
         width = max(len(label) for label, _ in lines)
-        print(*(f'{label:{width}}  {value}' for label, value in lines), sep='\n')
+        print(*(f"{label:{width}}  {value}" for label, value in lines), sep="\n")
     return VERIFIED
 
 
 def parser() -> Parser:
-    made = Parser('stats', __doc__)
-    made.add_argument('certificate', metavar='CERT', help='a certificate, also .gz, .xz, .bz2 or .zst; - is standard input')
-    made.add_argument('--json', action='store_true', help='one JSON object')
-    made.add_argument('--needed', action='store_true', help='the constraints of the problem that the proof needs, in place of the figures')
+    made = Parser("stats", __doc__)
+    made.add_argument(
+        "certificate",
+        metavar="CERT",
+        help="a certificate, also .gz, .xz, .bz2 or .zst; - is standard input",
+    )
+    made.add_argument("--json", action="store_true", help="one JSON object")
+    made.add_argument(
+        "--needed",
+        action="store_true",
+        help="the constraints of the problem that the proof needs, in place of the figures",
+    )
     return made
 
 
@@ -179,5 +217,5 @@ def main() -> int:
     return run(lambda: command(words))
 
 
-if __name__ == '__main__':
+if __name__ == "__main__":
     sys.exit(main())

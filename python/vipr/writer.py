@@ -376,7 +376,9 @@ class Writer:
         if word == "uns":
             reason = " ".join([word, *(place[int(index)] for index in rest)])
         elif named:
-            pairs = (place[int(it)] if at % 2 == 0 else it for at, it in enumerate(rest[1:]))
+            pairs = (
+                place[int(number)] if at % 2 == 0 else number for at, number in enumerate(rest[1:])
+            )
             reason = " ".join([word, rest[0], *pairs])
         # (a listed solution may break what was derived from it or in a branch)
         solutions = self.solutions if word == "sol" else []

@@ -26,9 +26,52 @@ pub fn job<'a>(alloc: Global, words: &'a [&'a str]) -> Result<Job<'a>, Error>
     ensures kinds { FailsBy (words_fault (map (λ w. w.now) words.entry.now)) result }
 {
     let mut line = command_line(alloc)?;
-    let read = job_for(alloc, &mut line, words);
-    drop(line);
-    read
+    match job_for(alloc, &mut line, words) {
+        Ok(job) => {
+            drop(line);
+            Ok(job)
+        }
+        Err(error) => {
+            let error = with_likely_tip(alloc, &mut line, words, error);
+            drop(line);
+            Err(error)
+        }
+    }
+}
+
+/// The error of words that aren't accepted. No command is like a path, so if there is one in place
+/// of a command, the tip says where a path belongs.
+fn with_likely_tip(alloc: Global, commands: &mut Command<'_>, words: &[&str], error: Error) -> Error
+    ensures { kind_of result ≡ kind_of error }
+{
+    match (error.kind(), words) {
+        (ErrorKind::InvalidSubcommand, [_, word, ..]) if is_path(*word) => {
+            match no_command(alloc, commands, *word) {
+                Ok(other) => {
+                    drop(error);
+                    other
+                }
+                Err(_) => error,
+            }
+        }
+        _ => error,
+    }
+}
+
+fn is_path(word: &str) -> bool {
+    word.as_bytes().contains(&b'/') || word.as_bytes().contains(&b'.')
+}
+
+/// The error of a path in place of a command.
+fn no_command(alloc: Global, commands: &mut Command<'_>, path: &str) -> Result<Error, AllocError>
+    ensures { IfOk result (λ e. kind_of e ≡ ErrorKind.InvalidSubcommand) }
+{
+    let message = format!(in alloc;
+        "unrecognized subcommand '{path}'\n\n  tip: a file comes after a command: 'vipr check {path}'"
+    )?;
+    let error = commands.error(ErrorKind::InvalidSubcommand, message.as_str());
+    drop(message);
+    error
 }
 
 /// Reads a command line, `help --help` as `help`.
@@ -188,7 +231,7 @@ fn no_commands<'a>(alloc: Global) -> Command<'a>
 {
     Command::new(alloc, "vipr")
         .about("Checks VIPR 1.0 certificates")
-        .version("1.0.0")
+        .version("1.1.0")
         .subcommand_required(true)
 }
 

@@ -7,8 +7,8 @@ use crate::folder::Folder;
 use crate::host::Host;
 use std::alloc::AllocError;
 use std::fmt::Write as _;
-use std::fs::{File, Metadata, OpenOptions, Permissions, TryLockError};
-use std::io::{ErrorKind, Write};
+use std::fs::{File, Metadata, OpenOptions, TryLockError};
+use std::io::{ErrorKind, Read, Write};
 use std::os::unix::fs::{MetadataExt, OpenOptionsExt, fchown};
 use std::path::PathBuf;
 use std::{fs, io};
@@ -73,8 +73,11 @@ impl<'a, H: Host> Folder for SystemFiles<'a, H> {
 
     type Out = OutFile<'a, H>;
 
+    // A folder can be opened, so one read of no bytes finds out that it can't be read.
     fn open(&self, name: &str) -> io::Result<FromRead<File>> {
-        Ok(FromRead::new(File::open(self.rt, name)?))
+        let mut file = File::open(self.rt, name)?;
+        let _none = file.read(&mut [])?;
+        Ok(FromRead::new(file))
     }
 
     fn begin(&self, name: &str) -> Result<OutFile<'a, H>, AllocError> {
@@ -159,15 +162,15 @@ impl<H: Host> OutFile<'_, H> {
                 _ => return Err(error),
             },
         };
-        let Err(error) = give_owner(&new, &old) else {
+        let Err(error) = prepare(&new, &old) else {
             let old = Some(old);
             return Ok(Destination::Beside { new, old });
         };
         self.remove(&new);
-        match error.raw_os_error() {
-            Some(EPERM) => open_in_place(old),
-            _ => Err(error),
+        if error.raw_os_error() == Some(EPERM) || error.kind() == ErrorKind::Unsupported {
+            return open_in_place(old);
         }
+        Err(error)
     }
 
     /// A new file beside what the path leads to, which is created with this mode.
@@ -212,20 +215,32 @@ impl<H: Host> OutFile<'_, H> {
     /// Gives the new file OUT's name, if the old one or nothing is still there.
     fn give_name(&self, path: &str, new: &File, old: Option<&File>) -> io::Result<()> {
         let (name, target) = (self.name.as_str(), self.target.as_str());
+        // Nobody else may read it before it is whole on its disk.
         sync(new)?;
+        if let Some(old) = old {
+            give_rights(new, old)?;
+            sync(new)?;
+        }
         self.is_at(name, new)?;
         if let Some(old) = old {
             self.is_end_of(path, old)?;
             self.is_at(target, old)?;
-            fs::rename(self.rt, name, target)?;
-            return new.set_permissions(give_owner(new, old)?);
+            return fs::rename(self.rt, name, target);
         }
         let linked = fs::hard_link(self.rt, name, target);
         // Some file systems have no second names.
-        if linked.is_err() && fs::symlink_metadata(self.rt, target).is_err() {
+        if linked.is_err() && self.is_free(target) {
             return fs::rename(self.rt, name, target);
         }
         linked
+    }
+
+    /// Whether nothing has this name.
+    fn is_free(&self, name: &str) -> bool {
+        match fs::symlink_metadata(self.rt, name) {
+            Err(error) => error.kind() == ErrorKind::NotFound,
+            Ok(_) => false,
+        }
     }
 
     /// Removes a new file, if its name is still its own.
@@ -307,13 +322,33 @@ fn open_in_place(file: File) -> io::Result<Destination> {
     Ok(Destination::InPlace(file))
 }
 
-/// Gives a new file the owner and the group of an old one, and answers that one's permissions.
-fn give_owner(new: &File, old: &File) -> io::Result<Permissions> {
+/// Gives an empty new file the owner and the group of an old one, and sets its permissions to what
+/// they are: an error if they can't be set.
+fn prepare(new: &File, old: &File) -> io::Result<()> {
+    give_owner(new, old)?;
+    let own = new.metadata()?;
+    if own.mode() != old.metadata()?.mode() {
+        new.set_permissions(own.permissions())?;
+    }
+    Ok(())
+}
+
+/// Gives a whole new file the owner, the group and the permissions of an old one.
+fn give_rights(new: &File, old: &File) -> io::Result<()> {
+    give_owner(new, old)?;
+    let other = old.metadata()?;
+    if new.metadata()?.mode() != other.mode() {
+        new.set_permissions(other.permissions())?;
+    }
+    Ok(())
+}
+
+fn give_owner(new: &File, old: &File) -> io::Result<()> {
     let (own, other) = (new.metadata()?, old.metadata()?);
     if own.uid() != other.uid() || own.gid() != other.gid() {
         fchown(new, Some(other.uid()), Some(other.gid()))?;
     }
-    Ok(other.permissions())
+    Ok(())
 }
 
 /// Brings what a file took to its disk, if there is one.

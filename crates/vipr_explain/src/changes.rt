@@ -1,14 +1,17 @@
-//! Changes of one entry with which a refused sum follows, each tried by the rule.
-ghost use Rattle.std.specs.Prelude.{◌≡◌, IfOk, IfSome, IsTrue, length};
+//! Changes of a reason with which a refused derivation follows, each tried by the rule.
+ghost use Rattle.std.specs.Prelude.{◌≡◌, ◌++◌, ◌∷◌, [], false, IfOk, IfSome, IsTrue};
+ghost use Rattle.std.specs.Prelude.{if◌then◌else◌, length, map, nat_lt, set};
 ghost use Rattle.vipr_spec.specs.Certificate.{variables};
 ghost use Rattle.vipr_cert.specs.Items.{reason_of};
 ghost use Rattle.vipr_table.specs.Table.{DerivedBelow};
 ghost use Rattle.vipr_explain.specs.Changes.{FollowEach, FollowsWith, changed, changed_entries};
+ghost use Rattle.vipr_explain.specs.Changes.{multiplied, shifted as shifted_index, shifted_entry};
 ghost use Rattle.vipr_explain.specs.Replays.{IsReplayOf};
 
 use crate::near::Join;
 use crate::page::Page;
-use crate::shown::PlacedItems;
+use crate::shown::{PlacedItems, write_line};
+use crate::slips::{ONE_LESS, ONE_MORE};
 use crate::sought::{Candidates, Ranking, Refused};
 use std::alloc::{AllocError, Global};
 use vipr_cert::{Derivation, Problem, Reason, References};
@@ -27,14 +30,20 @@ pub enum Change {
     Join(Join),
     /// `rnd` in place of `lin`, or `lin` in place of `rnd`.
     Word,
+    /// Each index from this one on is so much more, modulo 2^32.
+    Shift(u32, u32),
+    /// Each multiplier is multiplied by this.
+    Factor(Frac),
 }
 
 /// Changes with which a refused derivation follows: another multiplier, another constraint with the
-/// same one or another join, and one more entry.
+/// same one or another join, a change of all indices or all multipliers, and one more entry.
 #[derive(Clone, Copy)]
 pub struct Changes {
     pub multiplier: Option<Change>,
     pub exchange: Option<Change>,
+    /// It is looked for if there is no change of one part.
+    pub slip: Option<Change>,
     pub addition: Option<Change>,
 }
 
@@ -48,6 +57,9 @@ pub(crate) struct Replay {
 impl Change {
     // Writes that a derivation by this reason follows with it.
     fn write(&self, page: &mut Page, known: &PlacedItems<'_>, reason: &Reason) {
+        if let Change::Shift(from, by) = *self {
+            return write_shift(page, known, from, by);
+        }
         page.put("  = help: with ");
         match *self {
             Change::Entry(position, index, multiplier) => {
@@ -60,6 +72,8 @@ impl Change {
                 let (other, word) = (other_word(reason), reason.word());
                 write!(page, "`{other}` in place of `{word}`");
             }
+            Change::Factor(factor) => write!(page, "every multiplier times {factor}"),
+            Change::Shift(..) => {}
         }
         page.put(" the derivation follows\n");
     }
@@ -80,20 +94,22 @@ impl Changes {
         Changes {
             multiplier: None,
             exchange: None,
+            slip: None,
             addition: None,
         }
     }
 
     /// Whether there is none.
     pub(crate) fn is_empty(&self) -> bool {
-        self.multiplier.is_none() && self.exchange.is_none() && self.addition.is_none()
+        let has_none = self.multiplier.is_none() && self.exchange.is_none();
+        has_none && self.slip.is_none() && self.addition.is_none()
     }
 
     /// Writes a line for each change of a reason, at most two.
     pub(crate) fn write(&self, page: &mut Page, known: &PlacedItems<'_>, reason: &Reason) {
         let has_both = self.multiplier.is_some() && self.exchange.is_some();
         let addition = if has_both { None } else { self.addition };
-        for change in [self.multiplier, self.exchange, addition] {
+        for change in [self.multiplier, self.exchange, self.slip, addition] {
             if let Some(change) = change {
                 change.write(page, known, reason);
             }
@@ -112,6 +128,38 @@ impl Changes {
         } else if let Some(change) = self.exchange {
             change.write_token(page, false, reason);
         }
+    }
+}
+
+// Writes that a derivation follows with a shift of its indices, and what is likely then.
+fn write_shift(page: &mut Page, known: &PlacedItems<'_>, from: u32, by: u32) {
+    let given = known.problem.cons().len() as u32;
+    page.put("  = help: with every index ");
+    if from > 0 {
+        write!(page, "from {from} on ");
+    }
+    match by {
+        ONE_LESS => page.put("one less"),
+        ONE_MORE => page.put("one more"),
+        more => write!(page, "{more} more"),
+    }
+    page.put(" the derivation follows");
+    if from == 0 || from == given {
+        let plural = if given == 1 { "" } else { "s" };
+        write!(
+            page,
+            " (indices count from 0: the problem has {given} constraint{plural}, "
+        );
+        write!(page, "so the first derivation is {given})\n");
+    } else {
+        let moved = shifted(from, from, by);
+        page.put(match by {
+            ONE_LESS => ": is a line left out before ",
+            _ => ": is there a line too many before ",
+        });
+        known.write_name(page, moved);
+        write_line(page, known.marks.place(moved));
+        page.put("?\n");
     }
 }
 
@@ -183,15 +231,21 @@ pub fn changes_of(refused: Refused<'_>, scratch: &mut Combination) -> Result<Cha
     let candidates = Candidates::find(refused, scratch)?;
     let multiplier = first_that_follows(refused, scratch, &candidates.multipliers)?;
     let exchange = first_that_follows(refused, scratch, &candidates.exchanges)?;
+    let slip = if multiplier.is_none() && exchange.is_none() {
+        first_that_follows(refused, scratch, &candidates.slips)?
+    } else {
+        None
+    };
     let addition = first_that_follows(refused, scratch, &candidates.additions)?;
     Ok(Changes {
         multiplier,
         exchange,
+        slip,
         addition,
     })
 }
 
-// The first change with which a sum follows.
+// The first change with which a derivation follows.
 fn first_that_follows(
     refused: Refused<'_>,
     scratch: &mut Combination,
@@ -212,7 +266,7 @@ fn first_that_follows(
     Ok(None)
 }
 
-// Whether a sum follows with a change, by the rule.
+// Whether a derivation follows with a change, by the rule.
 fn follows(
     refused: Refused<'_>,
     scratch: &mut Combination,
@@ -225,7 +279,10 @@ fn follows(
 {
     let alloc = refused.subject.alloc;
     let profile = refused.subject.profile;
-    let step = changed_step(alloc, refused.step, change)?;
+    let step = match changed_step(alloc, refused.step, change) {
+        Ok(step) => step,
+        Err(error) => return is_none(error),
+    };
     let kept = apply_in(
         alloc,
         profile,
@@ -241,8 +298,17 @@ fn follows(
             drop(entry);
             Ok(true)
         }
-        Err(RuleError::Memory) => Err(AllocError),
-        Err(error) => {
+        Err(error) => is_none(error),
+    }
+}
+
+// That a derivation doesn't follow, unless a growth was refused.
+fn is_none(error: RuleError) -> Result<bool, AllocError>
+    ensures { IfOk result (λ is. is ≡ false) }
+{
+    match error {
+        RuleError::Memory => Err(AllocError),
+        error => {
             drop(error);
             Ok(false)
         }
@@ -250,13 +316,13 @@ fn follows(
 }
 
 // A derivation with its reason changed.
-fn changed_step(alloc: Global, step: &Derivation, change: &Change) -> Result<Derivation, AllocError>
+fn changed_step(alloc: Global, step: &Derivation, change: &Change) -> Result<Derivation, RuleError>
     ensures stated { IfOk result (λ d. d.constraint ≡ step.now.constraint) }
     ensures reason { IfOk result
         (λ d. reason_of d.reason ≡ changed change.now (reason_of step.now.reason)) }
 {
-    let reason = changed_reason(alloc, &step.reason, change)?;
-    let constraint = or_drop!(step.constraint.clone(), reason);
+    let constraint = step.constraint.clone()?;
+    let reason = or_drop!(changed_reason(alloc, &step.reason, change), constraint);
     let mut changed = Derivation::blank(alloc);
     changed.constraint = constraint;
     changed.reason = reason;
@@ -264,7 +330,7 @@ fn changed_step(alloc: Global, step: &Derivation, change: &Change) -> Result<Der
 }
 
 // A reason with a change.
-fn changed_reason(alloc: Global, reason: &Reason, change: &Change) -> Result<Reason, AllocError>
+fn changed_reason(alloc: Global, reason: &Reason, change: &Change) -> Result<Reason, RuleError>
     ensures { IfOk result (λ r. reason_of r ≡ changed change.now (reason_of reason.now)) }
 {
     match (reason, *change) {
@@ -278,7 +344,13 @@ fn changed_reason(alloc: Global, reason: &Reason, change: &Change) -> Result<Rea
         (Reason::Uns { .. }, Change::Join(Join { i1, l1, i2, l2 })) => {
             Ok(Reason::Uns { i1, l1, i2, l2 })
         }
-        _ => reason.clone(),
+        (Reason::Uns { i1, l1, i2, l2 }, Change::Shift(from, by)) => Ok(Reason::Uns {
+            i1: shifted(*i1, from, by),
+            l1: shifted(*l1, from, by),
+            i2: shifted(*i2, from, by),
+            l2: shifted(*l2, from, by),
+        }),
+        _ => Ok(reason.clone()?),
     }
 }
 
@@ -287,18 +359,83 @@ fn changed_entries(
     alloc: Global,
     entries: &[(u32, Frac)],
     change: &Change,
-) -> Result<Vec<(u32, Frac)>, AllocError>
+) -> Result<Vec<(u32, Frac)>, RuleError>
     ensures { IfOk result (λ es. es.items ≡ changed_entries change.now entries.now) }
 {
+    match *change {
+        Change::Shift(from, by) => Ok(shifted_entries(alloc, entries, from, by)?),
+        Change::Factor(factor) => multiplied_entries(alloc, entries, factor),
+        Change::Entry(position, index, multiplier) => {
+            Ok(replaced_entry(alloc, entries, position, (index, multiplier))?)
+        }
+        Change::Join(_) | Change::Word => Ok(entries.to_vec(alloc)?),
+    }
+}
+
+// Entries with another one at this position, or behind the last one.
+fn replaced_entry(
+    alloc: Global,
+    entries: &[(u32, Frac)],
+    position: usize,
+    entry: (u32, Frac),
+) -> Result<Vec<(u32, Frac)>, AllocError>
+    ensures { IfOk result (λ es. es.items ≡ if nat_lt position (length entries.now)
+        then set entries.now position entry else entries.now ++ entry ∷ []) }
+{
+    let mut changed = entries.to_vec(alloc)?;
+    if position < changed.len() {
+        changed[position] = entry;
+    } else {
+        changed.push(entry)?;
+    }
+    Ok(changed)
+}
+
+// Entries with their indices shifted.
+fn shifted_entries(
+    alloc: Global,
+    entries: &[(u32, Frac)],
+    from: u32,
+    by: u32,
+) -> Result<Vec<(u32, Frac)>, AllocError>
+    ensures { IfOk result (λ es. es.items ≡ map (shifted_entry from by) entries.now) }
+{
+    entries
+        .iter()
+        .map(|entry| (shifted(entry.0, from, by), entry.1))
+        .collect(alloc)
+}
+
+// Entries with their multipliers multiplied by a factor, if all fit.
+#[tactic(auto, using(std::proofs::lemmas::List::map_more))]
+fn multiplied_entries(
+    alloc: Global,
+    entries: &[(u32, Frac)],
+    factor: Frac,
+) -> Result<Vec<(u32, Frac)>, RuleError>
+    ensures { IfOk result (λ es. es.items ≡ map (multiplied factor) entries.now) }
+{
     let mut changed = Vec::new(alloc);
-    changed.extend_from_slice(entries)?;
-    if let Change::Entry(position, index, multiplier) = *change {
-        let entry = (index, multiplier);
-        if position < changed.len() {
-            changed[position] = entry;
-        } else {
-            changed.push(entry)?;
+    for (position, entry) in entries.iter().enumerate() {
+        match entry.1.mul(factor) {
+            Ok(multiplier) => {
+                if changed.push((entry.0, multiplier)).is_err() {
+                    return Err(RuleError::Memory);
+                }
+            }
+            Err(_) => return Err(RuleError::Overflow(position)),
         }
     }
     Ok(changed)
+}
+
+/// An index with a shift of all from one on by so much, modulo 2^32.
+pub(crate) fn shifted(index: u32, from: u32, by: u32) -> u32
+    ensures { result ≡ shifted_index from by index }
+{
+    if index < from {
+        index
+    } else {
+        index.wrapping_add(by)
+    }
 }

@@ -1,13 +1,13 @@
 //! Numbers with a decimal point, which aren't in the format.
 
-use crate::algebra::VariableName;
-use crate::page::Page;
 use std::fmt::{self, Display, Formatter, Write};
-use vipr_cert::Problem;
 use vipr_frac::Frac;
 
 /// Digits are read up to here, and numbers from here on are long.
 const LIMIT: u64 = 1_000_000_000_000_000_000;
+
+/// How many places a decimal has at most that a number is shown as.
+const MOST_PLACES: u32 = 18;
 
 /// What was read of a decimal behind its sign: its digits as a number, and the power of ten below
 /// them, 0 before the point.
@@ -63,6 +63,46 @@ pub(crate) struct Measured(pub(crate) Frac);
 #[derive(Clone, Copy)]
 pub(crate) struct About(pub(crate) Frac);
 
+/// A decimal that ends: its digits as a number, and how many of them are behind the point.
+#[derive(Clone, Copy)]
+pub(crate) struct ExactDecimal {
+    is_negative: bool,
+    digits: u128,
+    places: u32,
+}
+
+/// The decimal that a number is, if it has at most 18 places.
+pub(crate) fn exact_decimal(number: Frac) -> Option<ExactDecimal> {
+    let below = number.denom().unsigned_abs().max(1);
+    for places in 0..=MOST_PLACES {
+        let scale = 10u128.saturating_pow(places);
+        if scale % below == 0 {
+            return Some(ExactDecimal {
+                is_negative: number.numer() < 0,
+                digits: number.numer().unsigned_abs().checked_mul(scale / below)?,
+                places,
+            });
+        }
+    }
+    None
+}
+
+impl Display for ExactDecimal {
+    fn fmt<W: Write>(&self, f: &mut Formatter<W>) -> fmt::Result {
+        let mut place = 10u128.saturating_pow(self.places).max(1);
+        let sign = if self.is_negative { "-" } else { "" };
+        write!(f, "{sign}{}", self.digits / place)?;
+        if self.places > 0 {
+            f.write_str(".")?;
+        }
+        for _ in 0..self.places {
+            place = (place / 10).max(1);
+            write!(f, "{}", self.digits / place % 10)?;
+        }
+        Ok(())
+    }
+}
+
 impl Display for Measured {
     fn fmt<W: Write>(&self, f: &mut Formatter<W>) -> fmt::Result {
         let number = self.0;
@@ -115,40 +155,4 @@ fn first_digits(number: Frac) -> (u128, i32) {
         power = power.saturating_sub(1);
     }
     (above.saturating_add(below / 2) / below.max(1), power)
-}
-
-/// Writes a factor times a term and how many bits that has, if it is past the limit, and answers
-/// whether it is.
-pub(crate) fn write_if_past(
-    page: &mut Page,
-    problem: &Problem,
-    factor: Frac,
-    term: (u32, Frac),
-) -> bool {
-    let (variable, coefficient) = term;
-    if let (Err(_), Ok(first), Ok(second)) = (
-        factor.mul(coefficient),
-        Frac::new(factor.numer(), coefficient.denom()),
-        Frac::new(coefficient.numer(), factor.denom()),
-    ) {
-        let name = VariableName(problem, variable);
-        let above = product_bits(first.numer(), second.numer());
-        let bits = above.max(product_bits(first.denom(), second.denom()));
-        write!(
-            page,
-            "    {factor} x {coefficient} at {name} has {bits} bits\n"
-        );
-        return true;
-    }
-    false
-}
-
-// How many bits the size of a product has.
-fn product_bits(one: i128, other: i128) -> u32 {
-    let (low, high) = one.unsigned_abs().carrying_mul(other.unsigned_abs(), 0);
-    let zeros = match high {
-        0 => low.leading_zeros().saturating_add(u128::BITS),
-        _ => high.leading_zeros(),
-    };
-    u128::BITS.saturating_mul(2).saturating_sub(zeros)
 }

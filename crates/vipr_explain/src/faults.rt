@@ -37,18 +37,30 @@ pub(crate) fn row_faults(
     Ok(faults)
 }
 
-/// Writes the first faults of a row, a line each.
+/// Writes the first faults of a row, a line each, and first of all whether no variable is an
+/// integer one.
 pub(crate) fn write_faults(page: &mut Page, problem: &Problem, faults: &[RowFault]) {
+    let has_none = problem.ints().indices().is_empty();
+    if has_none {
+        page.put("  = help: INT lists no variable: is it left out?\n");
+    }
     for fault in &faults[..faults.len().min(MOST_SHOWN)] {
         match *fault {
             RowFault::NotWhole(index, value) => {
                 let name = VariableName(problem, index);
                 write!(page, "    the coefficient {value} of {name} is not whole\n");
             }
+            RowFault::NotInteger(index) if has_none => {
+                let name = VariableName(problem, index);
+                write!(
+                    page,
+                    "    {name} (variable {index}) is not an integer variable\n"
+                );
+            }
             RowFault::NotInteger(index) => {
                 let name = VariableName(problem, index);
                 write!(page, "    {name} is not an integer variable: ");
-                write!(page, "is its index {index} left out behind INT?\n");
+                write!(page, "is its index {index} left out after INT?\n");
             }
         }
     }

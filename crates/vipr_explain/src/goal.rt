@@ -1,7 +1,7 @@
 //! What proves the claim, and which constraints come nearest to it if none does.
 
 use crate::algebra::{Algebra, sign_of, size_of};
-use crate::decimal::{About, Measured};
+use crate::decimal::{About, Measured, exact_decimal};
 use crate::excerpt::Excerpt;
 use crate::items::open_problem;
 use crate::marks::Marks;
@@ -11,11 +11,11 @@ use crate::shown::{PlacedItems, find_names, write_line};
 use crate::solution::{ListedValues, is_exchanged};
 use crate::text::{Reread, Subject};
 use std::alloc::AllocError;
-use vipr_cert::{Claim, Derivation, Goal};
-use vipr_check::Report;
+use vipr_cert::{Claim, Derivation, Goal, Problem};
+use vipr_check::{Report, Table};
 use vipr_frac::Frac;
-use vipr_linear::{Constraint, compares};
-use vipr_rules::Target;
+use vipr_linear::{Constraint, Sense, compares};
+use vipr_rules::{Rows, Target};
 
 /// How many assumptions of a constraint are shown.
 const MOST_ASSUMPTIONS: u32 = 4;
@@ -81,9 +81,9 @@ impl<'a> ProvedClaim<'a> {
         let claim = &report.claim;
         write!(page, "proved: {claim}\n");
         if let Claim::Range(lower, upper) = *claim {
-            write_about(page, lower);
+            write_decimal(page, lower);
             if upper != lower {
-                write_about(page, upper);
+                write_decimal(page, upper);
             }
         }
         match &self.goal {
@@ -97,11 +97,15 @@ impl<'a> ProvedClaim<'a> {
     }
 }
 
-// Writes a decimal that is close to a bound which isn't whole.
-fn write_about(page: &mut Page, bound: Option<Frac>) {
+// Writes a bound that isn't whole as a decimal: the one that it is, or one that is close.
+fn write_decimal(page: &mut Page, bound: Option<Frac>) {
     match bound {
         Some(bound) if !bound.is_whole() => {
-            write!(page, "  {bound} is about {}\n", About(bound));
+            write!(page, "  {bound} ");
+            match exact_decimal(bound) {
+                Some(decimal) => write!(page, "= {decimal}\n"),
+                None => write!(page, "is about {}\n", About(bound)),
+            }
         }
         _ => {}
     }
@@ -114,6 +118,16 @@ pub(crate) struct UnprovedClaim<'a> {
     known: PlacedItems<'a>,
     /// Whether a solution is listed, which is feasible then.
     has_solution: bool,
+    /// The strongest bound on the objective that is proved, if infeasibility is claimed.
+    proved: Option<ProvedBound>,
+}
+
+/// A bound on the objective that a constraint states which rests on no assumption.
+#[derive(Clone, Copy)]
+struct ProvedBound {
+    index: u32,
+    sense: Sense,
+    side: Frac,
 }
 
 impl<'a> UnprovedClaim<'a> {
@@ -125,6 +139,10 @@ impl<'a> UnprovedClaim<'a> {
         drop(problem);
         let (problem, search, step) = search_to(subject, None)?;
         drop(step);
+        let proved = match search.target {
+            Target::Absurdity => strongest_bound(&problem, &search.replay.rows),
+            _ => None,
+        };
         match near_names(subject, search.near.as_slice()) {
             Ok(marks) => Ok(UnprovedClaim {
                 search,
@@ -134,6 +152,7 @@ impl<'a> UnprovedClaim<'a> {
                     marks,
                 },
                 has_solution,
+                proved,
             }),
             Err(missing) => {
                 drop(search);
@@ -155,6 +174,20 @@ impl<'a> UnprovedClaim<'a> {
     fn is_turned(&self, near: &Near) -> bool {
         match self.bound() {
             Some(bound) => is_turned(near.constraint.sense, bound.sense),
+            None => false,
+        }
+    }
+
+    // Whether a constraint without assumptions has the very bound that is wanted, and the other
+    // sense.
+    fn has_turned_bound(&self, near: &Near) -> bool {
+        match self.bound() {
+            Some(bound) => {
+                near.is_free
+                    && !bound.row.is_empty()
+                    && self.is_turned(near)
+                    && near.constraint.rhs == bound.rhs
+            }
             None => false,
         }
     }
@@ -186,9 +219,60 @@ impl<'a> UnprovedClaim<'a> {
         for near in &self.search.near {
             write_near(page, self, near);
         }
+        if let Some(proved) = self.proved {
+            write_proved(page, proved);
+        }
         page.put("  = help: ");
         write_advice(page, self);
         page.put("\n");
+    }
+}
+
+// The strongest of the derived constraints that bound the objective from the dual side, are kept to
+// the end, and rest on no assumption.
+fn strongest_bound(problem: &Problem, rows: &Table) -> Option<ProvedBound> {
+    let objective = problem.objective();
+    let (sense, other) = match problem.sense() {
+        Goal::Min => (Sense::G, Sense::L),
+        Goal::Max => (Sense::L, Sense::G),
+    };
+    let mut found: Option<ProvedBound> = None;
+    for index in 0..rows.next() {
+        if let (Some(entry), false) = (rows.get(index), objective.is_empty()) {
+            let Constraint {
+                row,
+                sense: stated,
+                rhs,
+            } = &entry.constraint;
+            let is_bound = *stated != other && entry.assumptions.is_empty();
+            if is_bound && row.is_same(objective) && is_stronger(&found, sense, *rhs) {
+                let side = *rhs;
+                found = Some(ProvedBound { index, sense, side });
+            }
+        }
+    }
+    found
+}
+
+// Whether a right-hand side is stronger than that of a bound of this sense, if there is one.
+fn is_stronger(bound: &Option<ProvedBound>, sense: Sense, side: Frac) -> bool {
+    match bound {
+        Some(bound) => !compares(sense, bound.side, side),
+        None => true,
+    }
+}
+
+// Asks whether a bound that is proved is what is to be claimed, in place of infeasibility.
+fn write_proved(page: &mut Page, proved: ProvedBound) {
+    let ProvedBound { index, sense, side } = proved;
+    let sign = sign_of(sense);
+    write!(
+        page,
+        "  = help: [{index}] says objective {sign} {side} and rests on no assumption: "
+    );
+    match sense {
+        Sense::L => write!(page, "is `RTP range -inf {side}` meant?\n"),
+        _ => write!(page, "is `RTP range {side} inf` meant?\n"),
     }
 }
 
@@ -207,11 +291,26 @@ fn write_advice(page: &mut Page, known: &UnprovedClaim<'_>) {
         page.put("the lower bound of the claim is above the upper one: are they exchanged?");
         return;
     }
+    if known.bound().is_none() && known.has_solution {
+        page.put(
+            "the text lists a solution that is feasible, so `infeas` is false: claim `range` and \
+             two bounds",
+        );
+        return;
+    }
     for near in near {
         if near.is_strong {
             write_left(page, &known.search, near);
             return;
         }
+    }
+    for near in near {
+        if known.has_turned_bound(near) {
+            write_turned(page, near.index, problem.sense());
+            return;
+        }
+    }
+    for near in near {
         if let (true, Some(bound)) = (near.is_free, known.bound()) {
             if near.gap.is_some() {
                 write_weak(page, near, bound);
@@ -227,13 +326,9 @@ fn write_advice(page: &mut Page, known: &UnprovedClaim<'_>) {
         Some(Constraint { row, sense, rhs })
             if near.is_empty() && row.is_empty() && compares(*sense, Frac::zero(), *rhs) => {
             write!(page, "add the derivation `NAME {sense} {rhs} ");
-            page.put("0 { lin 0 } -1`, and 1 to the count behind DER");
+            page.put("0 { lin 0 } -1`, and 1 to the count after DER");
         }
-        None if known.has_solution => page.put(
-            "the text lists a solution that is feasible, so `infeas` is false: claim `range` and \
-             two bounds",
-        ),
-        _ => page.put("is its derivation left out, or is more claimed behind RTP than is proved?"),
+        _ => page.put("is its derivation left out, or is more claimed in RTP than is proved?"),
     }
 }
 
@@ -244,7 +339,7 @@ fn write_weak(page: &mut Page, weak: &Near, bound: &Constraint) {
         write!(page, "[{index}] has this bound with the other sign: ");
         page.put("is the sign in the claim wrong?");
     } else {
-        write!(page, "is more claimed behind RTP than [{index}] says, ");
+        write!(page, "is more claimed in RTP than [{index}] says, ");
         page.put("or is a constant of the objective in the claim? The format has none");
     }
 }

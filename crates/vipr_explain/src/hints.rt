@@ -1,10 +1,11 @@
 //! Likely mistakes behind a fault of a text, and what to write instead: by the cause, by what is
 //! wanted, what the token looks like, and its bytes. The first hint that fits is printed.
 
+use crate::meant::ask_whether_meant;
 use crate::page::Page;
 use crate::syntax::TextFault;
 use crate::token::Look::*;
-use crate::token::{DIGITS, Look, are_all, is_spelled, keyword_of, parted};
+use crate::token::{DIGITS, Look, are_all, is_any, is_spelled, keyword_of, parted};
 use crate::wanted::Section::*;
 use crate::wanted::Wanted::*;
 use crate::wanted::{Section, TextProgress, is_word};
@@ -16,38 +17,47 @@ pub(crate) fn write_hint(page: &mut Page, cause: u8, fault: &TextFault<'_>) {
     let progress = &fault.found.progress;
     let items = progress.items;
     // A keyword that was read as a name is first: the fault is in front of it, whatever the cause.
-    if let Some((counted, name)) = keyword_as_name(progress, fault.name) {
+    if let Some((counted, name)) = keyword_as_name(fault) {
         write!(page, "`{name}` was read as a name: is the count ");
-        write!(page, "behind `{counted}`, {items}, too large, ");
+        write!(page, "after `{counted}`, {items}, too large, ");
         write!(page, "or is something missing in front of `{name}`?");
         return;
     }
     let found = keyword_of(fault.word).unwrap_or("");
     let is_begun = !matches!(progress.section, Section::Version);
+    if !matches!(cause, TRUNCATED | TOKEN_TOO_LONG)
+        && ask_whether_meant(page, progress, fault.word)
+    {
+        return;
+    }
     match (cause, Look::of(fault.word)) {
         (TRUNCATED, _) if is_begun && matches!(progress.wanted, Keyword) => {
             write_missing(page, progress.section, "")
         }
-        (WRONG_KEYWORD, SmallHeading) => {
-            write!(page, "keywords are in capitals: is `{found}` meant?")
+        (WRONG_KEYWORD, SmallHeading) if !progress.section.is_behind(found) => {
+            write_small(page, progress.section, found)
         }
         (WRONG_KEYWORD, Heading) => write_missing(page, progress.section, found),
         (BAD_INDEX, Heading) if matches!(progress.wanted, IntegerIndex) => {
             write!(page, "`{found}` is the keyword of a section: ");
-            write!(page, "is the count behind `INT`, {items}, too large?");
+            write!(page, "is the count after `INT`, {items}, too large?");
         }
         (BAD_INDEX, Number) if are_all(fault.word, DIGITS) => write_last_index(page, progress),
         (BAD_NUMBER, Decimal(fraction)) => {
-            write!(page, "decimals are not in the format: write {fraction}")
+            write!(page, "decimals are not in the format: write {fraction}");
+            if places_of(fault.word) >= MANY_PLACES {
+                page.put(" if that is exact; is it a rounded number?");
+            }
         }
         (_, look) => page.put(hint(cause, fault, look)),
     }
 }
 
 // The keyword of a section whose count is too large, and the next one, which was read as a name.
-fn keyword_as_name(progress: &TextProgress, name: &[u8]) -> Option<(&'static str, &'static str)> {
-    match (progress.section, progress.wanted) {
-        (Integers, Keyword) if is_word(name, "INT") => Some(("VAR", "INT")),
+fn keyword_as_name(fault: &TextFault<'_>) -> Option<(&'static str, &'static str)> {
+    let (found, name) = (&fault.found, fault.name);
+    match (found.progress.section, found.progress.wanted) {
+        (Integers, Keyword) if found.has_name_int => Some(("VAR", "INT")),
         (Constraints, Sense) if is_word(name, "RTP") => Some(("CON", "RTP")),
         (Solutions, _) | (Derivations, Keyword) if is_word(name, "DER") => Some(("SOL", "DER")),
         _ => None,
@@ -59,14 +69,34 @@ fn write_missing(page: &mut Page, section: Section, found: &str) {
     let keyword = section.keyword();
     let (_, empty) = section.words();
     if found.is_empty() {
-        page.put("is the file cut? ");
-        write!(page, "`{keyword}` is missing: write {empty}");
+        write!(
+            page,
+            "is the file cut, or is `{keyword}` missing? Then write {empty}"
+        );
     } else if section.is_behind(found) {
         write!(page, "the section `{found}` was read before");
         page.put(": is it here twice?");
     } else {
-        write!(page, "`{keyword}` is missing or in another place: ");
-        write!(page, "in front of `{found}` write {empty}");
+        write!(page, "is `{keyword}` missing, or in another place? ");
+        write!(page, "Then in front of `{found}` write {empty}");
+    }
+}
+
+// Writes that a keyword of this section or of a later one isn't in capitals.
+fn write_small(page: &mut Page, section: Section, found: &str) {
+    let keyword = section.keyword();
+    write!(page, "keywords are in capitals: is `{found}` meant?");
+    if !is_word(found.as_bytes(), keyword) {
+        let (_, empty) = section.words();
+        write!(page, " In front of it write {empty}");
+    }
+}
+
+// How many digits are after the point of a decimal.
+fn places_of(word: &[u8]) -> usize {
+    match parted(word, b".") {
+        Some((_, places)) => places.len(),
+        None => 0,
     }
 }
 
@@ -79,9 +109,11 @@ fn write_last_index(page: &mut Page, progress: &TextProgress) {
         ),
         None => page.put("the text has no variables (VAR 0)"),
     }
-    if let RowIndex = progress.wanted {
-        page.put("; are the pairs INDEX COEFFICIENT?");
-    }
+    page.put(match (progress.wanted, progress.section) {
+        (RowIndex, Solutions) => "; are the pairs INDEX VALUE?",
+        (RowIndex, _) => "; are the pairs INDEX COEFFICIENT?",
+        _ => "",
+    });
     if let Objective = progress.section {
         page.put(" Or is this a constant? An objective has none");
     }
@@ -92,10 +124,12 @@ fn hint(cause: u8, fault: &TextFault<'_>, look: Look) -> &'static str {
     match cause {
         WRONG_KEYWORD => keyword_hint(fault.found.progress.section, fault.word),
         TRUNCATED => match (fault.found.progress.wanted, fault.found.progress.section) {
-            (Keyword, _) => "nothing is in the text but white space or a comment: a comment ends \
-                at a line feed, and not at a carriage return",
+            (Keyword, _) if fault.text.is_empty() => "the text is empty: is this another file?",
+            (Keyword, _) if fault.text.contains(&b'%') => "nothing is in the text but white space \
+                and comments: a comment ends at a line feed, and not at a carriage return",
+            (Keyword, _) => "nothing is in the text but white space",
             (LastReference, _) => LAST_REFERENCE,
-            (_, Derivations) => "is the file cut, or the count behind `DER` too large?",
+            (_, Derivations) => "is the file cut, or the count after `DER` too large?",
             _ => "is the file cut, or a count too large?",
         },
         UNSUPPORTED_VERSION => match fault.word {
@@ -108,19 +142,24 @@ fn hint(cause: u8, fault: &TextFault<'_>, look: Look) -> &'static str {
         ZERO_DENOMINATOR => "a denominator may not be 0",
         COUNT_TOO_LARGE =>
             "counts, and constraints and derivations together, may be 4294967295 at most",
-        REPEATED_INDEX => "a variable may be in a vector once: are its coefficients to be added \
-            up? Or is this a list of all values, and not pairs INDEX VALUE behind their count?",
-        BAD_OBJECTIVE_SENSE => "write `min` or `max` behind `OBJ`",
-        BAD_CLAIM => "write `infeas`, or `range` and two bounds, behind `RTP`",
+        REPEATED_INDEX => match fault.found.progress.section {
+            Solutions => "a variable may be in a solution once: is this a list of all values, and \
+                not pairs INDEX VALUE after their count?",
+            _ => "a variable may be in a vector once: are its coefficients to be added up? Or is \
+                this a list of all coefficients, and not pairs INDEX COEFFICIENT after a count?",
+        },
+        BAD_OBJECTIVE_SENSE => "write `min` or `max` after `OBJ`",
+        BAD_CLAIM => "write `infeas`, or `range` and two bounds, after `RTP`",
         BAD_REASON if is_spelled(fault.word, &REASONS) =>
             "reasons are in small letters: `asm`, `lin`, `rnd`, `uns` or `sol`",
+        BAD_REASON if is_word(fault.word, "}") => NO_REASON,
         BAD_REASON => "write `uns i1 l1 i2 l2` to join two branches, `lin` or `rnd` for a sum, \
             `asm` for an assumption, `sol` for a cutoff",
         TOKEN_TOO_LONG => "a token may have 65,535 bytes at most",
         TRAILING_TEXT => match fault.word {
-            b"VER" | [b'%', ..] => "a file is one certificate, without comments behind `VER`: \
+            b"VER" | [b'%', ..] => "a file is one certificate, without comments after `VER`: \
                 remove all from here on",
-            _ => "make the count behind `DER` larger, or remove all from here on",
+            _ => "make the count after `DER` larger, or remove all from here on",
         },
         _ => part_hint(cause, fault, look),
     }
@@ -132,15 +171,15 @@ fn keyword_hint(section: Section, word: &[u8]) -> &'static str {
         Section::Version => start_hint(word),
         _ if matches!(word, [b'%' | b'#', ..]) =>
             "remove the comment: comments may only be before `VER`",
-        Integers => "is the count behind `VAR` right, or is a space in a name? Names alone are \
-            behind it, and no types or bounds",
-        Objective => "is the count behind `INT` too small?",
-        Constraints => "is the count behind `min` or `max` too small or missing?",
-        Section::Claim => "is the first count behind `CON` too small? It counts all constraints, \
+        Integers => "is the count after `VAR` right, or is a space in a name? Names alone are \
+            after it, and no types or bounds",
+        Objective => "is the count after `INT` too small?",
+        Constraints => "is the count after `min` or `max` too small or missing?",
+        Section::Claim => "is the first count after `CON` too small? It counts all constraints, \
             bounds included; or is the last constraint's count of coefficients too small?",
         Solutions => "`range` takes two bounds, and `infeas` none",
-        Derivations => "is the count behind `SOL` too small, or that of a solution's values?",
-        Variables => "the next section comes behind the version `1.0`",
+        Derivations => "is the count after `SOL` too small, or that of a solution's values?",
+        Variables => "the next section comes after the version `1.0`",
     }
 }
 
@@ -214,6 +253,8 @@ fn wanted_hint(cause: u8, fault: &TextFault<'_>, look: Look) -> &'static str {
         RowCount => match fault.found.progress.section {
             Solutions =>
                 "a solution is NAME COUNT INDEX VALUE ..: is the name missing, or a space in it?",
+            Objective => "the objective is a count and then that many pairs INDEX COEFFICIENT: \
+                is the count missing?",
             _ => "a vector is a count and then that many pairs INDEX COEFFICIENT; \
                 the right-hand side is before it",
         },
@@ -221,11 +262,15 @@ fn wanted_hint(cause: u8, fault: &TextFault<'_>, look: Look) -> &'static str {
             "is this derivation of version 1.1? \
             Complete the certificate first, by viprcomp of the VIPR package",
         EntryCount => "`lin` and `rnd` take COUNT INDEX MULTIPLIER ..",
-        Count => "a count is digits alone: is it missing behind the keyword?",
+        Count => "a count is digits alone: is it missing after the keyword?",
         IntegerIndex => "`INT` lists variables by their indices, from 0, and not by names",
-        RowIndex => match look {
-            Number | Fraction | Decimal(_) => "an index is digits alone, and indices count from \
-                0: are the pairs INDEX COEFFICIENT?",
+        RowIndex => match (look, fault.found.progress.section) {
+            _ if is_joined(word) => "an index is digits alone, and a pair is two tokens, the \
+                index and the number, with white space alone between them",
+            (Number | Fraction | Decimal(_), Solutions) => "an index is digits alone, and indices \
+                count from 0: are the pairs INDEX VALUE?",
+            (Number | Fraction | Decimal(_), _) => "an index is digits alone, and indices count \
+                from 0: are the pairs INDEX COEFFICIENT?",
             _ => "a variable is named by its index, from 0: is a name in its place, is a pair \
                 missing, or is the count of pairs in front of it too large?",
         },
@@ -239,13 +284,22 @@ fn wanted_hint(cause: u8, fault: &TextFault<'_>, look: Look) -> &'static str {
     }
 }
 
+// Whether a token looks like a pair in one token: something, a separator, and a number.
+fn is_joined(word: &[u8]) -> bool {
+    match parted(word, b",:=*") {
+        Some((front, behind)) => !front.is_empty() && parted(behind, DIGITS).is_some(),
+        None => false,
+    }
+}
+
 // The token isn't `{`.
 fn open_hint(word: &[u8]) -> &'static str {
     match word {
+        [b'{', b'}', ..] => NO_REASON,
         [b'{', b'{', ..] | [b'(' | b'[', ..] =>
             "a reason is between `{` and `}`, with a space on both sides of each",
-        [b'{', ..] => "put a space behind the brace",
-        _ if is_any(word, &REASONS) => "write `{` in front of this reason, and `}` behind it",
+        [b'{', ..] => "put a space after the brace",
+        _ if is_any(word, &REASONS) => "write `{` in front of this reason, and `}` after it",
         _ => "is the count of coefficients too small or missing, or is the reason missing? \
             COUNT, that many pairs INDEX COEFFICIENT, and then the reason, as `{ asm }`",
     }
@@ -255,8 +309,9 @@ fn open_hint(word: &[u8]) -> &'static str {
 fn close_hint(word: &[u8]) -> &'static str {
     match word {
         [b'}'] => "is a number missing in front of the brace?",
-        [b'}', ..] => "put a space behind the brace",
+        [b'}', ..] => "put a space after the brace",
         [.., b'}'] => "put a space before the brace",
+        b"-1" => "is the brace missing in front of this? A reason ends with `}`",
         _ => "the reason should end here: `asm` and `sol` take nothing, `uns` takes \
             i1 l1 i2 l2, `lin` and `rnd` COUNT INDEX MULTIPLIER ..: is its number of entries \
             missing or too small?",
@@ -267,12 +322,15 @@ fn close_hint(word: &[u8]) -> &'static str {
 fn number_hint(cause: u8, fault: &TextFault<'_>, look: Look) -> &'static str {
     let is_number = cause == BAD_NUMBER;
     match (fault.word, fault.found.progress.wanted) {
-        ([b'}'], EntryIndex | EntryMultiplier) => "the reason has fewer entries than it counts: is \
-            the count too large, or a number missing?",
+        ([b'}'], EntryIndex | EntryMultiplier) =>
+            "the brace comes before the last entry that is counted: is the count of entries too \
+            large, or a number missing?",
         ([b'}'], _) => "is a number missing in front of the brace?",
-        ([b'/'], _) => "a number has no spaces, as -11/9",
+        ([b'/', ..], _) => "a number has no spaces, as -11/9",
         ([b'+' | b'-'], _) if is_number => "a number has no spaces, as -11/9",
         (_, EntryIndex) => match look {
+            _ if is_joined(fault.word) => "an entry is two tokens, INDEX MULTIPLIER, with white \
+                space alone between them",
             Number | Fraction => "an entry is two tokens, INDEX MULTIPLIER, the index first",
             _ => "a constraint is named by its index, digits alone, and not by its name; \
                 is the number of entries right?",
@@ -286,18 +344,19 @@ fn number_hint(cause: u8, fault: &TextFault<'_>, look: Look) -> &'static str {
 // The token is no sense.
 fn sense_hint(name: &[u8], look: Look, word: &[u8]) -> &'static str {
     match word {
-        _ if is_any(word, &[b">=", b"=>", b">", b"g", b"ge", b"GE"]) => "write `G` for `>=`",
-        _ if is_any(word, &[b"<=", b"=<", b"<", b"l", b"le", b"LE"]) => "write `L` for `<=`",
-        _ if is_any(word, &[b"=", b"==", b"e", b"eq", b"EQ"]) => "write `E` for `=`",
+        _ if is_spelled(word, &AT_LEAST) => "write `G` for `>=`",
+        _ if is_spelled(word, &AT_MOST) => "write `L` for `<=`",
+        _ if is_spelled(word, &EQUAL) => "write `E` for `=`",
         [b'R' | b'N'] =>
             "a constraint with two sides is two, by `G` and by `L`; a free row is left out",
         _ if !name.is_ascii() =>
             "the name has a byte that is not ASCII: is it a space of a word processor?",
-        _ if Frac::parse(name).is_ok() => "a number was read as the name: is the count of \
-            coefficients in front of it too small, or a right-hand side missing?",
+        _ if Frac::parse(name).is_ok() => "the name in front of this is a number: is the count of \
+            coefficients in front of that too small, or a right-hand side missing?",
         [.., b'"'] => "a name has no spaces, not even in quotes",
-        _ if is_any(name, &[b"G", b"L", b"E"]) => "the sense was read as the name: write NAME \
-            SENSE RIGHT-HAND-SIDE COUNT INDEX COEFFICIENT ..",
+        _ if is_any(name, &[b"G", b"L", b"E"]) => "the name in front of this is `E`, `L` or `G`: \
+            is it the sense, and the name missing? NAME SENSE RIGHT-HAND-SIDE COUNT INDEX \
+            COEFFICIENT ..",
         _ if matches!(look, Number | Fraction) => "a sense is a letter, and sense and right-hand \
             side are before the coefficients: \
             NAME SENSE RIGHT-HAND-SIDE COUNT INDEX COEFFICIENT ..",
@@ -318,11 +377,14 @@ fn spelled_hint(fault: &TextFault<'_>, look: Look) -> &'static str {
         _ if is_any(word, &[b"nan", b"NaN", b"None", b"null"]) =>
             "is there no value? Then leave the entry or the constraint out",
         Number if is_decimal(word) => "decimals are not in the format: write a fraction, as 13/4",
-        _ if has_mark || matches!(look, Number) => "a number is digits with or without a sign, or \
+        _
+            if !matches!(fault.found.progress.section, Section::Claim)
+                && (has_mark || matches!(look, Number)) =>
+            "a number is digits with or without a sign, or \
             a fraction, as -3 or 13/4, and nothing else is in its token",
         _ => match fault.found.progress.section {
-            Section::Claim =>
-                "a number is digits with or without a sign, or a fraction, as -3 or 13/4",
+            Section::Claim => "two bounds come after `range` and nothing else: each is a number, \
+                as -3 or 13/4, or `-inf` for no lower one, or `inf` for no upper one",
             _ => "a number is digits with or without a sign, or a fraction, as -3 or 13/4; \
                 is the count before it right?",
         },
@@ -340,20 +402,10 @@ fn large_hint(fault: &TextFault<'_>, look: Look) -> &'static str {
         (Section::Claim, ..) => "exponents are not in the format: write all digits, or `-inf` \
             first and `inf` second for no bound",
         (Constraints, RightHandSide, _) => "write all digits, or a fraction; an infinite bound is \
-            no constraint: leave it out, and make the counts behind `CON` smaller",
+            no constraint: leave it out, and make the counts after `CON` smaller",
         (_, _, Infinity) => "infinite values may only be bounds of the claim",
         _ => "exponents are not in the format: write all digits, or a fraction, as 1/1000",
     }
-}
-
-// Whether a token is one of these words.
-fn is_any(word: &[u8], words: &[&[u8]]) -> bool {
-    for other in words {
-        if word == *other {
-            return true;
-        }
-    }
-    false
 }
 
 // Whether bytes are digits with a point.
@@ -367,9 +419,22 @@ fn is_decimal(word: &[u8]) -> bool {
     }
 }
 
-const LAST_REFERENCE: &str = "write the last reference behind `}`: the last derivation that names \
+const LAST_REFERENCE: &str = "write the last reference after `}`: the last derivation that names \
     this one, or -1 to keep it";
 
 const REASONS: [&[u8]; 5] = [b"asm", b"lin", b"rnd", b"uns", b"sol"];
+
+// Other spellings of the senses.
+const AT_LEAST: [&[u8]; 8] = [b">=", b"=>", b">", b"g", b"ge", b"geq", b"gte", b"greater"];
+
+const AT_MOST: [&[u8]; 8] = [b"<=", b"=<", b"<", b"l", b"le", b"leq", b"lte", b"less"];
+
+const EQUAL: [&[u8]; 6] = [b"=", b"==", b"e", b"eq", b"equal", b"equals"];
+
+const NO_REASON: &str = "is the reason missing between the braces? `{ asm }`, `{ sol }`, \
+    `{ uns i1 l1 i2 l2 }`, or `lin` or `rnd` with COUNT INDEX MULTIPLIER ..";
+
+// From so many places on a decimal is likely to be rounded.
+const MANY_PLACES: usize = 5;
 
 const LP_WORDS: [&[u8]; 4] = [b"minimize", b"maximize", b"min", b"max"];

@@ -44,6 +44,8 @@ pub(crate) enum ItemPart {
     UpperBound,
     Sense,
     RightHandSide,
+    /// The number of coefficients or values.
+    RowCount,
     /// The value or the coefficient of this variable.
     Value(u32),
     /// The constraint of this position that the reason refers to.
@@ -63,6 +65,7 @@ impl ItemPart {
             | (ItemPart::UpperBound, Wanted::UpperBound)
             | (ItemPart::Sense, Wanted::Sense)
             | (ItemPart::RightHandSide, Wanted::RightHandSide)
+            | (ItemPart::RowCount, Wanted::RowCount)
             | (ItemPart::Reason, Wanted::Reason)
             | (ItemPart::LastReference, Wanted::LastReference) => true,
             (ItemPart::Value(variable), Wanted::RowCoefficient) => progress.variable == variable,
@@ -94,6 +97,16 @@ impl Sought<'_> {
             Some(used) if used == index => ItemPart::LastReference,
             _ => ItemPart::Reason,
         }
+    }
+
+    // Whether nothing is looked for in a derivation of which the name was passed. Its only braces
+    // are then those around its reason.
+    fn leaves_out(self, progress: &TextProgress) -> bool {
+        matches!(
+            (progress.section, progress.wanted),
+            (Section::Derivations, Wanted::Sense)
+        ) && self.used.is_none()
+            && !self.items.contains(&progress.index())
     }
 
     // Whether nothing is to come that is looked for, if this is the last item.
@@ -150,6 +163,10 @@ impl Marks {
             mark(&mut places, text, sought, &progress, end, word.span)?;
             user = later_user(user, sought.used, &progress, word.bytes);
             progress.pass(word.bytes);
+            if sought.leaves_out(&progress) {
+                words.pass_to(b'}');
+                progress.pass_to_brace();
+            }
         }
         Ok(Marks { places, user })
     }

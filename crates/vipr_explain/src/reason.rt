@@ -1,7 +1,7 @@
 //! The reason of a derivation, with the constraints that it refers to.
 
 use crate::algebra::{ShownName, VariableName};
-use crate::changes::{Change, Changes};
+use crate::changes::{Change, Changes, shifted};
 use crate::excerpt::part_of;
 use crate::marks::ItemPart;
 use crate::page::Page;
@@ -33,7 +33,7 @@ pub(crate) fn step_indices(
             for entry in &entries[..entries.len().min(MOST_ENTRIES)] {
                 add_earlier(&mut wanted, fault.index, entry.0)?;
             }
-            match position_at_fault(fault, entries) {
+            match marked_position(fault, entries, changes) {
                 Some(at) if at < entries.len() => {
                     add_earlier(&mut wanted, fault.index, entries[at].0)?;
                 }
@@ -50,6 +50,9 @@ pub(crate) fn step_indices(
         if let Some(Change::Entry(_, index, _)) = change {
             add_earlier(&mut wanted, fault.index, index)?;
         }
+    }
+    if let Some(Change::Shift(from, by)) = changes.slip {
+        add_earlier(&mut wanted, fault.index, shifted(from, from, by))?;
     }
     Ok(wanted)
 }
@@ -77,6 +80,19 @@ fn position_at_fault(fault: StepFault<'_>, entries: &[(u32, Frac)]) -> Option<us
             None
         }
         _ => None,
+    }
+}
+
+// The entry of a sum that is marked: the one that a change is of, or the one at fault.
+fn marked_position(
+    fault: StepFault<'_>,
+    entries: &[(u32, Frac)],
+    changes: &Changes,
+) -> Option<usize> {
+    match (fault.what, changes.multiplier, changes.exchange) {
+        (StepDetail::Entry(_), Some(Change::Entry(position, ..)), _)
+        | (StepDetail::Entry(_), None, Some(Change::Entry(position, ..))) => Some(position),
+        _ => position_at_fault(fault, entries),
     }
 }
 
@@ -162,17 +178,17 @@ pub(crate) fn write_reason(
         References::Entries(entries) => {
             let count = entries.len();
             write!(page, "  its reason   {word} of {count}:\n");
-            let at_fault = position_at_fault(fault, entries);
+            let marked = marked_position(fault, entries, &refused.changes);
             for (position, entry) in entries.iter().enumerate() {
                 let (index, multiplier) = *entry;
-                let is_at_fault = at_fault == Some(position);
+                let is_marked = marked == Some(position);
                 if position == MOST_ENTRIES {
                     write!(page, "      .. ({count} entries)\n");
                 }
-                if position < MOST_ENTRIES || is_at_fault {
+                if position < MOST_ENTRIES || is_marked {
                     write!(page, "      {multiplier} x ");
                     write_constraint(page, refused, own, index);
-                    if let (true, StepDetail::Entry(_)) = (is_at_fault, fault.what) {
+                    if let (true, StepDetail::Entry(_)) = (is_marked, fault.what) {
                         write!(page, " <-- entry {position}");
                     }
                     page.put("\n");

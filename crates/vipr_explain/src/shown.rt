@@ -69,8 +69,10 @@ pub(crate) fn find_names(subject: Subject<'_>, wanted: &[u32]) -> Result<Marks, 
 /// Writes the place of the last reference of a constraint that was dropped, and what would do
 /// there.
 pub(crate) fn write_last_use(page: &mut Page, known: &PlacedItems<'_>, index: u32, file: &[u8]) {
-    write!(page, "  constraint {index} was dropped behind ");
-    page.put("the last reference that it states\n");
+    write!(
+        page,
+        "  constraint {index} was dropped after its stated last reference\n"
+    );
     if let Some(place) = known.part(index) {
         let last = known.marks.user;
         place.write(page, file, format_args!("write {last} or -1 here"));

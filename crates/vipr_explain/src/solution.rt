@@ -1,13 +1,15 @@
 //! A listed solution that is refused, and a primal bound that no listed one attains.
 
 use crate::algebra::{Algebra, ShownName, VariableName, sign_of, size_of};
-use crate::decimal::{Measured, write_if_past};
-use crate::excerpt::Excerpt;
+use crate::decimal::Measured;
+use crate::excerpt::{Excerpt, part_of};
 use crate::items::{open_problem, read_solution};
 use crate::marks::{ItemPart, ItemPlace, ItemSort, find_item};
 use crate::page::Page;
+use crate::past::write_past_in_value;
 use crate::shown::write_line;
 use crate::text::{Reread, Subject};
+use crate::wanted::count_of;
 use std::alloc::AllocError;
 use vipr_bytes::Bytes;
 use vipr_cert::{Claim, Goal, Name, Named, Problem};
@@ -29,6 +31,8 @@ pub(crate) struct RefusedSolution<'a> {
     text: &'a [u8],
     place: Option<ItemPlace>,
     broken: Option<ItemPlace>,
+    /// Whether its count of values is 0.
+    lists_none: bool,
 }
 
 impl<'a> RefusedSolution<'a> {
@@ -39,6 +43,7 @@ impl<'a> RefusedSolution<'a> {
         detail: &Detail,
     ) -> Reread<RefusedSolution<'a>> {
         let broken = broken_place(subject, detail)?;
+        let lists_none = lists_no_value(subject, number)?;
         let (problem, solution) = read_solution(subject.alloc, subject.text, number)?;
         let part = part_at_fault(&problem, detail);
         match find_item(subject, ItemSort::Solutions, number, part) {
@@ -49,6 +54,7 @@ impl<'a> RefusedSolution<'a> {
                 text: subject.text,
                 place,
                 broken,
+                lists_none,
             }),
             Err(error) => {
                 drop(solution);
@@ -120,6 +126,15 @@ fn part_at_fault(problem: &Problem, detail: &Detail) -> ItemPart {
     }
 }
 
+// Whether the count of a solution's values is 0. Values that are 0 are counted, too.
+fn lists_no_value(subject: Subject<'_>, number: u32) -> Reread<bool> {
+    let place = find_item(subject, ItemSort::Solutions, number, ItemPart::RowCount)?;
+    Ok(match place {
+        Some(place) => place.has_part() && count_of(part_of(subject.text, place.part)) == 0,
+        None => false,
+    })
+}
+
 // The place of the constraint that a solution breaks, if that is the fault.
 fn broken_place(subject: Subject<'_>, detail: &Detail) -> Result<Option<ItemPlace>, AllocError> {
     match detail {
@@ -133,14 +148,9 @@ fn broken_place(subject: Subject<'_>, detail: &Detail) -> Result<Option<ItemPlac
 pub(crate) const PAST_LIMIT: &str =
     "  = help: docs/FORMAT.md says what can help when a number is past the limit\n";
 
-// Writes which product of a row is past the limit at a solution, if one is and not a sum alone.
+// Writes which number of a row's value is past the limit at a solution.
 fn write_past_limit(page: &mut Page, known: &RefusedSolution<'_>, row: &Row) {
-    for term in row.entries() {
-        let value = known.solution.item.0.coefficient(term.0);
-        if write_if_past(page, &known.problem, value, *term) {
-            break;
-        }
-    }
+    write_past_in_value(page, &known.problem, row, &known.solution.item.0);
     page.put(PAST_LIMIT);
 }
 
@@ -155,7 +165,7 @@ fn write_not_whole(page: &mut Page, known: &RefusedSolution<'_>, index: u32) {
     );
     page.put("  = help: write whole values, or take the variable out of INT");
     if let Some((nearest, gap)) = nearest_whole(value) {
-        write!(page, ": is {nearest} meant, which is {gap} off?");
+        write!(page, ": did you mean {nearest}? It is off by {gap}");
     }
     page.put("\n");
 }
@@ -204,16 +214,19 @@ fn solution_hint(
         return "no solution meets this constraint: change it, or take it out";
     }
     let values = &known.solution.item.0;
+    let is_number = Frac::parse(known.solution.name.as_bytes()).is_ok();
     match gap {
-        _ if values.is_empty() && Frac::parse(known.solution.name.as_bytes()).is_ok() => {
-            "a number was read as the name: is the name missing?"
-        }
-        _ if values.is_empty() => {
+        _ if known.lists_none && !is_number => {
             "the solution lists no value, so each variable is 0: is its count right?"
+        }
+        _ if values.is_empty() && !is_number => {
+            "all values that the solution lists are 0, as is a variable that it doesn't list: \
+             change it, or leave it out"
         }
         Some(gap) if gap.denom() / 1000 >= size_of(gap).numer() && has_fraction(values) => {
             "is a value rounded, as one of floating point is? Write exact fractions"
         }
+        _ if is_number => "its name is a number: is the name missing?",
         _ => "change the solution, or leave it out; a variable that it doesn't list is 0",
     }
 }
@@ -254,6 +267,8 @@ fn write_values(page: &mut Page, problem: &Problem, row: &Row, solution: &Soluti
 #[derive(Drop)]
 pub(crate) struct ListedValues {
     best: Option<(u32, Name, Frac)>,
+    /// Whether the count of its values is 0.
+    lists_none: bool,
     /// Whether the lower bound of the claim is above the upper one.
     is_exchanged: bool,
     sense: Goal,
@@ -265,13 +280,26 @@ impl ListedValues {
         let (problem, mut solutions) = open_problem(subject.alloc, subject.text)?;
         let mut known = ListedValues {
             best: None,
+            lists_none: false,
             is_exchanged: is_exchanged(problem.claim()),
             sense: problem.sense(),
         };
         let added = known.add_all(subject, &problem, &mut solutions);
         drop(solutions);
         drop(problem);
-        added.and(Ok(known))
+        or_drop!(added, known);
+        if let Some(number) = known.number() {
+            known.lists_none = or_drop!(lists_no_value(subject, number), known);
+        }
+        Ok(known)
+    }
+
+    // The number of the best one.
+    fn number(&self) -> Option<u32> {
+        match &self.best {
+            Some((number, ..)) => Some(*number),
+            None => None,
+        }
     }
 
     /// The part of the claim that they have to attain.
@@ -308,6 +336,14 @@ impl ListedValues {
             );
         }
         match &self.best {
+            Some((number, name, _)) if self.lists_none => {
+                let name = ShownName(name.as_bytes());
+                write!(
+                    page,
+                    "  = help: solution {number} `{name}` lists no value, "
+                );
+                page.put("so each variable is 0: is its count right?\n");
+            }
             Some((.., best)) => write!(
                 page,
                 "  = help: {best} is attained: is that the primal bound (the upper one for min, \
@@ -316,7 +352,7 @@ impl ListedValues {
             ),
             None => page.put(
                 "  the text lists no solution (SOL 0)\n  \
-                 = help: list a solution behind SOL, or claim no primal bound behind RTP (`inf` \
+                 = help: list a solution after SOL, or claim no primal bound in RTP (`inf` \
                  for min, `-inf` for max)\n",
             ),
         }

@@ -3,7 +3,10 @@ ghost use Rattle.std.specs.Prelude.{◌≡◌, length};
 ghost use Rattle.vipr_spec.specs.Certificate.{variables};
 
 use crate::changes::Change;
-use crate::near::{Join, is_turned};
+use crate::joins::add_joins;
+use crate::near::Join;
+use crate::sketch::{Residue, Sketches, sketch_of};
+use crate::slips::{add_factor, add_shifted_joins, add_shifts};
 use crate::text::Subject;
 use std::alloc::AllocError;
 use std::mem::replace;
@@ -17,9 +20,9 @@ use vipr_rules::Rows;
 /// the text's bytes isn't more.
 const MOST_PAIRS: usize = 1_000_000;
 
-/// How many coefficients the rows have at most that other constraints are compared with, if a
-/// sixteenth of the text's bytes isn't more.
-const MOST_COEFFICIENTS: usize = 100_000;
+/// For how many entries another constraint is sought, if a sixteenth of the text's bytes isn't
+/// more.
+const MOST_REPLACED: usize = 100_000;
 
 /// How many changes of a kind are tried.
 const MOST_TRIED: usize = 8;
@@ -39,6 +42,7 @@ pub struct Refused<'a> {
 pub(crate) struct Candidates {
     pub(crate) multipliers: Ranking,
     pub(crate) exchanges: Ranking,
+    pub(crate) slips: Ranking,
     pub(crate) additions: Ranking,
 }
 
@@ -47,17 +51,26 @@ pub(crate) struct Candidates {
 #[derive(Clone, Copy)]
 pub(crate) struct Ranking(pub(crate) [(u64, Option<Change>); MOST_TRIED + 1]);
 
-// An entry, and the constraint that would be right in its place with its multiplier.
+/// What a sum lacks of what is stated, and the sketch of its row.
 #[derive(Drop)]
+pub(crate) struct Missing {
+    pub(crate) constraint: Constraint,
+    pub(crate) sketch: Residue,
+}
+
+// An entry, and the row and the side of the constraint that would be right in its place with its
+// multiplier.
+#[derive(Clone, Copy)]
 struct Replacement {
     position: usize,
     index: u32,
     multiplier: Frac,
-    wanted: Constraint,
+    row: Residue,
+    side: Frac,
 }
 
 impl Candidates {
-    /// Finds changes with which the rows are the same, and the sides look so.
+    /// Finds changes with which the rows look the same, and the sides, too.
     pub(crate) fn find(
         refused: Refused<'_>,
         scratch: &mut Combination,
@@ -68,12 +81,17 @@ impl Candidates {
         let mut found = Candidates {
             multipliers: Ranking::new(),
             exchanges: Ranking::new(),
+            slips: Ranking::new(),
             additions: Ranking::new(),
         };
         match refused.step.reason.references() {
             References::Entries(entries) => found.add_changes(refused, entries, scratch)?,
             References::Branches { i1, l1, i2, l2 } => {
-                add_joins(&mut found.exchanges, refused, Join { i1, l1, i2, l2 });
+                let sketches = Sketches::find(refused)?;
+                let join = Join { i1, l1, i2, l2 };
+                add_joins(&mut found.exchanges, refused, &sketches, join);
+                add_shifted_joins(&mut found.slips, refused, &sketches, join);
+                drop(sketches);
             }
             References::Nothing => {}
         }
@@ -90,39 +108,66 @@ impl Candidates {
         requires { length scratch.old.sums ≡ variables refused.problem.now }
         ensures { length scratch.new.sums ≡ length scratch.old.sums }
     {
-        let stated = &refused.step.constraint;
-        let Some(missing) = less_sum(refused, scratch, stated, Frac::one(), entries)? else {
-            return Ok(());
-        };
-        add_multipliers(&mut self.multipliers, refused, entries, &missing);
-        let replacements = replacements(refused, entries, &missing, scratch)?;
-        self.add_others(refused, entries, &missing, replacements.as_slice());
-        self.exchanges.0[MOST_TRIED].1 = Some(Change::Word);
+        if let Some(missing) = missing_of(refused, scratch, entries)? {
+            let sketches = or_drop!(Sketches::find(refused), missing);
+            let added = self.add_all(refused, &sketches, entries, &missing);
+            drop(sketches);
+            drop(missing);
+            added?;
+        }
         Ok(())
     }
 
+    // Adds those of a sum that lacks this.
+    fn add_all(
+        &mut self,
+        refused: Refused<'_>,
+        sketches: &Sketches,
+        entries: &[(u32, Frac)],
+        missing: &Missing,
+    ) -> Result<(), AllocError> {
+        add_multipliers(&mut self.multipliers, refused, sketches, entries, missing);
+        let replacements = replacements(refused, sketches, entries, missing)?;
+        let named = named_by(refused, entries)?;
+        self.add_others(
+            refused,
+            sketches,
+            entries.len(),
+            named.as_slice(),
+            missing,
+            &replacements,
+        );
+        self.exchanges.0[MOST_TRIED].1 = Some(Change::Word);
+        add_factor(&mut self.slips, refused, sketches, entries, missing);
+        add_shifts(&mut self.slips, refused, sketches, entries, missing)
+    }
+
     // Adds other constraints in the place of an entry, the nearest ones first, and those for one
-    // more entry.
+    // more entry behind so many.
     fn add_others(
         &mut self,
         refused: Refused<'_>,
-        entries: &[(u32, Frac)],
-        missing: &Constraint,
+        sketches: &Sketches,
+        count: usize,
+        named: &[bool],
+        missing: &Missing,
         replacements: &[Replacement],
     ) {
         for index in 0..refused.rows.next() {
-            if let Some(constraint) = constraint_at(refused, index) {
+            if let Some(sketch) = sketches.get(index) {
                 for replacement in replacements {
-                    add_exchange(&mut self.exchanges, refused, index, constraint, replacement);
-                }
-                if let Some((multiplier, off)) = factor_for(constraint, missing) {
-                    if let (Some(rank), false) = (
-                        rank_of(refused, off),
-                        has_entry(entries, index),
-                    ) {
-                        let change = Change::Entry(entries.len(), index, multiplier);
-                        self.additions.add(rank, change);
+                    if replacement.row == sketch && replacement.index != index {
+                        add_exchange(&mut self.exchanges, refused, index, replacement);
                     }
+                }
+            }
+            if let (Some(false), Some((multiplier, off))) = (
+                named.get(index as usize).copied(),
+                factor_for(refused, sketches, index, missing),
+            ) {
+                if let Some(rank) = rank_of(refused, off) {
+                    let change = Change::Entry(count, index, multiplier);
+                    self.additions.add(rank, change);
                 }
             }
         }
@@ -135,8 +180,8 @@ impl Ranking {
         Ranking([(u64::MAX, None); MOST_TRIED + 1])
     }
 
-    // Keeps a change at its place among the first ones.
-    fn add(&mut self, rank: u64, change: Change) {
+    /// Keeps a change at its place among the first ones.
+    pub(crate) fn add(&mut self, rank: u64, change: Change) {
         let mut kept = (rank, Some(change));
         for place in 0..MOST_TRIED {
             if kept.0 < self.0[place].0 {
@@ -146,85 +191,28 @@ impl Ranking {
     }
 }
 
-// Whether an entry is of a constraint.
-fn has_entry(entries: &[(u32, Frac)], index: u32) -> bool {
-    for entry in entries {
-        if entry.0 == index {
-            return true;
-        }
-    }
-    false
-}
-
-// Joins of the same four constraints, and then those with another one in the place of one, the
-// last ones first.
-fn add_joins(ranking: &mut Ranking, refused: Refused<'_>, join: Join) {
-    let Join { i1, l1, i2, l2 } = join;
-    let named = [i1, l1, i2, l2];
-    for i1 in named {
-        for l1 in named {
-            for i2 in named {
-                for l2 in named {
-                    add_join(ranking, refused, 0, Join { i1, l1, i2, l2 });
-                }
-            }
-        }
-    }
-    let own = refused.rows.next();
-    for index in 0..own {
-        let rank = own - index;
-        if has_row_of(refused, index, &refused.step.constraint) {
-            add_join(ranking, refused, rank, Join { i1: index, ..join });
-            add_join(ranking, refused, rank, Join { i2: index, ..join });
-        }
-        if is_other_side(refused, index, l2) {
-            add_join(ranking, refused, rank, Join { l1: index, ..join });
-        }
-        if is_other_side(refused, index, l1) {
-            add_join(ranking, refused, rank, Join { l2: index, ..join });
-        }
+// What a sum of these entries lacks; none past the limit.
+fn missing_of(
+    refused: Refused<'_>,
+    scratch: &mut Combination,
+    entries: &[(u32, Frac)],
+) -> Result<Option<Missing>, AllocError>
+    requires { length scratch.old.sums ≡ variables refused.problem.now }
+    ensures { length scratch.new.sums ≡ length scratch.old.sums }
+{
+    let stated = &refused.step.constraint;
+    match less_sum(refused, scratch, stated, Frac::one(), entries)? {
+        Some(constraint) => Ok(Some(Missing {
+            sketch: sketch_of(&constraint.row),
+            constraint,
+        })),
+        None => Ok(None),
     }
 }
 
-// Adds a join, if each case rests on its own assumption, and not on that of the other one.
-fn add_join(ranking: &mut Ranking, refused: Refused<'_>, rank: u32, join: Join) {
-    let Join { i1, l1, i2, l2 } = join;
-    let is_own = rests_on(refused, i1, l1) && rests_on(refused, i2, l2);
-    if is_own && !rests_on(refused, i1, l2) && !rests_on(refused, i2, l1) {
-        ranking.add(u64::from(rank), Change::Join(join));
-    }
-}
-
-// Whether a constraint rests on an assumption.
-fn rests_on(refused: Refused<'_>, index: u32, assumption: u32) -> bool {
-    match refused.rows.get(index) {
-        Some(entry) => entry.assumptions.contains(assumption),
-        None => false,
-    }
-}
-
-// Whether a constraint has the row of another one.
-fn has_row_of(refused: Refused<'_>, index: u32, other: &Constraint) -> bool {
-    match refused.rows.get(index) {
-        Some(entry) => entry.constraint.row.is_same(&other.row),
-        None => false,
-    }
-}
-
-// Whether two constraints bound a row from both sides.
-fn is_other_side(refused: Refused<'_>, index: u32, other: u32) -> bool {
-    match (refused.rows.get(index), refused.rows.get(other)) {
-        (Some(entry), Some(other)) => {
-            is_turned(entry.constraint.sense, other.constraint.sense)
-                && has_row_of(refused, index, &other.constraint)
-        }
-        _ => false,
-    }
-}
-
-// A multiple of a constraint less the sum of these entries, whatever their senses; none past the
-// limit.
-fn less_sum(
+/// A multiple of a constraint less the sum of these entries, whatever their senses; none past the
+/// limit.
+pub(crate) fn less_sum(
     refused: Refused<'_>,
     scratch: &mut Combination,
     constraint: &Constraint,
@@ -273,12 +261,26 @@ fn add_both_sides(
     Ok(())
 }
 
-// The constraint of an index that a sum may have.
-fn constraint_at(refused: Refused<'_>, index: u32) -> Option<&Constraint> {
+/// The constraint of an index that a derivation may refer to.
+pub(crate) fn constraint_at(refused: Refused<'_>, index: u32) -> Option<&Constraint> {
     match refused.problem.cons().get(index as usize) {
         Some(named) => Some(&named.item),
         None => Some(&refused.rows.get(index)?.constraint),
     }
+}
+
+// Of each constraint, whether an entry is of it.
+fn named_by(refused: Refused<'_>, entries: &[(u32, Frac)]) -> Result<Vec<bool>, AllocError> {
+    let mut named = Vec::new(refused.subject.alloc);
+    for _ in 0..refused.rows.next() {
+        named.push(false)?;
+    }
+    for entry in entries {
+        if let Some(mark) = named.get_mut(entry.0 as usize) {
+            *mark = true;
+        }
+    }
+    Ok(named)
 }
 
 // Other multipliers of the entries: that with the other sign comes first, if it gives the stated
@@ -286,83 +288,82 @@ fn constraint_at(refused: Refused<'_>, index: u32) -> Option<&Constraint> {
 fn add_multipliers(
     ranking: &mut Ranking,
     refused: Refused<'_>,
+    sketches: &Sketches,
     entries: &[(u32, Frac)],
-    missing: &Constraint,
+    missing: &Missing,
 ) {
     for (position, entry) in entries.iter().enumerate() {
         let (index, present) = *entry;
-        if let Some(constraint) = constraint_at(refused, index) {
-            if let Some((factor, off)) = factor_for(constraint, missing) {
-                if let (Some(rank), Ok(multiplier)) = (rank_of(refused, off), present.add(factor)) {
-                    let sense = constraint.sense;
-                    let is_stated = sense == refused.step.constraint.sense;
-                    let is_right = sense == Sense::E || is_stated == (factor.numer() > 0);
-                    let is_first = is_right && multiplier == present.neg();
-                    let change = Change::Entry(position, index, multiplier);
-                    ranking.add(if is_first { 0 } else { rank }, change);
-                }
+        if let (Some(constraint), Some((factor, off))) = (
+            constraint_at(refused, index),
+            factor_for(refused, sketches, index, missing),
+        ) {
+            if let (Some(rank), Ok(multiplier)) = (rank_of(refused, off), present.add(factor)) {
+                let sense = constraint.sense;
+                let is_stated = sense == refused.step.constraint.sense;
+                let is_right = sense == Sense::E || is_stated == (factor.numer() > 0);
+                let is_first = is_right && multiplier == present.neg();
+                let change = Change::Entry(position, index, multiplier);
+                ranking.add(if is_first { 0 } else { rank }, change);
             }
         }
     }
 }
 
-// For each entry the constraint that would be right in its place.
+// For each entry what would be right in its place.
 fn replacements(
     refused: Refused<'_>,
+    sketches: &Sketches,
     entries: &[(u32, Frac)],
-    missing: &Constraint,
-    scratch: &mut Combination,
-) -> Result<Vec<Replacement>, AllocError>
-    requires { length scratch.old.sums ≡ variables refused.problem.now }
-    ensures { length scratch.new.sums ≡ length scratch.old.sums }
-{
+    missing: &Missing,
+) -> Result<Vec<Replacement>, AllocError> {
     let bytes = refused.subject.text.len();
-    let pairs = MOST_PAIRS.max(bytes / 4);
-    let coefficients = MOST_COEFFICIENTS.max(bytes / 16);
-    let most = pairs / (refused.rows.next() as usize).max(1);
+    let pairs = MOST_PAIRS.max(bytes / 4) / (refused.rows.next() as usize).max(1);
+    let most = pairs.min(MOST_REPLACED.max(bytes / 16));
     let mut found = Vec::new(refused.subject.alloc);
-    let mut size: usize = 0;
-    let tried = &entries[..entries.len().min(most)];
-    for (position, entry) in tried.iter().enumerate() {
+    for (position, entry) in entries[..entries.len().min(most)].iter().enumerate() {
         let (index, multiplier) = *entry;
         if let Some(factor) = inverse(multiplier) {
-            let own = [(index, Frac::one().neg())];
-            if let Some(wanted) = less_sum(refused, scratch, missing, factor, &own)? {
-                size = size.saturating_add(wanted.row.entries().len());
+            let own = match constraint_at(refused, index) {
+                Some(constraint) => constraint.rhs,
+                None => Frac::zero(),
+            };
+            if let Some(side) = sum_of(own, factor.mul(missing.constraint.rhs).ok()) {
+                let lacking = missing.sketch.times(Residue::of(factor));
                 found.push(Replacement {
                     position,
                     index,
                     multiplier,
-                    wanted,
+                    row: sketches.get_or_zero(index).plus(lacking),
+                    side,
                 })?;
             }
-        }
-        if size > coefficients {
-            break;
         }
     }
     Ok(found)
 }
 
-// Adds a constraint in the place of an entry, if it has the row that is wanted there.
+// The sum of a number and another one that may be past the limit.
+fn sum_of(number: Frac, other: Option<Frac>) -> Option<Frac> {
+    number.add(other?).ok()
+}
+
+// Adds a constraint in the place of an entry, which has the row that is wanted there.
 fn add_exchange(
     exchanges: &mut Ranking,
     refused: Refused<'_>,
     index: u32,
-    constraint: &Constraint,
     replacement: &Replacement,
 ) {
-    let wanted = &replacement.wanted;
-    if index == replacement.index || !constraint.row.is_same(&wanted.row) {
-        return;
-    }
     let multiplier = replacement.multiplier;
-    if let Ok(gap) = constraint.rhs.add(wanted.rhs.neg()) {
-        if let Ok(off) = multiplier.mul(gap) {
-            if let Some(rank) = rank_of(refused, off) {
-                let distance = u64::from(index.abs_diff(replacement.index));
-                let change = Change::Entry(replacement.position, index, multiplier);
-                exchanges.add(rank.saturating_add(distance), change);
+    if let Some(constraint) = constraint_at(refused, index) {
+        if let Ok(gap) = constraint.rhs.add(replacement.side.neg()) {
+            if let Ok(off) = multiplier.mul(gap) {
+                if let Some(rank) = rank_of(refused, off) {
+                    let distance = u64::from(index.abs_diff(replacement.index));
+                    let change = Change::Entry(replacement.position, index, multiplier);
+                    exchanges.add(rank.saturating_add(distance), change);
+                }
             }
         }
     }
@@ -370,30 +371,32 @@ fn add_exchange(
 
 // The factor with which a constraint's row is what a sum lacks, and how far the side of the sum is
 // behind the stated one then.
-fn factor_for(constraint: &Constraint, missing: &Constraint) -> Option<(Frac, Frac)> {
-    let factor = factor_between(&constraint.row, &missing.row)?;
+fn factor_for(
+    refused: Refused<'_>,
+    sketches: &Sketches,
+    index: u32,
+    missing: &Missing,
+) -> Option<(Frac, Frac)> {
+    let constraint = constraint_at(refused, index)?;
+    let factor = factor_between(&constraint.row, sketches.get(index)?, missing)?;
     let side = factor.mul(constraint.rhs).ok()?;
-    Some((factor, side.add(missing.rhs.neg()).ok()?))
+    Some((factor, side.add(missing.constraint.rhs.neg()).ok()?))
 }
 
-// The number by which a row has to be multiplied for another one that isn't empty.
-fn factor_between(row: &Row, other: &Row) -> Option<Frac> {
-    let (given, wanted) = (row.entries(), other.entries());
-    if given.len() != wanted.len() {
+/// The number by which a row with this sketch has to be multiplied for one that is missing and
+/// isn't empty.
+pub(crate) fn factor_between(row: &Row, sketch: Residue, missing: &Missing) -> Option<Frac> {
+    let (given, wanted) = (row.entries(), missing.constraint.row.entries());
+    let (first, wanted_first) = (given.first()?, wanted.first()?);
+    if given.len() != wanted.len() || first.0 != wanted_first.0 {
         return None;
     }
-    let factor = wanted.first()?.1.mul(inverse(given.first()?.1)?).ok()?;
-    for (position, entry) in given.iter().enumerate() {
-        let (variable, coefficient) = wanted[position];
-        if entry.0 != variable || entry.1.mul(factor).ok() != Some(coefficient) {
-            return None;
-        }
-    }
-    Some(factor)
+    let factor = wanted_first.1.mul(inverse(first.1)?).ok()?;
+    (sketch.times(Residue::of(factor)) == missing.sketch).then_some(factor)
 }
 
-// 1 divided by a number.
-fn inverse(number: Frac) -> Option<Frac> {
+/// 1 divided by a number.
+pub(crate) fn inverse(number: Frac) -> Option<Frac> {
     if number.numer() < 0 {
         Frac::new(-number.denom(), -number.numer()).ok()
     } else {

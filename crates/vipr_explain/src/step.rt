@@ -1,25 +1,26 @@
 //! A derivation that is refused.
+ghost use Rattle.std.specs.Prelude.{◌≡◌, length};
 ghost use Rattle.vipr_spec.specs.Certificate.{variables};
 ghost use Rattle.vipr_explain.specs.Replays.{IsReplayOf};
 
 use crate::algebra::{Algebra, ShownName, sign_of};
-use crate::changes::{Changes, Replay, changes_of};
-use crate::decimal::write_if_past;
+use crate::changes::{Change, Changes, Replay, changes_of};
 use crate::differences::{Difference, row_differences, write_differences};
 use crate::faults::{RowFault, row_faults, write_faults};
 use crate::marks::{ItemSort, Marks, Sought};
 use crate::near::{NearSearch, is_turned, search_to};
 use crate::page::Page;
+use crate::past::write_past_in_sum;
 use crate::reason::{label_of, part_at_fault, step_indices, write_reason, write_sources};
 use crate::shown::{PlacedItems, write_last_use};
 use crate::solution::PAST_LIMIT;
-use crate::sought::Refused;
+use crate::sought::{Refused, less_sum};
 use crate::text::{Reread, Subject};
 use std::alloc::{AllocError, Global};
 use vipr_cert::{Derivation, Problem, Reason, References};
 use vipr_check::{StepDetail, cause};
 use vipr_frac::Frac;
-use vipr_linear::{Constraint, Ints, Sense, covers};
+use vipr_linear::{Combination, Constraint, Ints, Row, Sense, covers};
 use vipr_rules::{Profile, Rows};
 use vipr_scan::TextError;
 
@@ -44,7 +45,7 @@ pub(crate) struct RefusedStep<'a> {
     pub(crate) known: PlacedItems<'a>,
     facts: StepFacts,
     /// Changes with which it follows.
-    changes: Changes,
+    pub(crate) changes: Changes,
     profile: Profile,
 }
 
@@ -57,6 +58,8 @@ enum StepFacts {
     /// What keeps the row of two assumptions from being whole, and whether they are a split by the
     /// second profile.
     Pair(Vec<RowFault>, bool),
+    /// The sum of the entries in front of the one that passes the limit, with the other sign.
+    Front(Constraint),
     Nothing,
 }
 
@@ -99,6 +102,22 @@ impl<'a> RefusedStep<'a> {
         }
     }
 
+    // Writes the sense that an entry of a sum gives, and the one that the entries before it give.
+    fn write_senses(&self, page: &mut Page, position: u32) {
+        if let References::Entries(entries) = self.own.reason.references() {
+            if let Some(entry) = entries.get(position as usize) {
+                if let Some(constraint) = self.constraint(entry.0) {
+                    let is_turned = entry.1.numer() < 0;
+                    let (given, before) = match (constraint.sense, is_turned) {
+                        (Sense::L, true) | (Sense::G, false) => (">=", "<="),
+                        _ => ("<=", ">="),
+                    };
+                    write!(page, " gives {given}, and the sum before it is {before}");
+                }
+            }
+        }
+    }
+
     /// Writes its page.
     pub(crate) fn write(&self, page: &mut Page, fault: StepFault<'_>, file: &[u8]) {
         let own = &self.own;
@@ -110,6 +129,10 @@ impl<'a> RefusedStep<'a> {
             write!(page, " {at}");
         }
         page.put(behind);
+        if let (cause::MIXED_SIGNS, StepDetail::Entry(at)) = (fault.cause, fault.what) {
+            self.write_senses(page, *at);
+        }
+        page.put("\n");
         if let Some(place) = self.known.part(index) {
             let part = part_at_fault(fault, &own.reason, &self.changes);
             place.write(page, file, label_of(fault, part, &self.changes));
@@ -146,7 +169,13 @@ fn find_behind(
 ) -> Result<(Marks, StepFacts, Changes), AllocError>
     requires { IsReplayOf (variables problem.now) replay.old }
 {
-    let changes = match fault.cause {
+    let refused = Refused {
+        subject,
+        problem,
+        rows: &replay.rows,
+        step,
+    };
+    let (changes, front) = match fault.cause {
         cause::NOT_EARLIER
         | cause::DROPPED
         | cause::NOT_ASSUMPTION
@@ -154,29 +183,68 @@ fn find_behind(
         | cause::NOT_ROUNDABLE
         | cause::NOT_SPLIT
         | cause::NOT_DOMINATED => {
-            let refused = Refused {
-                subject,
-                problem,
-                rows: &replay.rows,
-                step,
-            };
-            changes_of(refused, &mut replay.scratch)?
+            let changes = changes_of(refused, &mut replay.scratch)?;
+            (without_lin(changes, fault, problem.ints()), None)
         }
-        _ => Changes::none(),
+        cause::OVERFLOW => {
+            let front = negated_front(refused, &mut replay.scratch, fault)?;
+            (Changes::none(), front)
+        }
+        _ => (Changes::none(), None),
     };
-    let wanted = step_indices(subject.alloc, fault, &step.reason, &changes)?;
+    let wanted = or_drop!(
+        step_indices(subject.alloc, fault, &step.reason, &changes),
+        front
+    );
     let sought = Sought {
         kind: ItemSort::Constraints,
         items: wanted.as_slice(),
         part: part_at_fault(fault, &step.reason, &changes),
         used: used_by(fault),
     };
-    let marks = Marks::find(subject.alloc, subject.text, sought)?;
-    let facts = or_drop!(
-        StepFacts::find(subject.alloc, fault.what, problem.ints()),
-        marks
-    );
+    let marks = or_drop!(Marks::find(subject.alloc, subject.text, sought), front);
+    let facts = match front {
+        Some(front) => StepFacts::Front(front),
+        None => or_drop!(
+            StepFacts::find(subject.alloc, fault.what, problem.ints()),
+            marks
+        ),
+    };
     Ok((marks, facts, changes))
+}
+
+// The sum of the entries in front of the one at fault, with the other sign.
+fn negated_front(
+    refused: Refused<'_>,
+    scratch: &mut Combination,
+    fault: StepFault<'_>,
+) -> Result<Option<Constraint>, AllocError>
+    requires { length scratch.old.sums ≡ variables refused.problem.now }
+{
+    match (fault.what, refused.step.reason.references()) {
+        (StepDetail::Entry(position), References::Entries(entries)) => {
+            let front = &entries[..entries.len().min(*position as usize)];
+            let stated = &refused.step.constraint;
+            less_sum(refused, scratch, stated, Frac::zero(), front)
+        }
+        _ => Ok(None),
+    }
+}
+
+// Changes without `lin` in place of `rnd`, if a variable of the sum isn't an integer one: it is
+// likelier that INT lacks it.
+fn without_lin(mut changes: Changes, fault: StepFault<'_>, ints: &Ints) -> Changes {
+    if let (StepDetail::Sum(sum), Some(Change::Word)) = (fault.what, changes.exchange) {
+        if !are_integer(&sum.row, ints) {
+            changes.exchange = None;
+        }
+    }
+    changes
+}
+
+// Whether each variable of a row is an integer one.
+fn are_integer(row: &Row, ints: &Ints) -> bool {
+    row.entries().iter().all(|entry| ints.contains(entry.0))
 }
 
 // The constraint whose last use is looked for, if the cause is that it was dropped.
@@ -220,15 +288,15 @@ fn are_opposite(differences: &[Difference]) -> bool {
 // What is said of a cause, in front of the number at fault and behind it.
 fn words_of(cause: u8) -> (&'static str, &'static str) {
     match cause {
-        cause::NOT_EARLIER => ("names constraint", ", which is not earlier\n"),
-        cause::DROPPED => ("needs constraint", ", which was dropped\n"),
-        cause::NOT_ASSUMPTION => ("takes constraint", " for an assumption, which it is not\n"),
-        cause::MIXED_SIGNS => ("turns a sense around at entry", " of its sum\n"),
-        cause::OVERFLOW => ("passes 2^127 - 1 at entry", " of its sum\n"),
-        cause::NOT_ROUNDABLE => ("has a sum that can't be rounded\n", ""),
-        cause::NOT_SPLIT => ("has two assumptions that are no split\n", ""),
-        cause::NOT_DOMINATED => ("does not follow from its reason\n", ""),
-        _ => ("needs a listed solution\n", ""),
+        cause::NOT_EARLIER => ("names constraint", ", which is not earlier"),
+        cause::DROPPED => ("needs constraint", ", which was dropped"),
+        cause::NOT_ASSUMPTION => ("takes constraint", " for an assumption, which it is not"),
+        cause::MIXED_SIGNS => ("has a sum of both senses: entry", ""),
+        cause::OVERFLOW => ("passes 2^127 - 1 at entry", " of its sum"),
+        cause::NOT_ROUNDABLE => ("has a sum that can't be rounded", ""),
+        cause::NOT_SPLIT => ("has two assumptions that are no split", ""),
+        cause::NOT_DOMINATED => ("does not follow from its reason", ""),
+        _ => ("needs a listed solution", ""),
     }
 }
 
@@ -248,8 +316,8 @@ fn write_facts(page: &mut Page, refused: &RefusedStep<'_>, reason: &Reason, faul
             page.put(match reason.references() {
                 References::Entries(entries)
                     if entries.len() > 1 && is_negated(computed.sense, stated, differences) => {
-                    "  = help: each coefficient has the other sign: has each multiplier the wrong \
-                     one?\n"
+                    "  = help: each coefficient has the other sign: does every multiplier have \
+                     the wrong sign?\n"
                 }
                 _ if !refused.changes.is_empty() => "",
                 References::Nothing => {
@@ -271,7 +339,7 @@ fn write_facts(page: &mut Page, refused: &RefusedStep<'_>, reason: &Reason, faul
             if refused.changes.is_empty() {
                 page.put(
                     "  = help: a sum is rounded if all coefficients are whole, and all its \
-                     variables are integer ones\n",
+                     variables are integer ones: is `lin` meant, which doesn't round?\n",
                 );
             }
         }
@@ -286,27 +354,16 @@ fn write_facts(page: &mut Page, refused: &RefusedStep<'_>, reason: &Reason, faul
                 write_faults(page, problem, faults);
             }
         }
-        (StepDetail::Entry(position), _) if fault.cause == cause::OVERFLOW => {
+        (StepDetail::Entry(position), StepFacts::Front(front)) => {
             if let References::Entries(entries) = reason.references() {
                 if let Some(entry) = entries.get(*position as usize) {
-                    write_overflow(page, refused, entry.0, entry.1);
+                    if let Some(constraint) = refused.constraint(entry.0) {
+                        write_past_in_sum(page, problem, front, constraint, entry.1);
+                    }
                 }
             }
         }
         _ => {}
-    }
-}
-
-// Writes what is past the limit if a multiple of a constraint is added.
-fn write_overflow(page: &mut Page, refused: &RefusedStep<'_>, index: u32, multiplier: Frac) {
-    if let Some(constraint) = refused.constraint(index) {
-        for term in constraint.row.entries() {
-            if write_if_past(page, &refused.known.problem, multiplier, *term) {
-                return;
-            }
-        }
-        write!(page, "    adding {multiplier} x [{index}] ");
-        page.put("makes a number of more than 127 bits\n");
     }
 }
 

@@ -5,7 +5,7 @@ use crate::excerpt::{Excerpt, part_of};
 use crate::hints::write_hint;
 use crate::page::Page;
 use crate::text::Span;
-use crate::wanted::{Section, TextProgress, Wanted};
+use crate::wanted::{Section, TextProgress, Wanted, is_word};
 use crate::wanted_words::write_wanted;
 use crate::words::{TextWord, Words};
 use vipr_check::cause;
@@ -17,6 +17,8 @@ pub(crate) struct FaultToken {
     /// The name of the item that the token is in, empty before that is read.
     name: Span,
     word: Span,
+    /// Whether a variable has the name `INT`.
+    pub(crate) has_name_int: bool,
     /// Whether the text ends before the token. Then `word` is the last one.
     is_end: bool,
 }
@@ -29,6 +31,7 @@ impl FaultToken {
             progress: TextProgress::start(),
             name: nothing,
             word: nothing,
+            has_name_int: false,
             is_end: true,
         }
     }
@@ -42,6 +45,9 @@ impl FaultToken {
         }
         if let Wanted::Name = self.progress.wanted {
             self.name = self.word;
+            if is_word(word.bytes, "INT") && matches!(self.progress.section, Section::Variables) {
+                self.has_name_int = true;
+            }
         }
         self.progress.pass(word.bytes);
     }
@@ -53,6 +59,7 @@ pub(crate) struct TextFault<'a> {
     pub(crate) found: FaultToken,
     pub(crate) name: &'a [u8],
     pub(crate) word: &'a [u8],
+    pub(crate) text: &'a [u8],
     /// Whether the text ends with the token's last byte.
     is_last: bool,
     place: Excerpt<'a>,
@@ -73,6 +80,7 @@ impl<'a> TextFault<'a> {
             found,
             name: part_of(text, found.name),
             word: part_of(text, found.word),
+            text,
             is_last: ends_text(found.word, text),
             place: Excerpt::of(text, found.word),
         }
@@ -86,7 +94,7 @@ impl<'a> TextFault<'a> {
             let label = if self.word.is_empty() {
                 "no token is here"
             } else {
-                "the text ends behind this"
+                "the text ends after this"
             };
             ("the text ends where this is wanted: ", label)
         } else {
@@ -94,7 +102,7 @@ impl<'a> TextFault<'a> {
         };
         write!(page, "error: {fault}: ");
         if cause == cause::TRAILING_TEXT {
-            page.put("text behind the last derivation");
+            page.put("text after the last derivation");
         } else {
             page.put(wanted);
             write_wanted(page, progress);

@@ -88,6 +88,16 @@ pub(crate) fn is_spelled(word: &[u8], words: &[&[u8]]) -> bool {
     false
 }
 
+/// Whether a token is one of these words.
+pub(crate) fn is_any(word: &[u8], words: &[&[u8]]) -> bool {
+    for other in words {
+        if word == *other {
+            return true;
+        }
+    }
+    false
+}
+
 /// The keyword that these bytes are, but for capitals.
 pub(crate) fn keyword_of(word: &[u8]) -> Option<&'static str> {
     for keyword in KEYWORDS {

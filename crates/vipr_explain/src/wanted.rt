@@ -177,6 +177,11 @@ impl TextProgress {
         }
     }
 
+    /// Passes the tokens of a derivation in front of the brace that closes its reason.
+    pub(crate) fn pass_to_brace(&mut self) {
+        self.wanted = Wanted::CloseBrace;
+    }
+
     // Ends the section.
     fn end_section(&mut self) {
         match self.section.next() {

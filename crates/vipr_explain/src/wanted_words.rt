@@ -35,6 +35,7 @@ const WORDS: [&str; 24] = [
 pub(crate) fn write_wanted(page: &mut Page, progress: &TextProgress) {
     let (part, parts) = (progress.part, progress.parts);
     page.put(match (progress.wanted, progress.section) {
+        (Wanted::RowCount, Section::Solutions) => "the number of values, a count in digits",
         (Wanted::RowCoefficient, Section::Solutions) => "the value of pair",
         (wanted, _) => WORDS[wanted as usize],
     });

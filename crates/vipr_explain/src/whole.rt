@@ -33,7 +33,7 @@ enum Findings<'a> {
 
 /// The page that explains a verdict for people: the place at fault, what is wanted there, and what
 /// is likely to be wrong. The text is the one that was checked, by the rules of `profile`; `file`
-/// is its name, and `text` is `None` if a read failed behind what is refused. There is no page if a
+/// is its name, and `text` is `None` if a read failed after what is refused. There is no page if a
 /// growth is refused.
 pub fn page_for(
     alloc: Global,
@@ -44,7 +44,7 @@ pub fn page_for(
     detail: &Detail,
 ) -> Option<Page> {
     let Some(text) = text else {
-        let why = "\na read failed behind what is refused, so it isn't explained\n";
+        let why = "\na read failed after what is refused, so it isn't explained\n";
         return Page::begun(alloc, why).end();
     };
     let subject = Subject {

@@ -51,6 +51,15 @@ impl<'a> Words<'a> {
         Some(word)
     }
 
+    /// Passes what is in front of the next byte that is this one, or all if there is none.
+    pub(crate) fn pass_to(&mut self, byte: u8)
+        ensures { length self.new.rest.now ≤ length self.old.rest.now }
+    {
+        let rest = self.rest;
+        let count = rest.iter().take_while(|other| **other != byte).count();
+        self.pass(count);
+    }
+
     // Passes so many bytes.
     fn pass(&mut self, count: usize)
         requires { count ≤ length self.old.rest.now }

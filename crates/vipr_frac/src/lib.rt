@@ -7,8 +7,10 @@ mod gcd;
 mod number;
 mod pairs;
 mod partial;
+mod short;
 mod words;
 
 pub use frac::{Frac, FracError, Overflow};
 pub use number::{NumberError, front_natural, lone_digit};
 pub use partial::Partial;
+pub use short::ShortFrac;

@@ -1,6 +1,6 @@
 //! Fractions whose parts are words of 64 bits, and may have a common divisor.
-ghost use Rattle.std.specs.Prelude.{◌≡◌, ◌↔◌, ◌*◌, ◌/◌, ◌<◌, ◌^◌, ℕ, pos, ◌+ℤ◌, ◌*ℤ◌, IsTrue};
-ghost use Rattle.std.specs.Prelude.{IfSome, MatchOption, FitsSigned};
+ghost use Rattle.std.specs.Prelude.{◌≡◌, ◌↔◌, ◌*◌, ◌/◌, ◌<◌, ◌^◌, ℕ, pos, ◌+ℤ◌, ◌*ℤ◌, ◌≤ℤ◌};
+ghost use Rattle.std.specs.Prelude.{IsTrue, IfSome, MatchOption, FitsSigned};
 ghost use Rattle.std.specs.Int.{w64};
 ghost use Rattle.vipr_spec.specs.Fraction.{over, ◌+ℚ◌};
 ghost use Rattle.vipr_frac.specs.Parts.{AreWords, IsWordDenom};
@@ -83,6 +83,16 @@ pub(crate) fn are_equal(p: i64, q: u64, r: i64, s: u64) -> bool
     ensures { IsTrue result ↔ (p *ℤ pos s ≡ r *ℤ pos q) }
 {
     product(p, s) == product(r, q)
+}
+
+/// Whether the first of two fractions is at most the second, by their cross products.
+#[inline(always)]
+pub(crate) fn are_ordered(p: i64, q: u64, r: i64, s: u64) -> bool
+    requires left { q < 2 ^ 63 }
+    requires right { s < 2 ^ 63 }
+    ensures { IsTrue result ↔ ((p *ℤ pos s) ≤ℤ (r *ℤ pos q)) }
+{
+    product(p, s) <= product(r, q)
 }
 
 /// The sum of two fractions, the second of which has n times the denominator of the first.

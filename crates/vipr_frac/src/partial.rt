@@ -2,12 +2,13 @@
 ghost use Rattle.std.specs.Prelude.{◌≡◌, ◌↔◌, ◌<◌, ◌≤◌, ◌^◌, IsTrue, IsOk, IfOk, IfSome, IsSome};
 ghost use Rattle.std.specs.Prelude.{IsFalse, MatchOption, OnOk, OnErr, unsigned_abs, FitsSigned};
 ghost use Rattle.std.specs.Int.{w64};
-ghost use Rattle.vipr_spec.specs.Fraction.{over, zero_ℚ, ◌+ℚ◌, ◌*ℚ◌, SumFits, ProductFits};
+ghost use Rattle.vipr_spec.specs.Fraction.{over, zero_ℚ, ◌+ℚ◌, ◌*ℚ◌, ◌≤ℚ◌, SumFits};
+ghost use Rattle.vipr_spec.specs.Fraction.{ProductFits};
 ghost use Rattle.vipr_frac.specs.Parts.{AddsProduct, AreReduced, IsPartial, IsWordDenom};
 ghost use Rattle.vipr_frac.specs.Parts.{PutsOrKeeps};
 
 use crate::frac::{Frac, Overflow, of_parts, reduced_words};
-use crate::pairs::{are_equal, is_word, mixed_sum, pair_product, raised_sum, words};
+use crate::pairs::{are_equal, are_ordered, is_word, mixed_sum, pair_product, raised_sum, words};
 use std::alloc::AllocError;
 use std::marker::Model;
 
@@ -234,6 +235,28 @@ impl Partial {
         match (words(self.p, self.q), words(r, s)) {
             (Some((p, q)), Some((r, s))) => are_equal(p, q, r, s),
             _ => self.value() == fraction,
+        }
+    }
+
+    /// Whether it is at most this fraction.
+    pub fn is_at_most(&self, fraction: Frac) -> bool
+        ensures { IsTrue result ↔ self.now ≤ℚ fraction }
+    {
+        let (r, s) = fraction.parts();
+        match (words(self.p, self.q), words(r, s)) {
+            (Some((p, q)), Some((r, s))) => are_ordered(p, q, r, s),
+            _ => self.value() <= fraction,
+        }
+    }
+
+    /// Whether it is at least this fraction.
+    pub fn is_at_least(&self, fraction: Frac) -> bool
+        ensures { IsTrue result ↔ fraction ≤ℚ self.now }
+    {
+        let (r, s) = fraction.parts();
+        match (words(self.p, self.q), words(r, s)) {
+            (Some((p, q)), Some((r, s))) => are_ordered(r, s, p, q),
+            _ => fraction <= self.value(),
         }
     }
 

@@ -7,7 +7,7 @@ use Rattle.std.proofs.lemmas.List.{get_or_append_left, get_or_push, length_push,
 use Rattle.std.proofs.lemmas.List.{length-map, map-set, get_or_past, get_or-replicate}
 use Rattle.std.proofs.lemmas.List.{length-replicate}
 use Rattle.std.proofs.{lemmas.Bool.cases_eq, lemmas.Bool.cases_lt, lemmas.Simd.map-map}
-use Rattle.std.specs.Prelude.{slice_set, Result, IsOk, IsErr, OnOk}
+use Rattle.std.specs.Prelude.{slice_set, Result, Ok, Err, IsOk, IsErr, OnOk, OnErr}
 use Rattle.std.specs.FinMap.{empty, entries, len-entries, len-empty}
 use Rattle.std.specs.{Global.Global, Result.is_ok}
 use Rattle.vipr_spec.specs.Fraction.{ℚ, zero_ℚ, ◌+ℚ◌, ◌*ℚ◌, IsBounded}
@@ -24,7 +24,10 @@ use Rattle.vipr_cert.specs.{Items.named_of, declared.items.Named.Named}
 use Rattle.vipr_spec.specs.Certificate as is
 use Rattle.vipr_rules.specs.Solution.{PassesAll, tests_at, tests_below}
 use Rattle.vipr_rules.specs.declared.bounds.Bounds.{Bounds}
+use Rattle.vipr_rules.specs.declared.coefficient.Coefficient.{Coefficient}
+use Rattle.vipr_rules.specs.declared.coefficient.Coefficient.TheVariants.{Short, Listed}
 use Rattle.vipr_rules.specs.Columns.{given_in, nth, given_of, OccursFrom, HasRow, IsPlace}
+use Rattle.vipr_rules.specs.Columns.{IsCoefficientOf, IsCoefficientIn, ColumnEntry, no_entry}
 use Rattle.vipr_rules.specs.Columns.{ArePlaces, column_at, AreColumns, IsSummed, IsCounted, AreSums}
 use Rattle.vipr_rules.specs.Columns.{AreFalseAtZero, IsMet, AreMet, LiesWithin, AreBounds}
 use Rattle.vipr_rules.proofs.SolutionLemmas.{TrueUpTo, true_next, all_true, given_below}
@@ -107,46 +110,44 @@ module _ (row : Row) (es : List (ℕ × ℚ)) (list : es ≡ entries row) (r : R
       ((names_known row n listed_rise).1 names k d (subst (λ xs. k < length xs) list l))
 
 -- ---- where a variable stands
-later : (cs : List Constraint) (i j : ℕ) (e : ℕ × ℕ) → IsPlace cs i j e → IsPlace cs (i + 1) j e
-later cs i j e h = let l : e.0 < i = h.0 in (omega (arith, l), h.1, h.2)
+later : (cs : List Constraint) (i j : ℕ) (e : ColumnEntry) → IsPlace cs i j e → IsPlace cs (i + 1) j e
+later cs i j e h = let l : e.0 < i = h.0 in (omega (arith, l), h.1)
 
-module _ (o : Row) (cs : List Constraint) (i j : ℕ) (places : List (ℕ × ℕ)) (is : ArePlaces o cs i j places) where
+module _ (o : Row) (cs : List Constraint) (i j : ℕ) (places : List ColumnEntry) (is : ArePlaces o cs i j places) where
   pub places_same : HasRow o (nth cs i) ⊎ (at (nth cs i).row j ≡ zero_ℚ) → ArePlaces o cs (i + 1) j places
   places_same none = search (rules, later, cases_lt)
 
-  module _ (k : ℕ) where
-    left : (m : ℕ) → m < length places → get_or (places ++ (i, k) ∷ []) m (0, 0) ≡ get_or places m (0, 0)
-    left m l = get_or_append_left places ((i, k) ∷ []) (0, 0) m l
+  module _ (a : Coefficient) where
+    left : (m : ℕ) → m < length places → get_or (places ++ (i, a) ∷ []) m no_entry ≡ get_or places m no_entry
+    left m l = get_or_append_left places ((i, a) ∷ []) no_entry m l
 
-    last : (m : ℕ) → m < length (places ++ (i, k) ∷ []) → length places ≤ m
-        → get_or (places ++ (i, k) ∷ []) m (0, 0) ≡ (i, k)
-    last m l past = get_or_push places (i, k) (0, 0) m (let n = length_push places (i, k) in omega (arith, n, l, past))
+    last : (m : ℕ) → m < length (places ++ (i, a) ∷ []) → length places ≤ m
+        → get_or (places ++ (i, a) ∷ []) m no_entry ≡ (i, a)
+    last m l past = get_or_push places (i, a) no_entry m (let n = length_push places (i, a) in omega (arith, n, l, past))
 
-    pub places_more : k < length (entries (nth cs i).row)
-        → get_or (entries (nth cs i).row) k (0, zero_ℚ) ≡ (j, at (nth cs i).row j)
-        → ArePlaces o cs (i + 1) j (places ++ (i, k) ∷ [])
-    places_more l e = search (rules, cases_lt, left, later, last, length_push)
+    pub places_more : IsCoefficientIn (nth cs i) j a → ArePlaces o cs (i + 1) j (places ++ (i, a) ∷ [])
+    places_more is_in = search (rules, cases_lt, left, later, last, length_push)
 
 -- ---- columns
 abbrev pub Columns : Type 0
-Columns = List (Vec (ℕ × ℕ) Global)
+Columns = List (Vec ColumnEntry Global)
 
 module _ (columns : Columns) (v : ℕ) (l : v < length columns) where
-  pub column_read : (y : Vec (ℕ × ℕ) Global) → y ≡ get_or columns v y → column_at columns v ≡ y.items
-  column_read y e = get_or-map (λ (w : Vec (ℕ × ℕ) Global). w.items) columns v y [] l
-      ∙ ap (λ (w : Vec (ℕ × ℕ) Global). w.items) (sym e)
+  pub column_read : (y : Vec ColumnEntry Global) → y ≡ get_or columns v y → column_at columns v ≡ y.items
+  column_read y e = get_or-map (λ (w : Vec ColumnEntry Global). w.items) columns v y [] l
+      ∙ ap (λ (w : Vec ColumnEntry Global). w.items) (sym e)
 
-  module _ (y : Vec (ℕ × ℕ) Global) where
-    set_is : map (λ (w : Vec (ℕ × ℕ) Global). w.items) (slice_set columns v y) ≡ slice_set
-        (map (λ (w : Vec (ℕ × ℕ) Global). w.items) columns) v y.items
-    set_is = map-set (λ (w : Vec (ℕ × ℕ) Global). w.items) columns v y
+  module _ (y : Vec ColumnEntry Global) where
+    set_is : map (λ (w : Vec ColumnEntry Global). w.items) (slice_set columns v y) ≡ slice_set
+        (map (λ (w : Vec ColumnEntry Global). w.items) columns) v y.items
+    set_is = map-set (λ (w : Vec ColumnEntry Global). w.items) columns v y
 
     column_here : column_at (slice_set columns v y) v ≡ y.items
     column_here = search (rules, set_is, get_or-set_same, length-map)
 
     column_other : (j : ℕ) → j ≢ v → column_at (slice_set columns v y) j ≡ column_at columns j
     column_other j n = ap (λ xs. get_or xs j []) set_is
-        ∙ get_or-set_other (map (λ (w : Vec (ℕ × ℕ) Global). w.items) columns) v j y.items [] n
+        ∙ get_or-set_other (map (λ (w : Vec ColumnEntry Global). w.items) columns) v j y.items [] n
 
 -- entries from place c of constraint i on are still to be added to their columns
 pub record AreHalf (o : Row) (cs : List Constraint) (i : ℕ) (es : List (ℕ × ℚ)) (c : ℕ)
@@ -167,8 +168,8 @@ module _ (o : Row) (cs : List Constraint) (i : ℕ) (row : Row) (same : (nth cs 
   half_start columns all = search (rules, zero_or_occurs, places_same)
 
   module _ (columns : Columns) (c : ℕ) (p : ℕ × ℚ) (l : c < length es) (e : p ≡ get_or es c p)
-      (within : p.0 < length columns) (y : Vec (ℕ × ℕ) Global)
-      (pushed : y.items ≡ column_at columns p.0 ++ (i, c) ∷ []) where
+      (within : p.0 < length columns) (y : Vec ColumnEntry Global) (a : Coefficient)
+      (is_of : IsCoefficientOf p.1 c a) (pushed : y.items ≡ column_at columns p.0 ++ (i, a) ∷ []) where
     here : get_or es c (0, zero_ℚ) ≡ p
     here = there es c (0, zero_ℚ) p l e
 
@@ -178,15 +179,21 @@ module _ (o : Row) (cs : List Constraint) (i : ℕ) (row : Row) (same : (nth cs 
     in_length : c < length (entries (nth cs i).row)
     in_length = subst (λ xs. c < length xs) (list ∙ ap entries (sym same)) l
 
+    in_constraint : (b : Coefficient) → IsCoefficientOf p.1 c b → IsCoefficientIn (nth cs i) p.0 b
+    in_constraint (Short x) is = is
+        ∙ sym (subst (λ (q : ℕ × ℚ). at row q.0 ≡ q.1) here (at_entry row es list r c (0, zero_ℚ) l))
+        ∙ ap (λ (w : Row). at w p.0) (sym same)
+    in_constraint (Listed k) is = subst (λ m. IsCoefficientIn (nth cs i) p.0 (Listed m)) (sym is) (in_length, in_row)
+
     pub half_next : AreHalf o cs i es c columns → AreHalf o cs i es (c + 1) (slice_set columns p.0 y)
     half_next half = record {
-      before = λ k a b.
-          let less = rising_from 0 es c k (0, zero_ℚ) r (omega (arith, a)) b in
+      before = λ k f b.
+          let less = rising_from 0 es c k (0, zero_ℚ) r (omega (arith, f)) b in
           let apart : (get_or es k (0, zero_ℚ)).0 ≢ p.0 =
           λ q. absurd (let h = ap (λ (x : ℕ × ℚ). x.0) here in omega (arith, q, h, less)) in
           subst (ArePlaces o cs i (get_or es k (0, zero_ℚ)).0)
           (sym (column_other columns p.0 within y _ apart))
-          (half.before k (omega (arith, a)) b);
+          (half.before k (omega (arith, f)) b);
       after = λ j. elim (cases_eq j p.0) [
         | inl q ↦ inl (subst (λ v. ArePlaces o cs (i + 1) v (column_at (slice_set columns p.0 y) v)) (sym q) now)
         | inr apart ↦ elim (half.after j) [
@@ -203,7 +210,7 @@ module _ (o : Row) (cs : List Constraint) (i : ℕ) (row : Row) (same : (nth cs 
 
         now : ArePlaces o cs (i + 1) p.0 (column_at (slice_set columns p.0 y) p.0)
         now = subst (ArePlaces o cs (i + 1) p.0) (sym (column_here columns p.0 within y ∙ pushed))
-            (places_more o cs i p.0 (column_at columns p.0) was c in_length in_row)
+            (places_more o cs i p.0 (column_at columns p.0) was a (in_constraint a is_of))
 
 -- ---- one more variable
 module _ (row : Row) (x : Point) where
@@ -260,13 +267,13 @@ sums_gap o cs x sums a b le none all i l = counted_by o cs x a b i sums sums
 
 -- ---- one more column
 -- the product is added to the sum of each constraint but of those that stand from place c on
-pub record AreHalfSums (o : Row) (cs : List Constraint) (x : Point) (j : ℕ) (places : List (ℕ × ℕ))
+pub record AreHalfSums (o : Row) (cs : List Constraint) (x : Point) (j : ℕ) (places : List ColumnEntry)
     (c : ℕ) (sums : List ℚ) : Type 0 where
-  pub before : (k : ℕ) → c ≤ k → k < length places → IsCounted o cs x j sums (get_or places k (0, 0)).0
+  pub before : (k : ℕ) → c ≤ k → k < length places → IsCounted o cs x j sums (get_or places k no_entry).0
   pub after : (i : ℕ) → i < length sums → IsCounted o cs x (j + 1) sums i
-      ⊎ OccursFrom (λ (e : ℕ × ℕ). e.0) (0, 0) c places i
+      ⊎ OccursFrom (λ (e : ColumnEntry). e.0) no_entry c places i
 
-module _ (o : Row) (cs : List Constraint) (x : Point) (j n : ℕ) (places : List (ℕ × ℕ))
+module _ (o : Row) (cs : List Constraint) (x : Point) (j n : ℕ) (places : List ColumnEntry)
     (is : ArePlaces o cs n j places) where
   pub half_sums_start : (sums : List ℚ) → length sums ≡ n → AreSums o cs x j sums → AreHalfSums o cs x j places 0 sums
   half_sums_start sums many all = grind (arith, sum_same)
@@ -275,11 +282,11 @@ module _ (o : Row) (cs : List Constraint) (x : Point) (j n : ℕ) (places : List
       → AreHalfSums o cs x j places c sums → AreSums o cs x (j + 1) sums
   half_sums_end sums c past half i l = search (rules, none_occur)
 
-  module _ (sums : List ℚ) (c : ℕ) (p : ℕ × ℕ) (l : c < length places) (e : p ≡ get_or places c p)
+  module _ (sums : List ℚ) (c : ℕ) (p : ColumnEntry) (l : c < length places) (e : p ≡ get_or places c p)
       (within : p.0 < length sums) (a b : ℚ) (coefficient_read : a ≡ at (nth cs p.0).row j)
       (coordinate : x j ≡ b) (fits : TermFits (get_or sums p.0 zero_ℚ) a b) where
-    here_place : get_or places c (0, 0) ≡ p
-    here_place = there places c (0, 0) p l e
+    here_place : get_or places c no_entry ≡ p
+    here_place = there places c no_entry p l e
 
     abbrev new : ℚ
     new = get_or sums p.0 zero_ℚ +ℚ a *ℚ b
@@ -293,23 +300,23 @@ module _ (o : Row) (cs : List Constraint) (x : Point) (j n : ℕ) (places : List
     half_sums_next half = record {
       before = λ k f m.
           let less = is.rising c k (omega (arith, f)) m in
-          let apart : (get_or places k (0, 0)).0 ≢ p.0 =
-          λ q. absurd (let h = ap (λ (y : ℕ × ℕ). y.0) here_place in omega (arith, q, h, less))
+          let apart : (get_or places k no_entry).0 ≢ p.0 =
+          λ q. absurd (let h = ap (λ (y : ColumnEntry). y.0) here_place in omega (arith, q, h, less))
           in
-          other (get_or places k (0, 0)).0 apart j (half.before k (omega (arith, f)) m);
+          other (get_or places k no_entry).0 apart j (half.before k (omega (arith, f)) m);
       after = λ i m. elim (cases_eq i p.0) [
         | inl q ↦ inl (subst (IsCounted o cs x (j + 1) (with_term sums a (p.0, b))) (sym q) now)
         | inr apart ↦ elim (half.after i (let s = length-set sums p.0 new in omega (arith, m, s))) [
           | inl h ↦ inl (other i apart (j + 1) h)
           | inr s ↦ inr
-              (occurs_later (λ (y : ℕ × ℕ). y.0) (0, 0) places c i
-              (λ q. apart (sym (sym (ap (λ (y : ℕ × ℕ). y.0) here_place) ∙ q))) s)
+              (occurs_later (λ (y : ColumnEntry). y.0) no_entry places c i
+              (λ q. apart (sym (sym (ap (λ (y : ColumnEntry). y.0) here_place) ∙ q))) s)
         ]
       ];
     }
       where
         was : IsCounted o cs x j sums p.0
-        was = subst (λ (q : ℕ × ℕ). IsCounted o cs x j sums q.0) here_place (half.before c (omega arith) l)
+        was = subst (λ (q : ColumnEntry). IsCounted o cs x j sums q.0) here_place (half.before c (omega arith) l)
 
         now : IsCounted o cs x (j + 1) (with_term sums a (p.0, b)) p.0
         now = counted_by o cs x j (j + 1) p.0 sums (with_term sums a (p.0, b))
@@ -495,10 +502,24 @@ pub given_entries : (cons : List (Named Item)) (i : ℕ) (n : Named Item) → i 
 given_entries cons i n l e es list = ap (λ (c : Constraint). entries c.row) (given_nth cons i n l e)
     ∙ ap (λ (m : Named Item). entries m.item.row) e ∙ sym list
 
-pub place_read : (cs : List Constraint) (n j : ℕ) (e : ℕ × ℕ) → IsPlace cs n j e
-    → (es : List (ℕ × ℚ)) → entries (nth cs e.0).row ≡ es → (p : ℕ × ℚ) → p ≡ get_or es e.1 p
-    → p.1 ≡ at (nth cs e.0).row j
-place_read cs n j e h es same p is = search (rules, there)
+-- what an entry of a column has
+pub short_place : (cs : List Constraint) (n j : ℕ) (e : ColumnEntry) (a : ℚ) → e.1 ≡ Short a
+    → IsPlace cs n j e → a ≡ at (nth cs e.0).row j
+short_place cs n j e a is h = subst (IsCoefficientIn (nth cs e.0) j) is h.1
+
+pub listed_place : (cs : List Constraint) (n j : ℕ) (e : ColumnEntry) (k : ℕ) → e.1 ≡ Listed k
+    → IsPlace cs n j e → IsCoefficientIn (nth cs e.0) j (Listed k)
+listed_place cs n j e k is h = subst (IsCoefficientIn (nth cs e.0) j) is h.1
+
+-- sums stay as many if a product is added or refused
+pub added_length : {E : Type 0} (r : Result (Unit {0}) E) (xs ys : List ℚ) (a : ℚ) (t : ℕ × ℚ)
+    → OnOk r (ys ≡ with_term xs a t) → OnErr r (ys ≡ xs) → length ys ≡ length xs
+added_length (Ok u) xs ys a t sum kept = ap length sum ∙ length-set xs t.0 _
+added_length (Err e) xs ys a t sum kept = ap length kept
+
+pub listed_read : (c : Constraint) (j k : ℕ) → IsCoefficientIn c j (Listed k) → (es : List (ℕ × ℚ))
+    → entries c.row ≡ es → (p : ℕ × ℚ) → p ≡ get_or es k p → p.1 ≡ at c.row j
+listed_read c j k h es same p is = search (rules, there)
 
 pub as_many : (cons : List (Named Item)) → length (given_of cons) ≡ length cons
 as_many cons = length-map cons (λ (m : Named Item). constraint_of m.item)

@@ -10,6 +10,8 @@ use Rattle.vipr_linear.specs.Constraint.{constraint_of}
 use Rattle.vipr_linear.specs.declared.constraint.Constraint.{Constraint as Item}
 use Rattle.vipr_cert.specs.declared.items.Named.{Named}
 use Rattle.vipr_rules.specs.{declared.bounds.Bounds.Bounds, declared.columns.Columns.Columns}
+use Rattle.vipr_rules.specs.declared.coefficient.Coefficient.{Coefficient}
+use Rattle.vipr_rules.specs.declared.coefficient.Coefficient.TheVariants.{Short, Listed}
 
 -- constraint i of a list
 abbrev pub nth : List Constraint → ℕ → Constraint
@@ -51,26 +53,41 @@ AreBounds row cs n b = (v : ℚ) → LiesWithin b v ↔ ((i : ℕ) → i < n →
 
 -- ---- columns of the constraints that don't have the objective's row
 
--- entry e.1 of constraint e.0 is that of the variable j
-abbrev pub IsPlace : List Constraint → ℕ → ℕ → ℕ × ℕ → Type 0
-IsPlace cs n j e =
-    (e.0 < n) × (e.1 < length (entries (nth cs e.0).row))
-    × (slice_index_or (entries (nth cs e.0).row) e.1 (0, zero_ℚ) ≡ (j, at (nth cs e.0).row j))
+-- it is this value, or this place where the value is listed
+abbrev pub IsCoefficientOf : ℚ → ℕ → Coefficient → Type 0
+IsCoefficientOf x k (Short a) = a ≡ x
+IsCoefficientOf x k (Listed place) = place ≡ k
+
+-- it is the coefficient of the variable j in a constraint, or the place of its entry there
+abbrev pub IsCoefficientIn : Constraint → ℕ → Coefficient → Type 0
+IsCoefficientIn c j (Short a) = a ≡ at c.row j
+IsCoefficientIn c j (Listed place) = (place < length (entries c.row))
+    × (slice_index_or (entries c.row) place (0, zero_ℚ) ≡ (j, at c.row j))
+
+-- the index of a constraint, with a coefficient of it
+abbrev pub ColumnEntry : Type 0
+ColumnEntry = ℕ × Coefficient
+
+abbrev pub no_entry : ColumnEntry
+no_entry = (0, Listed 0)
+
+abbrev pub IsPlace : List Constraint → ℕ → ℕ → ColumnEntry → Type 0
+IsPlace cs n j e = (e.0 < n) × IsCoefficientIn (nth cs e.0) j e.1
 
 -- the places of the variable j in the first n constraints, those with the row o aside
-pub record ArePlaces (o : Row) (cs : List Constraint) (n j : ℕ) (places : List (ℕ × ℕ)) : Type 0
+pub record ArePlaces (o : Row) (cs : List Constraint) (n j : ℕ) (places : List ColumnEntry) : Type 0
   where
-    pub found : (k : ℕ) → k < length places → IsPlace cs n j (slice_index_or places k (0, 0))
+    pub found : (k : ℕ) → k < length places → IsPlace cs n j (slice_index_or places k no_entry)
     pub rising : (a b : ℕ) → a < b → b < length places
-        → (slice_index_or places a (0, 0)).0 < (slice_index_or places b (0, 0)).0
+        → (slice_index_or places a no_entry).0 < (slice_index_or places b no_entry).0
     pub rest : (i : ℕ) → i < n → HasRow o (nth cs i) ⊎ ((at (nth cs i).row j ≡ zero_ℚ)
-        ⊎ OccursFrom (λ (e : ℕ × ℕ). e.0) (0, 0) 0 places i)
+        ⊎ OccursFrom (λ (e : ColumnEntry). e.0) no_entry 0 places i)
 
-abbrev pub column_at : List (Vec (ℕ × ℕ) Global) → ℕ → List (ℕ × ℕ)
+abbrev pub column_at : List (Vec ColumnEntry Global) → ℕ → List ColumnEntry
 column_at columns j = slice_index_or (map (λ v. v.items) columns) j []
 
 -- the columns of the first n constraints, those with the row o aside
-abbrev pub AreColumns : Row → List Constraint → ℕ → List (Vec (ℕ × ℕ) Global) → Type 0
+abbrev pub AreColumns : Row → List Constraint → ℕ → List (Vec ColumnEntry Global) → Type 0
 AreColumns o cs n columns = (j : ℕ) → ArePlaces o cs n j (column_at columns j)
 
 -- ---- sums

@@ -1,28 +1,32 @@
 //! The constraints of a problem by their variables, to test many short solutions.
 
 ghost use Rattle.std.specs.Prelude.{◌≡◌, ◌≢◌, ◌↔◌, ◌⊎◌, ◌+◌, ◌<◌, ℕ, All, IsTrue, IsFalse};
-ghost use Rattle.std.specs.Prelude.{IfOk, IfSome, OnOk, List, length, slice_index_or};
+ghost use Rattle.std.specs.Prelude.{IsOk, IfOk, IfSome, OnOk, List, length, slice_index_or};
 ghost use Rattle.vipr_spec.specs.Constraint.{Constraint as Meant, Row as Entries, Point, at};
 ghost use Rattle.vipr_spec.specs.Constraint.{Compares, NamesBelow, ValueFits};
 ghost use Rattle.vipr_spec.specs.{Certificate.variables, Certificate.objective_at, Fraction.zero_ℚ};
+ghost use Rattle.vipr_spec.specs.MoreEntries.{TermFits};
 ghost use Rattle.vipr_linear.specs.Constraint.{sense_of, constraint_of};
-ghost use Rattle.vipr_rules.specs.Columns.{nth, given_of, AreColumns, ArePlaces, AreSums};
+ghost use Rattle.vipr_linear.specs.Accumulator.{with_term};
+ghost use Rattle.vipr_rules.specs.Columns.{nth, given_of, AreColumns, IsPlace, ArePlaces, AreSums};
 ghost use Rattle.vipr_rules.specs.Columns.{AreFalseAtZero, HasRow, IsColumnsOf};
 ghost use Rattle.vipr_rules.specs.Solution.{PassesAll, tests_below};
 
 use crate::bounds::Bounds;
+use crate::coefficient::Coefficient;
 use std::alloc::{AllocError, Global};
 use vipr_cert::{Named, Problem};
 use vipr_frac::{Frac, Overflow, Partial};
-use vipr_linear::{Constraint, Places, Row, Solution, compares};
+use vipr_linear::{Constraint, Places, Row, Sense, Solution, compares};
 
 /// The constraints of a problem by their variables, with a place for the sum of each constraint. An
-/// entry takes 8 bytes: its coefficient is looked up in the problem. The constraints that have the
-/// objective's row are in no column: they bound the objective's value.
+/// entry takes 16 bytes: it has its coefficient, but one that isn't short is looked up in the
+/// problem. The constraints that have the objective's row are in no column: they bound the
+/// objective's value.
 #[derive(Debug, Drop)]
 pub struct Columns {
-    /// For each variable the constraints that name it, and its place among their entries.
-    columns: Vec<Vec<(u32, u32)>>,
+    /// For each variable the constraints that name it, with its coefficients there.
+    columns: Vec<Vec<(u32, Coefficient)>>,
     /// The constraints that are false if all variables are 0.
     false_at_zero: Vec<u32>,
     /// The sum of each constraint.
@@ -89,7 +93,7 @@ fn columns_of(
     variables: usize,
     cons: &[Named<Constraint>],
     objective: &Row,
-) -> Result<Vec<Vec<(u32, u32)>>, AllocError>
+) -> Result<Vec<Vec<(u32, Coefficient)>>, AllocError>
     requires names { All (λ n. NamesBelow variables (at n.item.row)) cons.now }
     requires room { length cons.now < 4294967296 }
     ensures columns { IfOk result
@@ -128,7 +132,7 @@ fn entry_counts(
 }
 
 // Empty columns with room for so many entries.
-fn empty_columns(alloc: Global, counts: &[u32]) -> Result<Vec<Vec<(u32, u32)>>, AllocError>
+fn empty_columns(alloc: Global, counts: &[u32]) -> Result<Vec<Vec<(u32, Coefficient)>>, AllocError>
     ensures empty { IfOk result (λ v. (o : Entries) (cs : List Meant)
         → AreColumns o cs 0 v.items) }
     ensures variables { IfOk result (λ v. length v.items ≡ length counts.now) }
@@ -143,7 +147,7 @@ fn empty_columns(alloc: Global, counts: &[u32]) -> Result<Vec<Vec<(u32, u32)>>, 
 // Adds the entries of a constraint to the columns of their variables, but none if it has the
 // objective's row.
 fn add_row(
-    columns: &mut [Vec<(u32, u32)>],
+    columns: &mut [Vec<(u32, Coefficient)>],
     index: u32,
     row: &Row,
     objective: &Row,
@@ -157,7 +161,7 @@ fn add_row(
         return Ok(());
     }
     for (place, entry) in row.entries().iter().enumerate() {
-        columns[entry.0 as usize].push((index, place as u32))?;
+        columns[entry.0 as usize].push((index, Coefficient::of(entry.1, place as u32)))?;
     }
     Ok(())
 }
@@ -196,7 +200,7 @@ fn is_false_at_zero(constraint: &Constraint, objective: &Row) -> bool
 // Adds a solution to the sums, variable by variable.
 fn add_solution(
     cons: &[Named<Constraint>],
-    columns: &[Vec<(u32, u32)>],
+    columns: &[Vec<(u32, Coefficient)>],
     solution: &Solution,
     sums: &mut Places,
 ) -> Result<(), Overflow>
@@ -220,7 +224,7 @@ fn add_solution(
 // Adds the multiple of a column to the sums.
 fn add_column(
     cons: &[Named<Constraint>],
-    places: &[(u32, u32)],
+    places: &[(u32, Coefficient)],
     coordinate: Frac,
     sums: &mut Places,
 ) -> Result<(), Overflow>
@@ -232,11 +236,58 @@ fn add_column(
         → OnOk result (AreSums o (given_of cons.now) x (j + 1) sums.new) }
     ensures constraints { length sums.new ≡ length sums.old }
 {
-    for (index, place) in places {
-        let coefficient = cons[*index as usize].item.row.entries()[*place as usize].1;
-        sums.add_product(*index, coefficient, coordinate)?;
+    for entry in places {
+        add_entry(cons, entry, coordinate, sums)?;
     }
     Ok(())
+}
+
+// Adds the multiple of an entry of a column to the sum of its constraint.
+fn add_entry(
+    cons: &[Named<Constraint>],
+    entry: &(u32, Coefficient),
+    coordinate: Frac,
+    sums: &mut Places,
+) -> Result<(), Overflow>
+    requires place { (j : ℕ) × IsPlace (given_of cons.now) (length sums.old) j entry.now }
+    ensures fits { (j : ℕ) → IsPlace (given_of cons.now) (length sums.old) j entry.now
+        → IsOk result → TermFits (slice_index_or sums.old entry.now.0 zero_ℚ)
+        (at (nth (given_of cons.now) entry.now.0).row j) coordinate }
+    ensures sum { (j : ℕ) → IsPlace (given_of cons.now) (length sums.old) j entry.now
+        → OnOk result (sums.new ≡ with_term sums.old
+        (at (nth (given_of cons.now) entry.now.0).row j) (entry.now.0, coordinate)) }
+    ensures constraints { length sums.new ≡ length sums.old }
+{
+    let (index, coefficient) = entry;
+    match coefficient {
+        Coefficient::Short(short) => sums.add_product(*index, short.fraction(), coordinate),
+        Coefficient::Listed(place) => add_listed(cons, *index, *place, coordinate, sums),
+    }
+}
+
+// Adds the multiple of the entry at this place of a constraint to its sum.
+#[inline(never)]
+fn add_listed(
+    cons: &[Named<Constraint>],
+    index: u32,
+    place: u32,
+    coordinate: Frac,
+    sums: &mut Places,
+) -> Result<(), Overflow>
+    requires place { (j : ℕ) × IsPlace (given_of cons.now) (length sums.old) j
+        (index, Coefficient.Listed place) }
+    ensures fits { (j : ℕ)
+        → IsPlace (given_of cons.now) (length sums.old) j (index, Coefficient.Listed place)
+        → IsOk result → TermFits (slice_index_or sums.old index zero_ℚ)
+        (at (nth (given_of cons.now) index).row j) coordinate }
+    ensures sum { (j : ℕ)
+        → IsPlace (given_of cons.now) (length sums.old) j (index, Coefficient.Listed place)
+        → OnOk result (sums.new ≡ with_term sums.old
+        (at (nth (given_of cons.now) index).row j) (index, coordinate)) }
+    ensures constraints { length sums.new ≡ length sums.old }
+{
+    let coefficient = cons[index as usize].item.row.entries()[place as usize].1;
+    sums.add_product(index, coefficient, coordinate)
 }
 
 // ---- testing
@@ -274,5 +325,9 @@ fn is_true(constraint: &Constraint, sum: &Partial) -> bool
     ensures { IsTrue result
         ↔ Compares (sense_of constraint.now.sense) sum.now constraint.now.rhs }
 {
-    compares(constraint.sense, sum.value(), constraint.rhs)
+    match constraint.sense {
+        Sense::E => sum.is(constraint.rhs),
+        Sense::L => sum.is_at_most(constraint.rhs),
+        Sense::G => sum.is_at_least(constraint.rhs),
+    }
 }

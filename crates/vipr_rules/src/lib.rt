@@ -4,6 +4,7 @@
 mod bounds;
 mod branches;
 mod claim;
+mod coefficient;
 mod columns;
 mod context;
 mod cutoff;

@@ -1,6 +1,7 @@
 mod RisingLemmas
 mod SetLemmas
 mod ListsLemmas
+mod PagesLemmas
 mod ExpiryLemmas
 mod TableLemmas
 mod ExpiryOrderLemmas

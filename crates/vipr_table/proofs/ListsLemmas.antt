@@ -1,5 +1,6 @@
 -- A set in several lists.
-use Rattle.std.proofs.Common.{◌≡◌, ℕ, zero, suc, ◌+◌, ◌<◌, ◌^◌, Bool, true, false, ◌||◌, ◌&&◌, not, List, [], ◌∷◌}
+use Rattle.std.proofs.Common.{◌≡◌, ℕ, zero, suc, ◌+◌, ◌-◌, ◌<◌, ◌≤◌, ◌^◌, drop, Bool, true, false}
+use Rattle.std.proofs.Common.{◌||◌, ◌&&◌, not, List, [], ◌∷◌}
 use Rattle.std.proofs.Common.{◌++◌, length, take, get_or, sym, ap, ap₂, ◌∙◌, refl, subst, arith}
 use Rattle.std.proofs.Common.{nat_eq, slice_index_or}
 use Rattle.std.proofs.lemmas.List.{take_more, length-append, length-take, take-take, take_at}
@@ -7,10 +8,10 @@ use Rattle.std.specs.Cmp.{nat_cmp_total}
 use Rattle.std.specs.Ordering.{nat_cmp, eq_by_cmp}
 use Rattle.std.specs.FinSet.{FinSet, contains, empty, from_list, union, remove, same_set}
 use Rattle.std.specs.FinSet.{nat_cmp-IsAntisymmetric, contains-empty, contains-remove, contains-from_list_nat}
-use Rattle.vipr_table.specs.{Rising.IsRising, Rising.has, Sets.union_of_all}
-use Rattle.vipr_table.proofs.RisingLemmas.{without_last, rises_filter, no_items}
-use Rattle.vipr_table.proofs.SetLemmas.{union_none, longer_seen, remove_seen, empty_seen}
-use Rattle.vipr_table.proofs.UnionsLemmas.{has_of, union_assoc, last_two, one_below}
+use Rattle.vipr_table.specs.{Rising.IsRising, Rising.RisesWithin, Rising.has, Sets.union_of_all}
+use Rattle.vipr_table.proofs.RisingLemmas.{without_last, rises_filter, rises_from, no_items}
+use Rattle.vipr_table.proofs.SetLemmas.{longer_seen, remove_seen, empty_seen}
+use Rattle.vipr_table.proofs.UnionsLemmas.{has_of, union_assoc, one_below}
 
 -- ---- a front without its last item
 
@@ -44,9 +45,6 @@ appended xs ys = longer_seen [] xs ys
 pub union_turned : (s t : FinSet nat_cmp) → union s t ≡ union t s
 union_turned s t = grind (arith, same_set nat_cmp_total nat_cmp-IsAntisymmetric, has_of)
 
-pub crossed : (a b c d : FinSet nat_cmp) → union (union a b) (union c d) ≡ union (union a c) (union b d)
-crossed a b c d = grind (arith, union_assoc, last_two)
-
 left_out_of_both : (e a b : Bool) → (not e && (a || b)) ≡ ((not e && a) || (not e && b))
 left_out_of_both e a b = grind arith
 
@@ -79,10 +77,6 @@ within_all (r ∷ ss) (suc i) q s lt is h =
     ∙ ap (λ b. contains r q || b) (within_all ss i q s (omega arith) is h)
     ∙ or_true (contains r q)
 
-pub with_one_of : (ss : List (FinSet nat_cmp)) (i : ℕ) (s : FinSet nat_cmp) → i < length ss
-    → s ≡ get_or ss i s → union_of_all ss ≡ union (union_of_all ss) s
-with_one_of ss i s lt is = grind (arith, same_set nat_cmp_total nat_cmp-IsAntisymmetric, within_all, has_of)
-
 pub one_of_none : (ss : List (FinSet nat_cmp)) (i : ℕ) (s : FinSet nat_cmp) → i < length ss
     → s ≡ get_or ss i s → union_of_all ss ≡ empty → s ≡ empty
 one_of_none ss i s lt is none = same_set nat_cmp_total nat_cmp-IsAntisymmetric _ _ (λ q. by q (contains s q) refl)
@@ -94,11 +88,6 @@ one_of_none ss i s lt is none = same_set nat_cmp_total nat_cmp-IsAntisymmetric _
         let gone = ap (λ t. contains t q) none in
         let nothing = contains-empty nat_cmp q in
         cc (here, gone, nothing))
-
-pub parts_of_none : (s t : FinSet nat_cmp) → union s t ≡ empty → (s ≡ empty) × (t ≡ empty)
-parts_of_none s t h =
-    let all : union s (union t empty) ≡ empty = ap (union s) (sym (union_none t)) ∙ h in
-    (one_of_none (s ∷ t ∷ []) 0 s (omega arith) refl all, one_of_none (s ∷ t ∷ []) 1 t (omega arith) refl all)
 
 -- ---- one set more
 
@@ -132,12 +121,37 @@ length_of_none s xs is none = grind (arith, listed_empty)
 pub none_listed : (s : FinSet nat_cmp) (xs : List ℕ) → from_list xs ≡ s → length xs ≡ 0 → s ≡ empty
 none_listed s xs is e = sym is ∙ ap from_list (no_items xs e)
 
-pub lists_have : (ss : List (FinSet nat_cmp)) (xs : List ℕ) (s : FinSet nat_cmp) (q : ℕ)
-    → union (union_of_all ss) (from_list xs) ≡ s
-    → contains s q ≡ (contains (union_of_all ss) q || has xs q)
-lists_have ss xs s q is = grind (arith, has_of, contains-from_list_nat)
+-- ---- parts of a list, and of lists of sets
 
-pub lists_empty : (ss : List (FinSet nat_cmp)) (xs : List ℕ) (s : FinSet nat_cmp) (b : Bool)
-    → union (union_of_all ss) (from_list xs) ≡ s → union_of_all ss ≡ empty
-    → b ≡ nat_eq (length xs) 0 → (b ≡ true → s ≡ empty) × (s ≡ empty → b ≡ true)
-lists_empty ss xs s b is none e = grind (arith, empty_seen, union_none, parts_of_none)
+rises_drop : (i low high : ℕ) (xs : List ℕ) → RisesWithin low high xs → RisesWithin low high (drop i xs)
+rises_drop zero low high xs r = r
+rises_drop (suc i) low high [] r = tt
+rises_drop (suc i) low high (x ∷ xs) r =
+    rises_from (x + 1) low high (drop i xs) (let le : low ≤ x = r.0 in omega (arith, le))
+    (rises_drop i (x + 1) high xs r.2)
+
+rises_take : (i low high : ℕ) (xs : List ℕ) → RisesWithin low high xs → RisesWithin low high (take i xs)
+rises_take zero low high xs r = tt
+rises_take (suc i) low high [] r = tt
+rises_take (suc i) low high (x ∷ xs) r = (r.0, r.1, rises_take i (x + 1) high xs r.2)
+
+pub slice_rises : (n i : ℕ) (xs : List ℕ) → IsRising xs → IsRising (take n (drop i xs))
+slice_rises n i xs r = rises_take n 0 (2 ^ 32) (drop i xs) (rises_drop i 0 (2 ^ 32) xs r)
+
+none_taken : (n : ℕ) → ◌≡◌ {A = List ℕ} (take n []) []
+none_taken zero = refl
+none_taken (suc n) = refl
+
+parts_taken : (start n end : ℕ) (xs : List ℕ) → start + n ≡ end → take start xs ++ take n (drop start xs) ≡ take end xs
+parts_taken zero n end xs e = ap (λ k. take k xs) (omega (arith, e))
+parts_taken (suc start) n end [] e = none_taken n ∙ sym (none_taken end)
+parts_taken (suc start) n zero (x ∷ xs) e = absurd (omega (arith, e))
+parts_taken (suc start) n (suc end) (x ∷ xs) e = ap (λ l. x ∷ l) (parts_taken start n end xs (omega (arith, e)))
+
+pub more_listed : (all part : FinSet nat_cmp) (start end : ℕ) (xs : List ℕ) → start ≤ end
+    → all ≡ from_list (take start xs) → part ≡ from_list (take (end - start) (drop start xs))
+    → union all part ≡ from_list (take end xs)
+more_listed all part start end xs le so_far is =
+    ap₂ union so_far is
+    ∙ sym (appended (take start xs) (take (end - start) (drop start xs)))
+    ∙ ap from_list (parts_taken start (end - start) end xs (omega (arith, le)))

@@ -9,7 +9,7 @@ abbrev pub listed_set : IndexList → set.FinSet nat_cmp
 listed_set Nothing = set.empty
 listed_set (One index) = set.from_list (index ∷ [])
 listed_set (Many count items) = set.from_list (take count items.items)
-listed_set (Longer lists) = lists
+listed_set (Longer pages) = pages
 
 -- if it is one list, that rises
 abbrev pub Rises : IndexList → Type 0

@@ -2,29 +2,34 @@
 //!
 //! [`Assumptions`] is a set of indices. A sum rests on the union of the sets of its constraints,
 //! and a split takes one assumption out of each of its branches. Clones share their indices, so a
-//! long set that many constraints rest on is in memory once. Unions share, too: all long lists of
-//! both sets, and a short list is new.
+//! long set that many constraints rest on is in memory once. A long set is in pages of short lists,
+//! and a union or a removal makes only those anew that it changes.
 mod list;
-mod lists;
 mod merge;
+mod page;
+mod pages;
 mod union;
 
-ghost use Rattle.std.specs.Prelude.{◌≡◌, ◌↔◌, ℕ, true, IfOk, IfSome, IsOk, IsTrue};
+ghost use Rattle.std.specs.Prelude.{◌≡◌, ◌↔◌, true, IfOk, IfSome, IsOk, IsTrue};
 ghost use Rattle.std.specs.FinSet as set;
-ghost use Rattle.vipr_table.specs.Rising.{IsRising, has};
+ghost use Rattle.vipr_table.specs.Rising.{IsRising};
 ghost use Rattle.vipr_table.specs.{IndexList.listed_set, Sets.IsListOf};
 
-use crate::assumptions::list::{Front, IndexList, front_but_last, front_of};
-use crate::assumptions::lists::Lists;
+use crate::assumptions::list::{IndexList, front_but_last, front_of};
 use crate::assumptions::merge::{all_but, has_all, is_in, join};
+use crate::assumptions::page::lists_of;
+use crate::assumptions::pages::IndexPages;
 pub use crate::assumptions::union::Union;
 use std::alloc::{AllocError, Global};
 use std::marker::Model;
 use std::slice;
 use vipr_shared::Shared;
 
-// From how many indices on a list is long.
-const LONG: usize = 1024;
+// Up to how many indices are one list.
+const SHORT: usize = 256;
+
+// How many indices a list of a page has at least, on average.
+const DENSE: usize = 8;
 
 // Up to how many indices are few.
 const FEW: usize = 8;
@@ -90,7 +95,7 @@ impl Assumptions {
             IndexList::Nothing => true,
             IndexList::One(_) => false,
             IndexList::Many(count, items) => front_of(*count, items).is_empty(),
-            IndexList::Longer(lists) => lists.as_ref().is_empty(),
+            IndexList::Longer(pages) => pages.as_ref().is_empty(),
         }
     }
 
@@ -102,7 +107,7 @@ impl Assumptions {
             IndexList::Nothing => false,
             IndexList::One(only) => *only == index,
             IndexList::Many(count, items) => is_in(front_of(*count, items), index),
-            IndexList::Longer(lists) => lists.as_ref().contains(index),
+            IndexList::Longer(pages) => pages.as_ref().contains(index),
         }
     }
 
@@ -123,14 +128,14 @@ impl Assumptions {
         if self.is_one(other) {
             return self.clone();
         }
-        if self.has_all(other) {
-            return self.clone();
-        }
-        if other.has_all(self) {
-            return other.clone();
-        }
-        match (self.as_short(), other.as_short()) {
+        match (self.as_one(), other.as_one()) {
             (Some(ours), Some(theirs)) => {
+                if has_all(ours, theirs) {
+                    return self.clone();
+                }
+                if has_all(theirs, ours) {
+                    return other.clone();
+                }
                 let items = join(alloc, ours, theirs)?;
                 Assumptions::of_rising(alloc, items)
             }
@@ -187,56 +192,38 @@ impl Assumptions {
         self.list.is_one(&other.list)
     }
 
-    // Whether the set has all indices of another one. `false` says nothing about several lists, nor
-    // about a long one beside them.
-    fn has_all(&self, other: &Assumptions) -> bool
-        ensures { IsTrue result → self.now ≡ set.union self.now other.now }
-    {
-        let Some(theirs) = other.as_one() else {
-            return false;
-        };
-        match self.as_one() {
-            Some(ours) => has_all(ours, theirs),
-            None => theirs.len() < LONG && self.has_each(theirs),
-        }
-    }
-
-    // Whether each of these indices is in the set.
-    fn has_each(&self, indices: &[u32]) -> bool
-        ensures { IsTrue result → (q : ℕ) → has indices.now q ≡ true
-            → set.contains self.now q ≡ true }
-    {
-        for index in indices {
-            if !self.contains(*index) {
-                return false;
-            }
-        }
-        true
-    }
-
-    // The union, which shares the long lists of both.
+    // The union, which shares the pages and lists to which nothing is added.
     fn joined(&self, alloc: Global, other: &Assumptions) -> Result<Self, AllocError>
         ensures { IfOk result (λ s. s ≡ set.union self.now other.now) }
     {
-        let ours = self.lists(alloc)?;
-        let Ok(theirs) = other.lists(alloc) else {
+        let ours = self.pages(alloc)?;
+        let Ok(theirs) = other.pages(alloc) else {
             drop(ours);
             return Err(AllocError);
         };
         let union = ours.as_ref().union(alloc, theirs.as_ref());
-        drop(ours);
-        drop(theirs);
-        Assumptions::of_lists(alloc, union?)
+        let Ok(union) = union else {
+            drop(ours);
+            drop(theirs);
+            return Err(AllocError);
+        };
+        if union.is_same(ours.as_ref()) {
+            return self.clone();
+        }
+        if union.is_same(theirs.as_ref()) {
+            return other.clone();
+        }
+        Assumptions::of_pages(alloc, union)
     }
 
-    // The set without an index. It shares the long lists that don't have that.
+    // The set without an index. It shares the pages and lists that don't have that.
     fn shortened(&self, alloc: Global, index: u32) -> Result<Self, AllocError>
         ensures { IfOk result (λ s. s ≡ set.remove self.now index) }
     {
-        let lists = self.lists(alloc)?;
-        let rest = lists.as_ref().without(alloc, index);
-        drop(lists);
-        Assumptions::of_lists(alloc, rest?)
+        let pages = self.pages(alloc)?;
+        let rest = pages.as_ref().without(alloc, index);
+        drop(pages);
+        Assumptions::of_pages(alloc, rest?)
     }
 
     // The set without an index, if that is the last one of one list.
@@ -276,6 +263,9 @@ impl Assumptions {
         let list = match indices.as_slice() {
             [] => IndexList::Nothing,
             [index] => IndexList::One(*index),
+            items if items.len() > SHORT && is_dense(lists_of(items), items.len()) => {
+                IndexList::Longer(Shared::new(alloc, IndexPages::of_rising(alloc, items)?)?)
+            }
             _ => {
                 let Ok(count) = u32::try_from(indices.len()) else {
                     return Err(AllocError);
@@ -286,44 +276,36 @@ impl Assumptions {
         Ok(Assumptions { list })
     }
 
-    // The set of these lists. They become one if they are many.
-    fn of_lists(alloc: Global, lists: Lists) -> Result<Self, AllocError>
-        ensures { IfOk result (λ s. s ≡ lists) }
+    // The set of these pages. They become one list if they have few indices, or few for each list.
+    fn of_pages(alloc: Global, pages: IndexPages) -> Result<Self, AllocError>
+        ensures { IfOk result (λ s. s ≡ pages) }
     {
-        if lists.len() < LONG || !lists.are_few() {
-            let indices = lists.indices(alloc);
-            drop(lists);
+        if pages.len() <= SHORT / 2 || !is_dense(pages.lists(), pages.len()) {
+            let indices = pages.indices(alloc);
+            drop(pages);
             return Assumptions::of_indices(alloc, indices?);
         }
-        let lists = if lists.has_few_more() {
-            lists
-        } else {
-            lists.shared(alloc)?
-        };
         Ok(Assumptions {
-            list: IndexList::Longer(Shared::new(alloc, lists)?),
+            list: IndexList::Longer(Shared::new(alloc, pages)?),
         })
     }
 
-    // The lists of the set. One that is long is shared.
-    fn lists(&self, alloc: Global) -> Result<Shared<Lists>, AllocError>
-        ensures { IfOk result (λ lists. lists ≡ self.now) }
+    // The pages of the set.
+    fn pages(&self, alloc: Global) -> Result<Shared<IndexPages>, AllocError>
+        ensures { IfOk result (λ pages. pages ≡ self.now) }
     {
         match &self.list {
-            IndexList::Nothing => Shared::new(alloc, Lists::of_few(alloc, &[])?),
+            IndexList::Nothing => Shared::new(alloc, IndexPages::of_rising(alloc, &[])?),
             IndexList::One(index) => {
-                Shared::new(alloc, Lists::of_few(alloc, slice::from_ref(index))?)
-            }
-            IndexList::Many(count, items) if (*count as usize) < LONG => {
-                Shared::new(alloc, Lists::of_few(alloc, front_of(*count, items))?)
+                Shared::new(alloc, IndexPages::of_rising(alloc, slice::from_ref(index))?)
             }
             IndexList::Many(count, items) => {
                 Shared::new(
                     alloc,
-                    Lists::of_front(alloc, Front::sharing(*count, items)?)?,
+                    IndexPages::of_rising(alloc, front_of(*count, items))?,
                 )
             }
-            IndexList::Longer(lists) => lists.clone(),
+            IndexList::Longer(pages) => pages.clone(),
         }
     }
 
@@ -340,16 +322,6 @@ impl Assumptions {
         }
     }
 
-    // All indices, if they are one list that isn't long.
-    fn as_short(&self) -> Option<&[u32]>
-        ensures { IfSome result (λ items. IsListOf self.now items.now) }
-    {
-        match self.as_one() {
-            Some(items) if items.len() < LONG => Some(items),
-            _ => None,
-        }
-    }
-
     // All indices, if they are few.
     fn as_few(&self) -> Option<&[u32]>
         ensures { IfSome result (λ few. set.from_list few.now ≡ self.now) }
@@ -360,13 +332,18 @@ impl Assumptions {
         }
     }
 
-    // How many indices the lists have.
+    // How many indices there are.
     fn len(&self) -> usize {
         match &self.list {
             IndexList::Nothing => 0,
             IndexList::One(_) => 1,
             IndexList::Many(count, _) => *count as usize,
-            IndexList::Longer(lists) => lists.as_ref().len(),
+            IndexList::Longer(pages) => pages.as_ref().len(),
         }
     }
+}
+
+// Whether so many indices are enough for so many lists.
+fn is_dense(lists: usize, len: usize) -> bool {
+    len / DENSE >= lists
 }

@@ -11,4 +11,5 @@ pub mod numbers;
 pub mod points;
 pub mod reading;
 pub mod short;
+pub mod tightening;
 pub mod tokens;

@@ -1,5 +1,5 @@
 //! Words, each behind a space.
-ghost use Rattle.std.specs.Prelude.{◌∷◌, ◌<◌, ◌≤◌, flat_map, map};
+ghost use Rattle.std.specs.Prelude.{◌∷◌, ◌<◌, flat_map, map};
 ghost use Rattle.std.specs.Fmt.{decimal, signed_decimal};
 ghost use Rattle.vipr_spec.specs.Number.{number_text};
 ghost use Rattle.vipr_linear.specs.Constraint.{sense_of};
@@ -34,37 +34,10 @@ pub(crate) fn put_decimal<O: Out>(out: &mut O, n: usize)
 // A count or an index of three digits or more, with no space.
 #[inline(never)]
 fn put_digits<O: Out>(out: &mut O, n: usize)
-    requires { 100 ≤ n }
     ensures { Puts O.carries out.old out.new (decimal n) }
 {
-    if n < 10_000 {
-        put_few_digits(out, n as u16);
-        return;
-    }
     let mut buffer = Buffer::new();
     out.put(buffer.format(n).as_bytes());
-}
-
-// A count or an index of three or four digits, with no space.
-#[inline(always)]
-fn put_few_digits<O: Out>(out: &mut O, n: u16)
-    requires more { 100 ≤ n }
-    requires few { n < 10000 }
-    ensures { Puts O.carries out.old out.new (decimal n) }
-{
-    let hundreds = n / 100;
-    let tens = (n / 10 % 10) as u8;
-    let ones = (n % 10) as u8;
-    if hundreds < 10 {
-        out.put(&[b'0' + hundreds as u8, b'0' + tens, b'0' + ones]);
-        return;
-    }
-    out.put(&[
-        b'0' + (hundreds / 10) as u8,
-        b'0' + (hundreds % 10) as u8,
-        b'0' + tens,
-        b'0' + ones,
-    ]);
 }
 
 /// A whole number, with no space.

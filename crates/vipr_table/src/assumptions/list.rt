@@ -5,20 +5,20 @@ ghost use Rattle.std.specs.FinSet as set;
 ghost use Rattle.vipr_table.specs.IndexList.{listed_set, Rises};
 ghost use Rattle.vipr_table.specs.{Rising.IsRising, Sets.IsListOf};
 
-use crate::assumptions::lists::Lists;
-use crate::assumptions::merge::{all_but, is_in};
+use crate::assumptions::merge::{all_but, has_all, is_in, join};
+use crate::assumptions::pages::IndexPages;
 use std::alloc::{AllocError, Global};
 use std::marker::Model;
 use vipr_shared::Shared;
 
-/// Indices in one list or in several. Only more than one index takes memory, and a copy takes none.
+/// Indices in one list or in pages. Only more than one index takes memory, and a copy takes none.
 #[derive(Debug, Drop)]
 pub(crate) enum IndexList {
     Nothing,
     One(u32),
     /// The first so many indices of a list.
     Many(u32, Shared<Vec<u32>>),
-    Longer(Shared<Lists>),
+    Longer(Shared<IndexPages>),
 }
 
 impl IndexList {
@@ -30,7 +30,7 @@ impl IndexList {
             IndexList::Nothing => Ok(IndexList::Nothing),
             IndexList::One(index) => Ok(IndexList::One(*index)),
             IndexList::Many(count, items) => Ok(IndexList::Many(*count, items.clone()?)),
-            IndexList::Longer(lists) => Ok(IndexList::Longer(lists.clone()?)),
+            IndexList::Longer(pages) => Ok(IndexList::Longer(pages.clone()?)),
         }
     }
 
@@ -44,7 +44,7 @@ impl IndexList {
             (IndexList::Many(count, items), IndexList::Many(other, others)) => {
                 *count == *other && items.is_one(others)
             }
-            (IndexList::Longer(lists), IndexList::Longer(others)) => lists.is_one(others),
+            (IndexList::Longer(pages), IndexList::Longer(others)) => pages.is_one(others),
             _ => false,
         }
     }
@@ -122,6 +122,24 @@ impl Front {
         ensures { IsTrue result → self.now ≡ other.now }
     {
         self.count == other.count && self.items.is_one(&other.items)
+    }
+
+    /// The indices of both. A list that has all of the other is shared.
+    pub(crate) fn union(&self, alloc: Global, other: &Front) -> Result<Front, AllocError>
+        ensures { IfOk result (λ union. union ≡ set.union self.now other.now) }
+    {
+        if self.is_one(other) {
+            return self.clone();
+        }
+        let ours = self.as_slice();
+        let theirs = other.as_slice();
+        if has_all(ours, theirs) {
+            return self.clone();
+        }
+        if has_all(theirs, ours) {
+            return other.clone();
+        }
+        Front::of(alloc, join(alloc, ours, theirs)?)
     }
 
     /// All indices but one. A list that doesn't have it is shared.

@@ -1,6 +1,6 @@
 //! Unions and removals on lists of numbers in rising order.
 
-ghost use Rattle.std.specs.Prelude.{◌≡◌, ◌++◌, ℕ, true, length, not, nat_eq, filter, IfOk};
+ghost use Rattle.std.specs.Prelude.{◌≡◌, ◌++◌, ℕ, true, false, length, not, nat_eq, filter, IfOk};
 ghost use Rattle.vipr_table.specs.Rising.{IsRising, IsUnion, has};
 
 use std::alloc::{AllocError, Global};
@@ -10,7 +10,19 @@ pub(crate) fn is_in(xs: &[u32], index: u32) -> bool
     requires { IsRising xs.now }
     ensures { result ≡ has xs.now index }
 {
-    xs.binary_search(&index).is_ok()
+    is_within(xs, index) && xs.binary_search(&index).is_ok()
+}
+
+// Whether a number is one from the first item of a rising list to its last.
+#[inline(always)]
+fn is_within(xs: &[u32], index: u32) -> bool
+    requires { IsRising xs.now }
+    ensures { result ≡ false → has xs.now index ≡ false }
+{
+    if xs.is_empty() || index < xs[0] {
+        return false;
+    }
+    index <= xs[xs.len() - 1]
 }
 
 /// Whether each item of `ys` is in `xs`, too. Mostly `xs` begins or ends with them.

@@ -1,12 +1,12 @@
 use super::check::problem_of;
-use super::{fraction, row_of, same};
+use super::{fraction, row_of, same, spelled};
 use std::alloc::Global;
 use std::process::Abort;
 use vipr_cert::Problem;
 use vipr_frac::Frac;
 use vipr_linear::{Combination, Constraint, Sense, Solution};
 use vipr_rules::{
-    Assumptions, Columns, Entry, KeepAll, LiveOnly, Rows, SolutionError, test_solution,
+    Assumptions, Columns, Entry, KeepAll, LiveOnly, Rows, SolutionError, apply, test_solution,
     test_solution_by_columns,
 };
 
@@ -274,5 +274,32 @@ const PROBLEMS: [&[u8]; 5] = [
 fn columns_and_rows_agree(rt: HostRuntime) {
     for text in &PROBLEMS {
         agree(&rt, rt.alloc(), text);
+    }
+}
+
+// Twice a constraint, and a stronger one.
+const TWICE: &[u8] = b"VER 1.0 VAR 1 x INT 0 OBJ min 0 CON 1 0 a G 1 1 0 1 RTP range -inf inf
+    SOL 0 DER 1 b G 2 1 0 2 { lin 1 0 2 } -1";
+
+const MORE_THAN_TWICE: &[u8] = b"VER 1.0 VAR 1 x INT 0 OBJ min 0 CON 1 0 a G 1 1 0 1
+    RTP range -inf inf SOL 0 DER 1 b G 3 1 0 2 { lin 1 0 2 } -1";
+
+// Whether the first derivation of a text follows from its problem.
+fn follows(rt: &impl Abort, alloc: Global, text: &[u8]) -> bool {
+    let certificate = spelled(rt, alloc, text);
+    let problem = certificate.problem();
+    let mut scratch = Combination::new(alloc, problem.names().len() as u32).expect(rt, "a sum");
+    let rows = KeepAll::new(alloc, problem.cons().len() as u32);
+    let step = certificate.derivations().first().expect(rt, "a step");
+    let answer = apply(alloc, problem, None, &rows, &mut scratch, step);
+    let follows = answer.is_ok();
+    drop((answer, certificate, scratch, rows));
+    follows
+}
+
+#[test]
+fn a_derivation_from_the_problem(rt: HostRuntime) {
+    for (text, wanted) in [(TWICE, true), (MORE_THAN_TWICE, false)] {
+        same(&rt, follows(&rt, rt.alloc(), text), wanted);
     }
 }

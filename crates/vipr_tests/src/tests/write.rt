@@ -4,7 +4,7 @@ use std::alloc::Global;
 use std::process::Abort;
 use vipr_bytes::{Failed, Sink};
 use vipr_cert::Certificate;
-use vipr_write::{WriteError, write_certificate};
+use vipr_write::{Form, WriteError, write_certificate, write_certificate_in};
 
 const TEXT: &[u8] = b"VER 1.0
 VAR 2
@@ -34,6 +34,30 @@ const SPELLED: &[u8] = b"VER 1.0 VAR 2 x y INT 2 1 1 OBJ max 2 1 -3 0 2/4
     CON 2 1 a G -1/3 0 b E 0 2 1 -3 0 2/4 RTP range -inf 7/2 SOL 2 s 1 1 1 t 0
     DER 5 c L 12 1 1 1 { asm } 6 d G 13 1 1 1 { lin 2 0 0 1 -5/10 } -1
     e L 0 0 { rnd 0 } -1 f L 0 0 { uns 4 2 5 3 } -1 g E 0 0 { sol } -1";
+
+/// The same certificate, with `OBJ` for the row that is the objective's.
+const COMPACT: &[u8] = b"VER 1.0
+VAR 2
+x
+y
+INT 1
+1
+OBJ max
+2 0 1/2 1 -3
+CON 2 1
+a G -1/3 0
+b E 0 OBJ
+RTP range -inf 7/2
+SOL 2
+s 1 1 1
+t 0
+DER 5
+c L 12 1 1 1 { asm } 6
+d G 13 1 1 1 { lin 2 0 0 1 -1/2 } -1
+e L 0 0 { rnd 0 } -1
+f L 0 0 { uns 4 2 5 3 } -1
+g E 0 0 { sol } -1
+";
 
 const SHORT: &[u8] = b"VER 1.0
 VAR 0
@@ -115,6 +139,16 @@ fn each_kind_of_line(rt: HostRuntime) {
         let certificate = spelled(&rt, rt.alloc(), text);
         is_written(&rt, rt.alloc(), certificate, wanted);
     }
+}
+
+#[test]
+fn rows_of_the_objective(rt: HostRuntime) {
+    let certificate = spelled(&rt, rt.alloc(), SPELLED);
+    let mut bytes = Vec::with_capacity(rt.alloc(), 4096).expect(&rt, "room");
+    let written = write_certificate_in(rt.alloc(), Form::Compact, &certificate, &mut bytes);
+    same(&rt, written, Ok(()));
+    same(&rt, bytes.as_slice(), COMPACT);
+    drop((certificate, bytes));
 }
 
 /// Writes a certificate to a sink, and compares the answer, what was taken, and the calls.

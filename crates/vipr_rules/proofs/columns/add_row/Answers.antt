@@ -41,10 +41,11 @@ loop-place-preserved c = λ cs same all.
     omega (arith, e, below, c.loop-place.auto.columns) in
     let read = column_read c.loop-place.columns c.entry-item.result.0 within
     c.index-columns-entry.result c.index-columns-entry.is in
+    let a = c.of.result in
     let pushed = c.in_ok-push.ensures.items
-    ∙ ap (λ w. w.items ++ (c.args.index, c.loop-place.place) ∷ [])
-    (sym c.index-columns-entry.is) ∙ ap (λ xs. xs ++ (c.args.index, c.loop-place.place) ∷ [])
-    (sym read) in
+    ∙ ap (λ w. w.items ++ (c.args.index, a) ∷ []) (sym c.index-columns-entry.is)
+    ∙ ap (λ xs. xs ++ (c.args.index, a) ∷ []) (sym read) in
     half_next c.args.objective.now cs c.args.index c.args.row.now same es list rising
     c.loop-place.columns c.loop-place.place c.entry-item.result c.loop-place-test.true
-    c.entry-item.is within c.push.new.self pushed (c.loop-place.invariant cs same all)
+    c.entry-item.is within c.push.new.self a c.of.ensures pushed
+    (c.loop-place.invariant cs same all)

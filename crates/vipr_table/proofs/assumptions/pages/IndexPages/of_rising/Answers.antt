@@ -1,0 +1,35 @@
+use Rattle.std.proofs.Common.{◌∙◌, ◌<◌, ap, arith}
+use Rattle.std.proofs.lemmas.List.{take_all}
+use Rattle.std.specs.FinSet.{from_list}
+use Rattle.vipr_table.specs.Sets.{union_of_all}
+use Rattle.vipr_table.proofs.ListsLemmas.{more_listed, slice_rises}
+use Rattle.vipr_table.proofs.UnionsLemmas.{one_below}
+use Rattle.vipr_table.proofs.assumptions.pages.IndexPages.of_rising.Goals as goal
+
+pub loop-start-init : goal.loop-start-init
+loop-start-init c = record {
+  within = omega arith;
+  so_far = ap union_of_all c.new-pages.ensures.items;
+}
+
+pub of_rising-requires : goal.of_rising-requires
+of_rising-requires c = slice_rises _ c.loop-start.start c.args.items.now c.requires
+
+pub loop-start-preserved : goal.loop-start-preserved
+loop-start-preserved c =
+    let page = c.in_ok-new.field-0 in
+    let above : c.loop-start.start < c.end_of_range-end.result = c.end_of_range-end.ensures.above in
+    record {
+      within = c.end_of_range-end.ensures.within;
+      so_far =
+          ap union_of_all c.in_ok-push.ensures.items
+          ∙ one_below c.loop-start.pages.items page
+          ∙ more_listed _ page c.loop-start.start c.end_of_range-end.result c.args.items.now (omega (arith, above))
+          c.loop-start.invariant.so_far
+          (c.in_ok-new.ensures ∙ c.in_ok-of_rising.ensures);
+    }
+
+pub returns : goal.returns
+returns c =
+    c.loop-start.invariant.so_far
+    ∙ ap from_list (take_all c.loop-start.start c.args.items.now (omega arith))

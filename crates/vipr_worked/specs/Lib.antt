@@ -1,0 +1,2 @@
+-- what the contracts cite
+pub mod Tightened
