@@ -819,6 +819,7 @@ FAMILIES = [chain, tree, cuts, units, fractions, dense, wide, long, held, soluti
 
 
 def make(folder, size, which=None):
+    """Writes a file of about the size for each family, or for those that are named."""
     for family in which or FAMILIES:
         with open(Path(folder) / f"{family.__name__}.vipr", "w", encoding="ascii") as file:
             file.writelines(line + "\n" for line in family(size))

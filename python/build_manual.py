@@ -15,6 +15,7 @@ STATUS = "The exit status is"
 
 
 def parser_of(command):
+    """What reads the words of a command."""
     return importlib.import_module(COMMANDS[command]).parser()
 
 

@@ -393,7 +393,7 @@ def use(place):
 def tried_in_python(place):
     """The commands of python3-vipr are those of the package, and each runs from where it is unpacked."""
     status, out, fault = place.run(
-        "mkdir -p ../unpacked && for it in ../python3-vipr_*.deb ../vipr_*.deb; do dpkg-deb -x $it ../unpacked; done"
+        "mkdir -p ../unpacked && for package in ../python3-vipr_*.deb ../vipr_*.deb; do dpkg-deb -x $package ../unpacked; done"
     )
     check(status == 0, out + fault)
     wanted = set(

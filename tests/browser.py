@@ -72,7 +72,7 @@ MARKUP = [
 # what is done in the page, and what it has to answer
 USE = """
 <script>
-const seen = [], say = what => seen.push(what), texts = () => [...document.querySelectorAll('.row')].map(it => it.textContent);
+const seen = [], say = what => seen.push(what), texts = () => [...document.querySelectorAll('.row')].map(row => row.textContent);
 const key = name => list.dispatchEvent(new KeyboardEvent('keydown', {key: name, bubbles: true}));
 const look = words => { element('find').value = words; element('find').dispatchEvent(new Event('input')); };
 say(document.title); say(count); say(texts().length); say(chosen); say(element('detail').textContent);

@@ -77,6 +77,7 @@ def installed(prefix):
 
 
 def version():
+    """The version that the header names."""
     return re.search(r'define VIPR_VERSION "(.*)"', (TOP / "include/vipr.h").read_text())[1]
 
 

@@ -532,6 +532,7 @@ def stopped(many):
 
 
 def check_all(check, room, words, program):
+    """Each part of the tests of vipr-check-all."""
     many = Many(check, room / "many", words, program)
     for part in (
         folders,

@@ -54,6 +54,7 @@ def random_sides(dice):
 
 
 def random_model(dice):
+    """A model of 100 to 300 rows and columns."""
     columns, height = dice.randrange(LONG, 301), dice.randrange(LONG, 301)
     names = [f"x{j}" for j in range(columns)]
     names[dice.randrange(columns)] = "*y"

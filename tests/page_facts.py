@@ -417,11 +417,13 @@ class Wrong(Exception):
 
 
 def same(what, got, wanted):
+    """Fails unless a page says what is wanted."""
     if got != wanted:
         raise Wrong(f"{what}: it says {got!r}, and it is {wanted!r}")
 
 
 def true(is_so, what):
+    """Fails unless what a page says is so."""
     if not is_so:
         raise Wrong(what)
 
@@ -431,10 +433,12 @@ def shown_byte(byte):
 
 
 def shown(name):
+    """Bytes as a page shows them: escaped, if a terminal should not get them."""
     return "".join(map(shown_byte, name))
 
 
 def shown_name(name):
+    """A name as a page shows it, a long one by its ends."""
     return f"{shown(name[:19])}..{shown(name[-19:])}" if len(name) > MOST_OF_NAME else shown(name)
 
 
@@ -453,6 +457,7 @@ def algebra(facts, constraint):
 
 
 def variable(facts, index):
+    """The name of a variable as a page shows it, a long one with its index."""
     name = facts.problem.names[index]
     return shown_name(name) + (f"#{index}" if len(name) > MOST_OF_NAME else "")
 
@@ -475,6 +480,7 @@ def rounded(number):
 
 
 def measured(number):
+    """A number as a page says it: a long one with about how large it is."""
     return f"{number} (about {rounded(number)})" if is_long(number) else str(number)
 
 

@@ -18,6 +18,7 @@ USE_MARKS = (
 
 
 def help_of(*words):
+    """What `--help` after these words prints."""
     return subprocess.run(
         [PROGRAM, *words, "--help"], capture_output=True, text=True, check=True
     ).stdout

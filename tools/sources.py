@@ -9,6 +9,7 @@ OPENS = {"{": 1, "}": -1}
 
 
 def read(path):
+    """The text of a file."""
     return Path(path).read_text(encoding="utf-8")
 
 
