@@ -86,6 +86,7 @@ check: $(wildcard $(PROGRAM))
 	@program=$$(sh tools/proved.sh program $(PROGRAM)) && "$$program" check -- "$$FILE"
 
 test:
+	@$(PYTHON) tests/tools.py
 	@$(PYTHON) tests/all.py
 
 install: $(wildcard $(PROGRAM))

@@ -3,8 +3,9 @@
 
 usage: tests/all.py [--anew]
 
-First tests/tools.py tries the scripts that build and test: if it fails, nothing else is run. Then
-`rt ci`: every proof, the tests and the must-fail edits; --anew is handed on to a kit that knows it.
+`make test` runs tests/tools.py before, which tries the scripts that build and test, this one too:
+if it fails, this one isn't run. First `rt ci`: every proof, the tests and the must-fail edits;
+--anew is handed on to a kit that knows it.
 Then the scripts: FIRST leave files in the repository, which THEN read; those run side by side, one
 for each processor. Prints what each prints, the SHA-256 of the program and of the libraries, what
 failed, and last `N passed, M failed`; `, K skipped` if scripts say K times that they left something
@@ -62,7 +63,7 @@ def run_script(name):
 
 
 def main():
-    if kit.missing() or run_script("tools")[1]:
+    if kit.missing():
         print(f"{kit.missing()}\n0 passed, 1 failed")
         return 1
     known = subprocess.run([RT, "help"], capture_output=True, text=True, check=False).stdout
@@ -75,7 +76,7 @@ def main():
         print(f"sha256 {kit.sum_of(file)} {file.name}")
     if bad:
         print(f"FAILED: {' '.join(bad)}")
-    passed, failed = passed + 1 + len(ran) - len(bad), failed + len(bad)
+    passed, failed = passed + len(ran) - len(bad), failed + len(bad)
     print(f"{passed} passed, {failed} failed" + (f", {skipped} skipped" if skipped else ""))
     return 1 if failed else 0
 

@@ -29,7 +29,6 @@ CRATES = {"low": "", "vipr_c staticlib": "low", "vipr_command": "low", "vipr": "
 LEFT_OUT = shutil.ignore_patterns("crates", ".git", "dist", "out", "release", "__pycache__")
 # what tests/all.py runs, each without words: with some, a script could compare less, or write in place of comparing
 SCRIPTS = {
-    "tools",
     "theorems",
     "wrong_versions",
     "conformance_run",
@@ -60,8 +59,8 @@ SCRIPTS = {
     "browser",
     "language",
 }
-# what nothing runs there: the test command, and the toolchain of these checks
-OTHERS = {"all", "toolchain"}
+# what it doesn't run: itself, what `make test` runs before it, and the toolchain of these checks
+OTHERS = {"all", "tools", "toolchain"}
 
 
 class Place:
@@ -86,8 +85,9 @@ class Place:
         self.let_scripts_end()
 
     def let_scripts_end(self, **ends):
-        """Puts a script that does nothing in place of each that tests/all.py runs; those that are named end so."""
-        for name in SCRIPTS:
+        """Puts a script that does nothing in place of each of the test command; those that are named
+        end so."""
+        for name in SCRIPTS | {"tools"}:
             end = ends.get(name, "sys.exit(0)")
             script = f'import os, signal, sys\nprint("tests/{name}.py ran", sys.argv[1:])\nsys.stdout.flush()\n{end}\n'
             (self.tree / f"tests/{name}.py").write_text(script)
@@ -324,12 +324,24 @@ def tests(place):
             status == 0 and f"{wanted} in vipr" in place.calls(),
             f"{words}, {known}: rt has the words {place.calls()}",
         )
-    place.plan()
-    status, out = all_of(tools="sys.exit(1)")
-    check(
-        (status, last(out)) == (1, "0 passed, 1 failed") and not place.calls(),
-        f"tests/tools.py fails: {status}, {out}",
-    )
+
+
+def whole_command(place):
+    """`make test`, and what calls it: each fails if tests/tools.py fails, and then runs nothing
+    else, or if tests/all.py fails."""
+    for words in (["make", "--no-print-directory", "test"], [".ci/run"]):
+        for end, gate, is_well in (
+            ("sys.exit(0)", "well", True),
+            ("sys.exit(0)", "failed", False),
+            ("sys.exit(1)", "well", False),
+        ):
+            place.let_scripts_end(tools=end)
+            place.plan(f"gate {gate}")
+            status, out = place.run(*words)
+            check(
+                (status == 0) == is_well and bool(place.calls()) == (end == "sys.exit(0)"),
+                f"{words} with tests/tools.py: {end}, and rt ci {gate}: status {status}, {out}",
+            )
 
 
 def what_is_packed(place):
@@ -441,7 +453,7 @@ def scripts():
     there = {
         path.stem for path in (TOP / "tests").glob("*.py") if path.read_text().startswith("#!")
     }
-    run = ["tools", *test_command.FIRST, *test_command.THEN]
+    run = [*test_command.FIRST, *test_command.THEN]
     check(sorted(run) == sorted(SCRIPTS), f"tests/all.py runs {sorted(run)}")
     check(
         there == SCRIPTS | OTHERS,
@@ -477,6 +489,7 @@ def main():
         changes(place)
         libraries(place)
         tests(place)
+        whole_command(place)
         what_is_packed(place)
         failing_scripts(place)
     return CHECKS.end()
