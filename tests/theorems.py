@@ -6,8 +6,10 @@ usage: tests/theorems.py [PROGRAM]
 Each example has to be a theorem by a profile if `vipr check` verifies it by that, and else to be
 refused; and so have a false claim, a certificate with bytes that can't be printed, and some of 100
 kB, within 20 seconds of processor time. Of one of 1 MB, and of one whose rows `OBJ` are long, it
-has to be said beforehand how long it may take. A theorem with one byte changed, or with a line more, isn't about the certificate. Nothing
-in a name is run, and a file that the script did not write stays as it is.
+has to be said beforehand how long it may take. A theorem with one byte changed, or with a line
+more, isn't about the certificate. Only Statement.v says what `Means` is: a file of proofs that says
+it, too, makes no theorem. Nothing in a name is run, and a file that the script did not write stays
+as it is.
 
 Prints each fault, and last `theorems: N checks, F failed`. The exit status is 1 if one failed.
 Without coqc nothing is tried, and a line says so.
@@ -33,6 +35,13 @@ SECONDS, PROCESSOR = 600, 20
 LARGE = families.dense, families.columns_and_objective
 NAMES = ["$(shell touch ran)", "$(touch ran)", "`touch ran`", "-x", "a b", "%\"'$$x", "a\nb"]
 SMALL = (TOP / "examples/infeasible.vipr").read_bytes()
+# in the place of Checked.v
+TRUE_OF_ALL = """\
+From Vipr Require Import Statement Rules Read.
+Definition Means (t : text) := True.
+Lemma check_is_sound (P : Profile) (t : text) : Verified = Verified -> Means t.
+Proof. exact (fun _ => I). Qed.
+"""
 
 
 def certificates():
@@ -136,6 +145,18 @@ def try_changes(folder):
         check(not same(out, file), f"{what}: same_bytes.py did not see it")
 
 
+def try_other_meaning(folder):
+    """Whether no other file than Statement.v can say what a theorem means."""
+    copy, file = folder / "rocq", folder / "refused.vipr"
+    shutil.copytree(TOP / "rocq", copy, ignore=shutil.ignore_patterns("out"))
+    (copy / "Checked.v").write_text(TRUE_OF_ALL)
+    made = run(["coqc", "-q", "-R", copy, "Vipr", copy / "Checked.v"], timeout=SECONDS)
+    check(made.returncode == 0, f"another meaning: {made}")
+    file.write_bytes(b"")
+    done = run([sys.executable, copy / WRITE.name, file, folder / "refused.v"], timeout=SECONDS)
+    check(done.returncode == 3 and not done.stdout, f"another meaning: {done}")
+
+
 def try_names(folder):
     """Whether nothing in a name is run, and only a theorem is written over."""
     for number, name in enumerate(NAMES):
@@ -161,6 +182,9 @@ def try_names(folder):
     check(kept.read_text() == "Definition mine := 1.\n", "a file of another was written over")
 
 
+OTHERS = try_changes, try_other_meaning, try_names, try_announced
+
+
 def main():
     """Tries all of it, if Rocq is here."""
     if not shutil.which("coqc"):
@@ -177,7 +201,7 @@ def main():
                 for certificate in certificates()
             ]
             tried += [pool.submit(try_large, folder, family) for family in LARGE]
-            tried += [pool.submit(one, folder) for one in (try_changes, try_names, try_announced)]
+            tried += [pool.submit(one, folder) for one in OTHERS]
             for one in tried:
                 one.result()
     return CHECKS.end()
