@@ -385,6 +385,32 @@ def crates_have_rows():
             yield "docs/dev/ARCHITECTURE.md: there is no crate %s" % crate
 
 
+def counts_of_lines_agree():
+    """Pages say rightly how many lines one has to believe: those of part 1 of the statement, and of files of rocq/."""
+    row = re.search(
+        r"^\| \[1\. .*?\) \|.*?\| \d+ \| (\d+) \|",
+        read(os.path.join(ROOT, "docs/STATEMENT.md")),
+        re.M,
+    )
+    first = int(row[1])
+    statement, rules, literal = (
+        read(os.path.join(ROOT, "rocq", name + ".v")).count("\n")
+        for name in ("Statement", "Rules", "Literal")
+    )
+    for name, words, wanted in [
+        ("README.md", r"\[These (\d+) lines\]\(docs/STATEMENT\.md\)", first),
+        ("docs/LIBRARY.md", r"\[(\d+) lines\]\(STATEMENT\.md\)", first),
+        ("docs/PROOF.md", r'(\d+) lines for "what is verified is true"', first),
+        ("docs/PROOF.md", r"`Statement\.v` says in (\d+) lines", statement),
+        ("docs/PROOF.md", r"`Rules\.v` says in (\d+) lines", rules),
+        ("docs/PROOF.md", r"the (\d+) lines of `Literal\.v`", literal),
+        ("docs/REFEREE.md", r"(\d+) lines of definitions", statement + literal),
+    ]:
+        said = [int(count) for count in re.findall(words, read(os.path.join(ROOT, name)))]
+        if said != [wanted]:
+            yield "%s: says %s lines and not %d (%s)" % (name, said, wanted, words)
+
+
 def crates_are_there():
     """crates.txt lists the folders of crates/, and no more."""
     listed, there = set(crates()), {
@@ -628,6 +654,7 @@ CHECKS = [
     long_files,
     crates_are_there,
     crates_have_rows,
+    counts_of_lines_agree,
     causes_agree,
     versions_agree,
     named_files_are_there,

@@ -96,7 +96,7 @@ def run(words, text=b"", **more):
     try:
         done = subprocess.run([*map(str, words)], check=False, **streams)
     except subprocess.TimeoutExpired as ended:
-        return Ran(ended.stdout, ended.stderr, None)
+        return Ran(ended.stdout or b"", ended.stderr or b"", None)
     return Ran(done.stdout, done.stderr, done.returncode)
 
 
