@@ -445,22 +445,30 @@ def misused(many):
 
 def outputs(many):
     """A table never takes the place of what is read, by whatever name."""
-    many.put({"k/good.vipr": GOOD, "k/cert": GOOD, "list": b"k/good.vipr\n"})
+    files = {"k/good.vipr": GOOD, "k/cert": GOOD, "list": b"k/good.vipr\n"}
+    many.put(files)
     (many.room / "tab").symlink_to("k/good.vipr")
     os.link(many.room / "k/good.vipr", many.room / "hard")
+    program = many.script("own", f'exec {many.program} "$@"')
+    script = program.read_bytes()
     for words in (
         ["-o", "k/cert", "k/cert"],
         ["-o", "tab", "k"],
         ["-o", "hard", "k"],
         ["-o", "list", "--list", "list"],
+        ["-o", "list", "--list", "-"],
+        ["-o", program, "k"],
     ):
-        done = many.run(*words)
+        with open(many.room / "list", "rb") as names:
+            done = many.run(*words, program=program, stdin=names)
         many.check(
             done.returncode == 3 and b"one of the files that are read" in done.stderr,
             f"{words}: {done}",
         )
-    for name, text in (("k/good.vipr", GOOD), ("k/cert", GOOD), ("list", b"k/good.vipr\n")):
+    for name, text in {**files, "bin/own": script}.items():
         many.check((many.room / name).read_bytes() == text, f"{name} was replaced")
+    done = many.run("-o", "/dev/null", "--list", "/dev/null", "k/good.vipr")
+    many.check(done.returncode == 0, f"a device is read and written: {done}")
 
 
 def changing(many):

@@ -516,13 +516,9 @@ def program(name: str, seconds: Optional[int]) -> str:
 def command(job: argparse.Namespace) -> int:
     job.program = program(job.vipr, job.seconds)
     there = files(listed(job))
-    if job.out != "-" and is_one_file(
-        job.out,
-        [
-            *(name for name in job.list if name != "-"),
-            *(str(found.path) for found in there),
-        ],
-    ):
+    paths = (os.path.join(os.curdir, file.path) for file in there)
+    read = [*job.list, shutil.which(job.vipr) or job.vipr, *paths]
+    if job.out != "-" and is_one_file(job.out, read):
         raise OSError(None, "the table is one of the files that are read", job.out)
     mine = [file for file in there if is_of_part(file, job.part)]
     before = rows_of(job)

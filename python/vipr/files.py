@@ -4,6 +4,7 @@ from __future__ import annotations
 import argparse
 import io
 import os
+import stat
 import sys
 import time
 from pathlib import Path
@@ -49,14 +50,16 @@ def not_unpacked(name: str, fault: NotWhole) -> OSError:
 
 
 def is_one_file(name: str, others: Iterable[str]) -> bool:
-    """Whether a file is one of these, by whatever names."""
+    """Whether a regular file is one of these, by whatever names; `-` is standard input."""
     try:
         about = os.stat(name)
     except OSError:
         return False
+    if not stat.S_ISREG(about.st_mode):
+        return False
     for other in others:
         try:
-            if os.path.samestat(about, os.stat(other)):
+            if os.path.samestat(about, os.stat("/dev/stdin" if other == "-" else other)):
                 return True
         except OSError:
             continue
@@ -64,8 +67,8 @@ def is_one_file(name: str, others: Iterable[str]) -> bool:
 
 
 def keep_apart(out: Optional[str], name: str) -> None:
-    """Ends a command whose output would replace what it reads. `-` is standard input."""
-    if out and is_one_file(out, ["/dev/stdin" if name == "-" else name]):
+    """Ends a command whose output would replace what it reads."""
+    if out and is_one_file(out, [name]):
         raise OSError(None, "it is the file that is read", out)
 
 
