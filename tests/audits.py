@@ -7,6 +7,9 @@ least 1/3 if 3 x is at least 1; each change of it is verified, but for those tha
 import gzip
 import hashlib
 import json
+import os
+import sys
+from pathlib import Path
 
 from texts import TOP, run
 
@@ -35,6 +38,17 @@ SOL 1
 best 1 0 1/3
 DER 1
 bound G 1/3 OBJ { lin 1 0 1/3 } -1
+"""
+# the command in a process in which another file that has the library's name in its path lies before the library
+BESIDE_ANOTHER = """
+import mmap, sys
+from vipr import audit, library
+library.version()
+other = open(sys.argv.pop(1), "rb")
+mapped = mmap.mmap(other.fileno(), 0, access=mmap.ACCESS_READ)
+rows = [row for row in open("/proc/self/maps") if "libvipr" in row]
+assert other.name in rows[0], rows
+sys.exit(audit.main())
 """
 THIRD = "at least 0.333333, at most 0.333334"
 OTHER = "nothing is proved of this model"
@@ -359,3 +373,19 @@ def digests(check, room, words):
     check(done.returncode == 2, f"audit of standard input, twice: {done}")
     done = run([*words, TOP / "examples/plan.mps", "-"], texts[1])
     check(done.returncode == 0, f"audit of standard input: {done}")
+
+
+def called_library(check, room):
+    """The digest of the program is that of the library that was called, whatever else has its name in a path."""
+    other = room / "libvipr-environment" / "python3"
+    other.parent.mkdir()
+    with other.open("wb") as file:
+        file.truncate(1 << 28)
+    examples = [TOP / f"examples/plan.{end}" for end in ("mps", "vipr")]
+    done = run([sys.executable, "-c", BESIDE_ANOTHER, other, *examples])
+    library = Path(os.environ["VIPR_LIBRARY"]).read_bytes()
+    check(
+        done.returncode == 0
+        and f"sha256 {hashlib.sha256(library).hexdigest()}" in report_of(done.stdout)["program"],
+        f"another file lies before the library: {done}",
+    )

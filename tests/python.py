@@ -1340,6 +1340,7 @@ def audited(room, words):
     if library():
         audits.audits(check, room, words["audit"])
         audits.digests(check, room, words["audit"])
+        audits.called_library(check, room)
 
 
 def called(texts):
