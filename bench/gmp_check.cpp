@@ -163,7 +163,7 @@ public:
     static Number as_number(const std::string& token)
     {
         Number number;
-        if (number.set_str(token[0] == '+' ? token.substr(1) : token, 10) != 0 || number.get_den() == 0)
+        if (number.set_str(token[0] == '+' ? token.substr(1) : token, 10) != 0 || number.get_den() <= 0)
             throw Refused("no number: " + token);
         number.canonicalize();
         return number;
