@@ -355,6 +355,7 @@ def inputs(room):
         set(vipr.__all__) < set(exported) and exported["read_mps"] is mps.read_mps,
         "a name of __all__ is not there",
     )
+    check(set(vipr.__all__) <= set(dir(vipr)), "dir doesn't list a name of __all__")
     project = (TOP / "python/pyproject.toml").read_text()
     check(f'version = "{vipr.__version__}"' in project, f"__version__ is {vipr.__version__}")
 

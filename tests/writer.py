@@ -196,6 +196,19 @@ def refused():
         "a denominator past the limit", ValueError, ("constraint", "G", Fraction(1, 2**127), row)
     )
     refuses("an unknown variable", ValueError, ("constraint", "G", 1, {"z": 1}))
+    refuses("an unknown variable that is 0", ValueError, ("solution", {"z": 0}))
+    refuses("a float that is 0", TypeError, ("constraint", "G", 1, {"x": 0.0}))
+    refuses("a row that is none", TypeError, ("constraint", "G", 1, [("x", 1)]))
+    for index in ("c0", None, Fraction(0), 0.0):
+        refuses(
+            f"{index!r} as a constraint",
+            TypeError,
+            ("constraint", "G", 1, row, "c0"),
+            ("lin", "G", 1, row, {index: 1}),
+        )
+    refuses(
+        "a name as an assumption", TypeError, ("asm", "G", 1, row), ("uns", "G", 1, row, *"0a0a")
+    )
     refuses("an unknown integer", ValueError, integers=["z"])
     refuses("an unknown sense", ValueError, ("constraint", ">=", 1, row))
     for name in ("two words", "%", "\n", "x" * 65536, "ü" * 40000):
@@ -265,6 +278,8 @@ def by_path(folder):
     for target, kind in (
         (f"{folder}/missing/a.vipr", OSError),
         (io.StringIO(), TypeError),
+        (tempfile.NamedTemporaryFile("w"), TypeError),
+        (open(__file__, "rb"), TypeError),
         (3, TypeError),
     ):
         try:
@@ -273,6 +288,19 @@ def by_path(folder):
         except kind as fault:
             check(str(fault), fault)
     path = Path(folder, "a.vipr")
+    for fails in (True, False):
+        try:
+            with vipr.Writer(path, {"x": 1}) as proof:
+                proof.claim(*[None, None][fails:])
+        except TypeError:
+            check(not path.exists(), "an error leaves a file that wasn't there")
+    for late in ("claim_infeasible", "claim", "solution", "constraint", "asm"):
+        words = {"claim": (1, 2), "solution": ({},), "claim_infeasible": ()}
+        try:
+            getattr(proof, late)(*words.get(late, ("G", 1, {"x": 1})))
+            check(False, f"{late} after the block is taken")
+        except ValueError as fault:
+            check("the block has ended" in str(fault), f"{late}: {fault}")
     path.write_bytes(b"precious")
     for fails in (True, False):
         try:

@@ -10,11 +10,11 @@
 
 `is_verified`, `check`, `check_file`, `explain`, `explain_long`, `show`, `tighten` and `digest` are calls of the proved library. Everything
 else in this package is plain Python that nothing proves: `read` and `read_file` give a certificate as values, `Writer` writes
-one, `read_mps` reads a model, `compared` compares the two, and `figures` measures a certificate. What refuses a text gives a
-`Refused`, which is false in a condition.
+one, `read_mps` reads a model, `compared` compares the two, and `figures` measures a certificate. What refuses a certificate
+gives a `Refused`, which is false in a condition; `read_mps` raises `mps.Refused`.
 """
 
-from typing import TYPE_CHECKING, Any
+from typing import TYPE_CHECKING, Any, List
 
 from .certificate import (
     Certificate,
@@ -105,3 +105,7 @@ def __getattr__(name: str) -> Any:
 
         return figures
     raise AttributeError(f"module {__name__!r} has no attribute {name!r}")
+
+
+def __dir__() -> List[str]:
+    return sorted({*globals(), *__all__})

@@ -16,6 +16,7 @@ is written. The file gets the certificate when the block ends, and stays as it w
 from __future__ import annotations
 
 import io
+import operator
 import os
 import re
 import tempfile
@@ -118,11 +119,22 @@ def _name(name: str) -> str:
     return name
 
 
+def _index(constraint: int) -> int:
+    """The index of a constraint. Whoever gives a name in place of a handle is told so."""
+    try:
+        return int(operator.index(constraint))
+    except TypeError:
+        given = type(constraint).__name__
+        raise TypeError(f"a constraint is its handle or its index, not {given}") from None
+
+
 def _opened(file: Target) -> IO[bytes]:
     """A stream of bytes. A file that is named is opened now, so that it is known before a search that it can be written."""
     if isinstance(file, (str, os.PathLike)):
         return open(file, "ab")
-    if isinstance(file, io.TextIOBase) or not hasattr(file, "write"):
+    # (what wraps a text stream, as a temporary file does, has its encoding)
+    is_text = isinstance(file, io.TextIOBase) or hasattr(file, "encoding")
+    if is_text or not hasattr(file, "write") or not getattr(file, "writable", lambda: True)():
         raise TypeError(
             "a certificate is bytes: give a path, a file that is open in the mode wb, or sys.stdout.buffer"
         )
@@ -134,7 +146,8 @@ class Writer:
 
     `objective` has a coefficient for each variable, in the order of their indices; one that isn't in the objective has 0.
     `integers` names the integral ones. A wrong call raises ValueError with the reason: a name, a sense or a constraint that
-    isn't there, a solution that isn't feasible, a claim that no solution attains. A float raises TypeError.
+    isn't there, a solution that isn't feasible, a claim that no solution attains, a call after the block. What has another
+    type raises TypeError, a float too.
     """
 
     def __init__(
@@ -150,8 +163,8 @@ class Writer:
         self.maximizes, self.checks, self.profile = maximize, checks, profile
         self.variables = {_name(name): index for index, name in enumerate(objective)}
         self.integers = {self._variable(name) for name in integers}
+        self.objective = self._row(objective)
         self.costs = {name: _exact(value) for name, value in objective.items() if value}
-        self.objective = self._row(self.costs)
         self.constraints: List[str] = []
         self.bound_count = 0
         self.solutions: List[str] = []
@@ -161,7 +174,10 @@ class Writer:
         self.uses_cutoff = False
         # of each derivation its last reference, where its line begins in the temporary file, and whether it is assumed
         self.lasts, self.begins, self.assumed = array("q"), array("q"), bytearray()
-        self.is_own = isinstance(file, (str, os.PathLike))
+        self.is_own, self.made = False, ""
+        if isinstance(file, (str, os.PathLike)):
+            # (a file that wasn't there goes again if an error ends the block)
+            self.is_own, self.made = True, "" if os.path.lexists(file) else os.path.abspath(file)
         self.file = _opened(file)
         self.derived: IO[bytes] = tempfile.TemporaryFile()
 
@@ -174,16 +190,20 @@ class Writer:
         _: Optional[BaseException],
         __: Optional[TracebackType],
     ) -> None:
+        is_written = False
         try:
             if error is None:
                 self._check_claim()
                 if self.is_own and self.file.seekable():
                     self.file.truncate(0)
                 self.file.writelines(self._lines())
+                is_written = True
         finally:
             self.derived.close()
             if self.is_own:
                 self.file.close()
+            if self.made and not is_written:
+                os.unlink(self.made)
 
     # ---- the problem
 
@@ -222,8 +242,9 @@ class Writer:
 
     def solution(self, values: Mapping[str, Exact], name: str = "") -> Number:
         """A solution; a variable that isn't named is 0. Gives its objective value."""
+        self._check_open()
+        listed = f'{_name(name or f"s{len(self.solutions)}")} {self._row(values)}'
         exact = {variable: _exact(value) for variable, value in values.items() if value}
-        listed = f'{_name(name or f"s{len(self.solutions)}")} {self._row(exact)}'
         self._check_solution(exact)
         value = sum(cost * exact.get(variable, 0) for variable, cost in self.costs.items())
         if self.best is None or (value > self.best if self.maximizes else value < self.best):
@@ -233,6 +254,7 @@ class Writer:
 
     def claim(self, lower: Optional[Exact], upper: Optional[Exact]) -> None:
         """Claims that the optimum lies between these bounds; None claims nothing on that side."""
+        self._check_open()
         if lower is not None and upper is not None and lower > upper:
             raise ValueError(f"the lower bound {lower} is above the upper bound {upper}")
         below = "-inf" if lower is None else _number(lower)
@@ -242,6 +264,7 @@ class Writer:
 
     def claim_infeasible(self) -> None:
         """Claims that the problem is infeasible."""
+        self._check_open()
         self.claimed, self.attained = "infeas", None
 
     # ---- derivations
@@ -293,11 +316,11 @@ class Writer:
         name: str = "",
     ) -> Handle:
         """A constraint that holds under each of two branches: a constraint that implies it, and the branch's assumption."""
-        for index in (one_assumed, two_assumed):
+        indices = [_index(constraint) for constraint in (one, one_assumed, two, two_assumed)]
+        for index in indices[1::2]:
             at = index - len(self.constraints)
             if not (0 <= at < len(self.assumed) and self.assumed[at]):
-                raise ValueError(f"constraint {index!r} is no assumption")
-        indices = [one, one_assumed, two, two_assumed]
+                raise ValueError(f"constraint {index} is no assumption")
         reason = f'uns {" ".join(map(str, indices))}'
         return self._derive(reason, indices, sense, bound, row, name or f"d{self._next()}")
 
@@ -308,6 +331,10 @@ class Writer:
 
     # ---- how they are written
 
+    def _check_open(self) -> None:
+        if self.derived.closed:
+            raise ValueError("the block has ended, so nothing can be added to its certificate")
+
     def _variable(self, name: str) -> int:
         if name not in self.variables:
             raise ValueError(f"there is no variable {name!r}")
@@ -316,10 +343,15 @@ class Writer:
     def _row(self, row: Named) -> str:
         if isinstance(row, _Objective):
             return row.value
-        parts = [f"{self._variable(name)} {_number(value)}" for name, value in row.items() if value]
+        if not hasattr(row, "items"):
+            given = type(row).__name__
+            raise TypeError(f"a row is a dict from names to numbers, or OBJECTIVE, not {given}")
+        pairs = [(self._variable(name), _exact(value)) for name, value in row.items()]
+        parts = [f"{index} {_number(value)}" for index, value in pairs if value]
         return " ".join([str(len(parts)), *parts])
 
     def _constraint(self, sense: str, bound: Exact, row: Named, name: str) -> str:
+        self._check_open()
         if sense not in ("L", "G", "E"):
             raise ValueError(f"a sense is L, G or E, and not {sense!r}")
         return f"{_name(name)} {sense} {_number(bound)} {self._row(row)}"
@@ -334,7 +366,8 @@ class Writer:
             Iterable[Tuple[int, Exact]],
             entries.items() if isinstance(entries, Mapping) else entries,
         )
-        used = [(index, multiplier) for index, multiplier in pairs if multiplier]
+        exact = [(_index(index), _exact(multiplier)) for index, multiplier in pairs]
+        used = [(index, multiplier) for index, multiplier in exact if multiplier]
         parts = [f"{index} {_number(multiplier)}" for index, multiplier in used]
         reason = " ".join([word, str(len(parts)), *parts])
         named = [index for index, _ in used]
