@@ -13,13 +13,17 @@ Prints each fault, and last `solver: N checks, F failed`; the exit status is 1 i
 
 import io
 import itertools
+import os
 import random
+import shutil
+import signal
 import subprocess
 import sys
 import tempfile
 from collections import Counter
 from fractions import Fraction
 from pathlib import Path
+from unittest import mock
 
 from texts import TOP, Checks, program, run
 
@@ -219,6 +223,47 @@ def command():
     check((status, out) == (3, b"") and b"missing.mps: No such file" in fault, f"missing: {fault}")
 
 
+def stopped():
+    """Ctrl-C ends the command with a word, and with nothing printed. It is told while it waits for its model."""
+    with tempfile.TemporaryDirectory() as folder:
+        pipe = f"{folder}/model.mps"
+        os.mkfifo(pipe)
+        with subprocess.Popen(
+            [sys.executable, SCRIPT, pipe],
+            stdout=subprocess.PIPE,
+            stderr=subprocess.PIPE,
+            preexec_fn=lambda: signal.signal(signal.SIGINT, signal.default_int_handler),
+        ) as child, open(pipe, "wb"):
+            child.send_signal(signal.SIGINT)
+            out, fault = child.communicate()
+        found = child.returncode, out, fault
+        check(found == (130, b"", b"stopped\n"), f"stopped: {found}")
+
+
+def on_terminal():
+    """On a terminal a line says how far the search is, and whether it has found a solution."""
+    for best, said in ((None, "no solution"), (0, "best 0"), (Fraction(7, 2), "best 7/2")):
+        progress = solve.Progress()
+        progress.shown = -2.0
+        with mock.patch("sys.stderr", io.StringIO()) as terminal:
+            terminal.isatty = lambda: True
+            progress.show(best)
+        shown = terminal.getvalue()
+        check(f"1 nodes, {said}, 0 s" in shown, f"the progress is {shown!r}")
+
+
+def without_package():
+    """A copy that has no package beside it says what is missing."""
+    with tempfile.TemporaryDirectory() as folder:
+        for path in SCRIPT.parent.glob("s*.py"):
+            shutil.copy(path, folder)
+        found = run([sys.executable, "-S", "-E", f"{folder}/solve.py", "model.mps"])
+        check(
+            found.returncode == 1 and b"docs/USE.md says how to install it" in found.stderr,
+            f"without the package: {found}",
+        )
+
+
 def by_floats():
     """The same by solve_floats.py, in a Python that has scipy."""
     for python in PYTHONS:
@@ -240,6 +285,9 @@ def main():
     else:
         random_models(LinearProgram)
         command()
+        stopped()
+        on_terminal()
+        without_package()
         by_floats()
     return CHECKS.end()
 

@@ -8,7 +8,8 @@ of a proof is made here by one call of vipr.Writer, and says which rule of docs/
 `vipr check` checks the proof, and `vipr-compare-mps` that it is about the model.
 
 An integer column needs a bound. If one has only a lower or only an upper bound, the search may go on without end; then give it
-both. The exit status is 0, 1 if there is no proof, 2 if the command line isn't understood, and 3 if the file can't be read.
+both. Ctrl-C ends the search, and nothing is written. The exit status is 0, 1 if there is no proof, 2 if the command line isn't
+understood, and 3 if the file can't be read.
 """
 
 import argparse
@@ -21,9 +22,13 @@ from pathlib import Path
 # (without an installed package that of a folder above is taken: of this repository, or of an archive of it)
 ABOVE = Path(__file__).resolve().parents
 sys.path += [str(folder / "python") for folder in ABOVE if (folder / "python/vipr").is_dir()]
-import vipr  # noqa: E402
 from simplex import Infeasible, LinearProgram, Unbounded  # noqa: E402
-from vipr import mps  # noqa: E402
+
+try:
+    import vipr
+    from vipr import mps
+except ImportError:
+    sys.exit("the Python package vipr is not here: docs/USE.md says how to install it")
 
 
 class NoProof(Exception):
@@ -88,7 +93,8 @@ class Progress:
         seconds = time.monotonic() - self.start
         if seconds > self.shown + 1 and sys.stderr.isatty():
             self.shown = seconds
-            print(f"\r{self.nodes} nodes, best {best}, {seconds:.0f} s ", end="", file=sys.stderr)
+            found = "no solution" if best is None else f"best {best}"
+            print(f"\r\x1b[K{self.nodes} nodes, {found}, {seconds:.0f} s ", end="", file=sys.stderr)
 
     def end(self):
         if self.shown:
@@ -106,8 +112,10 @@ class Solver:
 
     def solve(self):
         """Proves that the model is infeasible, or which value is its optimum."""
-        bound, _ = self.node(self.program, self.model.reasons)
-        self.progress.end()
+        try:
+            bound, _ = self.node(self.program, self.model.reasons)
+        finally:
+            self.progress.end()
         if bound is None:
             # The claim: some constraint that rests on no assumption is absurd (FORMAT, section 4, "The claim").
             self.proof.claim_infeasible()
@@ -122,7 +130,7 @@ class Solver:
 
         Gives the bound, or None if the node is infeasible, and the constraint that proves it.
         """
-        self.progress.show(self.best and self.best * self.model.turn)
+        self.progress.show(None if self.best is None else self.best * self.model.turn)
         try:
             found = program.solve()
             split = self.most_fractional(found.point)
@@ -236,7 +244,9 @@ def prove(file, out, program):
             model = Model(file, proof)
             Solver(model, proof, program(model.costs, model.rows, model.sides)).solve()
     except Unbounded:
-        raise NoProof("the linear relaxation is unbounded, so there is nothing to prove") from None
+        raise NoProof(
+            "the linear relaxation is unbounded: so is the model, or it is infeasible, and neither is proved"
+        ) from None
     except ValueError as fault:
         # (a number past 2^127 - 1, which the format's checkers needn't take: FORMAT, "Limits")
         raise NoProof(str(fault)) from None
@@ -267,6 +277,9 @@ def main(program=LinearProgram):
         where = f"{fault.filename}: " if fault.filename else ""
         print(f"{where}{fault.strerror or fault}", file=sys.stderr)
         return 3
+    except KeyboardInterrupt:
+        print("stopped", file=sys.stderr)
+        return 130
     return 0
 
 
