@@ -1026,6 +1026,16 @@ def pictures(texts):
                 f"{spare} are not needed: {boxes}",
             )
         drawn(text, 0)
+    rows = "\n".join(f"c{side} G {side} 1 0 1" for side in range(60))
+    front, behind = "VER 1.0 VAR 1 x INT 0 OBJ min 1 0 1 CON 60 0", "RTP range 59 inf SOL 0 DER 0"
+    proof = vipr.read("\n".join([front, rows, behind]).encode())
+    listed = picture.Picture(proof, structure.outline(proof)).listed()
+    styles = {words.split()[1]: style for words, style in listed if words.startswith("[")}
+    check(
+        len(styles) == picture.MOST_LISTED
+        and [name for name, style in styles.items() if not style] == ["c59"],
+        f"of 60 constraints the picture lists {styles}",
+    )
     drawn(NOT_THERE)
     check(
         (TOP / "docs/branch_and_bound.svg").read_text()

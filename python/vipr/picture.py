@@ -21,6 +21,7 @@ from array import array
 from collections import Counter
 from dataclasses import dataclass, field
 from html import escape
+from itertools import chain, islice
 from pathlib import Path
 from typing import Dict, Iterable, List, Optional, Tuple
 
@@ -358,6 +359,12 @@ class Picture:
             rows.append((f'{closed:,} split{"s" if closed > 1 else ""} ..', "small"))
         return Box(rows, self.style(index), self.title(index))
 
+    def listed_constraints(self) -> List[int]:
+        """The first constraints of the problem: if there are more, those that the goal needs come first."""
+        needed = (at for at in range(self.first) if self.needed[at])
+        others = (at for at in range(self.first) if not self.needed[at])
+        return sorted(islice(chain(needed, others), MOST_LISTED))
+
     def listed(self) -> List[Tuple[str, str]]:
         """What is beside the tree: the claim, the problem, and what the picture leaves out."""
         problem, most = self.proof.problem, MOST_CHARACTERS + 20
@@ -378,13 +385,14 @@ class Picture:
             (f"{len(problem.names)} variables, {len(problem.integers)} integer", "small"),
             ("", ""),
         ]
-        rows += [
-            (
-                f"[{at}] {printable(constraint.name)}  {self.text(constraint)}",
-                "" if self.goal is None or self.needed[at] else "small",
+        for at in self.listed_constraints():
+            constraint = problem.constraints[at]
+            rows.append(
+                (
+                    f"[{at}] {printable(constraint.name)}  {self.text(constraint)}",
+                    "" if self.goal is None or self.needed[at] else "small",
+                )
             )
-            for at, constraint in enumerate(problem.constraints[:MOST_LISTED])
-        ]
         if self.first > MOST_LISTED:
             rows.append((f".. {self.first - MOST_LISTED:,} more constraints", "small"))
         spare = len(self.derived) - sum(self.needed[self.first :])

@@ -3,7 +3,7 @@
 `vipr check` refuses numerators and denominators of more than 127 bits, and the bits of the largest ones show how near it is.
 Nothing is checked here, and nothing proves these figures. `goal` is the constraint that proves the claim's dual side. With
 --needed the constraints of the problem that its derivation needs are listed instead: index, name and algebra, with tabs
-between. They alone prove the claim of a verified certificate, and often fewer do: each needs others in this proof.
+between. If the certificate is verified, they alone prove the dual side of its claim. Another proof may need fewer.
 
 The exit status is 0, 1 if the text is no certificate, 2 if the command line isn't understood, and 3 if the file can't be read.
 """
