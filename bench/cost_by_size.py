@@ -1,18 +1,23 @@
 #!/usr/bin/env python3
 """Cost against size: processor time and memory of `check` over texts of 1 MB to 1 GB.
 
-usage: cost_by_size.py [--program PATH] [--against NAME=COMMAND].. [--sizes MB ..] [--runs N] [--room MB] [--picture FILE]
+usage: cost_by_size.py [--program PATH] [--against NAME=COMMAND].. [--sizes MB ..] [--runs N] [--room MB] [--seconds S]
+                       [--page [--about TEXT]] [--picture]
 
 A text is made while it is read, and comes through a pipe, so no file of that size is needed. It is of a family of families.py:
 `chain`, one derivation held at a time; `fractions`, sums of a hundred rows; and `held`, all derivations held to the end. Each
 round runs every program once on each text: `check`, and what --against names, which reads standard input. Of the rounds the
-least processor time counts, and the greatest peak of memory. If the next text may need more memory than --room (4,000 MB without
-it), a family ends there. Prints MB of text, seconds and MB of memory; --picture draws them, with logarithmic scales.
+least processor time counts, and the greatest peak of memory; a text of more than 64 MB is read once. A program gets no text of a
+family for which it may need more memory than --room (4,000 MB without it), or more time than --seconds (60). Prints MB of text,
+seconds and MB of memory. --page measures bench/gmp_check.cpp, too, and writes a part of docs/BENCHMARKS.md with its picture; --about
+gives what this part says of the programs of --against. --picture measures nothing, and draws the page's table anew.
 """
 import argparse
+import datetime
 import math
+import re
 import subprocess
-import sys
+import tempfile
 from collections import namedtuple
 
 import families
@@ -23,8 +28,22 @@ COLORS = ["#4878a8", "#d8923c", "#5a9a5a", "#a85878"]
 DASHES = ["none", "6 4", "2 4"]
 # a shorter time isn't told from this one
 LEAST = 0.001
+# a longer text is read once, in MB
+LONG = 64
 # a program over a text: MB of the text, seconds of processor time, and MB of memory
 Cost = namedtuple("Cost", "size seconds memory")
+# the table of the page: its programs, and its rows
+TABLE = re.compile(r"^\| family \| MB \| (.*: s, MB) \|\n\|[-|]+\|\n((?:\|.*\|\n)*)", re.M)
+PICTURE = measure.DOCS / "cost_by_size.svg"
+PAGE_PART = """## Cost against size
+
+![Seconds of processor time and MB of memory against MB of text, of vipr check and of gmp_check](cost_by_size.svg)
+
+On {day}: seconds of processor time, and the peak of memory in MB, for texts of three families. In `chain` one derivation is held at a time, in `fractions` each sum is dropped at once, and in `held` all derivations are held to the end. A text is read from a pipe while it is made. A program has no cell for a text that may take more than {seconds:g} s or {room:g} MB. `bench/cost_by_size.py --page` writes this part and draws the picture.{about}
+
+{table}
+
+"""
 
 
 def once(words, family, size):
@@ -48,22 +67,61 @@ def least(costs):
     )
 
 
+def goes_on(cost, size, given):
+    """Whether a program gets a text of so many MB, after what a shorter one took."""
+    times = size / cost.size
+    return cost.memory * times <= given.room and cost.seconds * times <= given.seconds
+
+
 def measured(programs, given):
-    """For each family the costs of each program, size by size."""
+    """For each family and each size the costs of the programs."""
     for family in FAMILIES:
-        before, most = None, 0.0
+        costs = {}
         for size in sorted(given.sizes):
-            if before and most * size / before > given.room:
-                left_out = f"{family.__name__}: {size:g} MB of text may need more memory"
-                print(left_out, file=sys.stderr)
+            going = {
+                name: words
+                for name, words in programs.items()
+                if size == min(given.sizes) or name in costs and goes_on(costs[name], size, given)
+            }
+            if not going:
                 break
             rounds = [
-                [once(words, family, size) for words in programs.values()]
-                for _ in range(given.runs)
+                [once(words, family, size) for words in going.values()]
+                for _ in range(1 if size > LONG else given.runs)
             ]
-            costs = [least(of_program) for of_program in zip(*rounds)]
-            before, most = size, max(cost.memory for cost in costs)
-            yield family.__name__, dict(zip(programs, costs))
+            costs = dict(zip(going, (least(of_program) for of_program in zip(*rounds))))
+            yield family.__name__, costs
+
+
+def table(names, rows):
+    """The lines of the table, one by one."""
+    yield "| family | MB | " + " | ".join(f"{name}: s, MB" for name in names) + " |"
+    yield "|---|---|" + "---|" * len(names)
+    for family, costs in rows:
+        cells = [
+            f"{costs[name].seconds:.3f}, {costs[name].memory:.1f}" if name in costs else "-"
+            for name in names
+        ]
+        size = next(iter(costs.values())).size
+        yield f"| {family} | {size:.1f} | {' | '.join(cells)} |"
+
+
+def rows_of(page):
+    """The rows of the page's table, nothing if it has none."""
+    found = TABLE.search(page)
+    if not found:
+        return []
+    names = re.findall(r"(\S+): s, MB", found[1])
+    rows = []
+    for row in found[2].splitlines():
+        family, size, *cells = row.strip("| ").split(" | ")
+        costs = {
+            name: Cost(float(size), *map(float, cell.split(", ")))
+            for name, cell in zip(names, cells)
+            if cell != "-"
+        }
+        rows.append((family, costs))
+    return rows
 
 
 class Panel:
@@ -122,8 +180,11 @@ def line(start, end, color, dash="none"):
     )
 
 
-def picture(rows):
-    """The costs as an SVG: time and memory against the size of the text, a color for a program and a dash for a family."""
+def picture(page):
+    """The page's table as an SVG: time and memory against the size of the text, a color for a program and a dash for a family."""
+    rows = rows_of(page)
+    if not rows:
+        return ""
     curves = {}
     for family, costs in rows:
         for program, cost in costs.items():
@@ -157,6 +218,32 @@ def picture(rows):
     return "\n".join([*lines, "</svg>", ""])
 
 
+def write_page(given, programs):
+    """Measures, and writes the part of the page and its picture."""
+    with tempfile.TemporaryDirectory() as folder:
+        programs = {"check": programs["check"], "gmp_check": [measure.built(folder)], **programs}
+        lines = list(table(programs, measured(programs, given)))
+    part = PAGE_PART.format(
+        day=datetime.date.today(),
+        seconds=given.seconds,
+        room=given.room,
+        about=f" {given.about}" if given.about else "",
+        table="\n".join(lines),
+    )
+    path = measure.DOCS / "BENCHMARKS.md"
+    front, _, back = measure.SIZES_PART.sub("", path.read_text(encoding="utf-8")).partition(
+        measure.PYTHON_HEAD
+    )
+    path.write_text(f"{front}{part}{measure.PYTHON_HEAD}{back}", encoding="utf-8")
+    draw()
+
+
+def draw():
+    """Writes the page's picture."""
+    page = (measure.DOCS / "BENCHMARKS.md").read_text(encoding="utf-8")
+    PICTURE.write_text(picture(page), encoding="utf-8")
+
+
 def main():
     words = argparse.ArgumentParser(description=__doc__.split("\n", maxsplit=1)[0])
     words.add_argument("--program", default=str(measure.TOP / "crates/vipr/out/vipr"))
@@ -164,24 +251,23 @@ def main():
     words.add_argument("--sizes", type=float, nargs="+", default=[1, 4, 16, 64, 256, 1024])
     words.add_argument("--runs", type=int, default=3)
     words.add_argument("--room", type=float, default=4000)
-    words.add_argument("--picture")
+    words.add_argument("--seconds", type=float, default=60)
+    words.add_argument("--page", action="store_true")
+    words.add_argument("--about")
+    words.add_argument("--picture", action="store_true")
     given = words.parse_args()
     programs = {"check": [given.program, "check"]}
     for named in given.against:
         name, _, command = named.partition("=")
         programs[name] = command.split()
-    print("| family | MB | " + " | ".join(f"{name}: s, MB" for name in programs) + " |")
-    print("|---|---|" + "---|" * len(programs))
-    rows = []
-    for family, costs in measured(programs, given):
-        rows.append((family, costs))
-        cells = [f"{cost.seconds:.2f}, {cost.memory:.1f}" for cost in costs.values()]
-        size = next(iter(costs.values())).size
-        print(f"| {family} | {size:.1f} | {' | '.join(cells)} |", flush=True)
     if given.picture:
-        with open(given.picture, "w", encoding="utf-8") as file:
-            file.write(picture(rows))
+        draw()
+    elif given.page:
+        write_page(given, programs)
+    else:
+        for row in table(programs, measured(programs, given)):
+            print(row, flush=True)
 
 
 if __name__ == "__main__":
-    sys.exit(main())
+    main()

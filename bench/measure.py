@@ -35,7 +35,10 @@ BESIDE = re.compile(r"^\| (\w+) \| (\d+), [\d.]+ \| (\d+), [\d.]+ \| ([\d.]+) \|
 TOOLS, TOOL_FAMILIES = ("stats", "picture", "html"), ("chain", "cuts", "tree", "wide")
 # the model that vipr-compare-mps is measured on, and the commit whose package is measured beside today's
 COLUMNS, EACH, BEFORE = 100_000, 10, "98e48f7d"
-PYTHON_PART = re.compile(r"## Python commands\n.*", re.S)
+PYTHON_HEAD = "## Python commands\n"
+PYTHON_PART = re.compile(f"{PYTHON_HEAD}.*", re.S)
+# the part of the page that cost_by_size.py writes
+SIZES_PART = re.compile(f"## Cost against size\n.*?(?={PYTHON_HEAD})", re.S)
 COLORS = ("vipr check", "#4878a8"), ("gmp_check", "#d8923c")
 
 
@@ -210,7 +213,7 @@ The last two columns say how many times the processor time and the memory of `vi
 
 On average, by the geometric mean, it takes {times:.1f} times the time and {memories:.1f} times the memory.
 
-{python}"""
+{sizes}{python}"""
 PYTHON_TEXT = """## Python commands
 
 The [commands](USE.md#the-commands-beside-the-program) that read a whole proof, on {day}: seconds of processor time and MB of memory for each MB of text, beside the {start} s and {room} MB that a command takes to start. Columns `before` are of the package at commit {before}, whose commands kept all that they read. They were measured in the same rounds. `bench/measure.py --python` writes this part. Other programs kept the machine busy.
@@ -306,23 +309,21 @@ def compared(packages, folder, runs):
     yield f"| {' | '.join(cells)} |"
 
 
+def built(folder):
+    """The path of bench/gmp_check.cpp built in a folder."""
+    other = f"{folder}/gmp_check"
+    source = str(TOP / "bench/gmp_check.cpp")
+    subprocess.run(
+        ["g++", "-std=c++17", "-O2", source, "-o", other, "-lgmpxx", "-lgmp"], check=True
+    )
+    return other
+
+
 def page(given, programs):
-    """Measures all of it, and writes the page and its picture."""
-    with tempfile.TemporaryDirectory() as folder, tempfile.TemporaryDirectory() as built:
-        other = f"{built}/gmp_check"
-        subprocess.run(
-            [
-                "g++",
-                "-std=c++17",
-                "-O2",
-                str(TOP / "bench/gmp_check.cpp"),
-                "-o",
-                other,
-                "-lgmpxx",
-                "-lgmp",
-            ],
-            check=True,
-        )
+    """Measures all of it, and writes the page and its picture. The part that cost_by_size.py writes stays."""
+    sizes = SIZES_PART.search((DOCS / "BENCHMARKS.md").read_text(encoding="utf-8"))
+    with tempfile.TemporaryDirectory() as folder, tempfile.TemporaryDirectory() as build:
+        other = built(build)
         families.make(folder, given.bytes)
         paths = sorted(Path(folder).iterdir())
         found = measured(programs | {"gmp_check": [other]}, paths, given.runs)
@@ -341,6 +342,7 @@ def page(given, programs):
             beside=others,
             times=times,
             memories=memories,
+            sizes=sizes[0] if sizes else "",
             python=python_part(given.bytes // 2, given.runs),
             growth="\n".join(growth(check, given.runs, small, families.FAMILIES)),
             hostile="\n".join(growth(check, given.runs, least, families.HOSTILE)),

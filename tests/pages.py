@@ -14,7 +14,7 @@ In README.md, CONTRIBUTING.md and the pages of docs/ and examples/ it looks at
   one piece of the file that the line names, and `check` prints the last column as its first line;
 - the tables of examples/README.md: each file has a row, with the verdict that `check` prints, and behind it what `explain`
   prints, or its model under bench/ where the program hasn't that command; a file that a script makes is what it makes;
-- the picture of docs/BENCHMARKS.md, which is drawn from one of its tables.
+- the pictures of docs/BENCHMARKS.md, which are drawn from its tables.
 
 In the sources it looks at blocks in doc comments that are marked with a file's name: they are a part of that file, at
 whatever indentation. Each call of DOCUMENTED has one.
@@ -45,6 +45,7 @@ from pathlib import Path
 from texts import TOP, Checks, program, run
 from plain_check import explained
 import kit
+import cost_by_size
 import measure
 
 PROGRAM = program(sys.argv[1:])
@@ -581,6 +582,20 @@ def as_a_reader():
         )
 
 
+def pictures():
+    """Checks that each picture of docs/BENCHMARKS.md is of one of its tables."""
+    page = "docs/BENCHMARKS.md"
+    text = (TOP / page).read_text()
+    for name, drawn, script in (
+        ("benchmarks.svg", measure.picture(text), "measure"),
+        ("cost_by_size.svg", cost_by_size.picture(text), "cost_by_size"),
+    ):
+        path = TOP / "docs" / name
+        found = path.read_text() if path.exists() else ""
+        message = f"{name} is of another table: bench/{script}.py --picture"
+        check(found == drawn, page, "", message)
+
+
 def main():
     commands = commands_of()
     with tempfile.TemporaryDirectory() as name:
@@ -594,13 +609,7 @@ def main():
             look_at(page, (TOP / page).read_text(), room)
         examples(commands)
         documented()
-    page = "docs/BENCHMARKS.md"
-    check(
-        (TOP / "docs/benchmarks.svg").read_text() == measure.picture((TOP / page).read_text()),
-        page,
-        "",
-        "the picture is of another table: bench/measure.py --picture",
-    )
+    pictures()
     if not shutil.which("git"):
         CHECKS.skip("git", "no block marked `sh` was run")
     elif not sys.argv[1:]:
