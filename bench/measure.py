@@ -10,7 +10,7 @@ measures texts of 1, 2 and 4 times the size: how time and memory grow. --hostile
 more than their length. --page measures all of it, and bench/gmp_check.cpp beside it, for which it needs g++ and GMP with its
 header gmpxx.h, and writes docs/BENCHMARKS.md with its picture. --picture measures nothing, and draws the page's table anew. --python
 measures the Python commands, now and at an earlier commit, on texts of half the size, and writes their part of the page; --page
-does, too.
+does, too. The part on cost against size is written by cost_by_size.py, and stays.
 """
 import argparse
 import datetime
