@@ -18,7 +18,7 @@ are the original.
 What each page says is worked out again: page_model.py reads it line by line, with a reader and rules that share no code with the
 program. So are the pages of N texts that are examples with parts damaged, with one number changed, or with a slip of a person or a
 script, by both profiles, and those of texts that are large in one respect. In each page one number, sign, name or mark is changed
-then, and page_model.py has to see that.
+then, and page_model.py has to see that. It also has to find that helps of other texts aren't true of some texts.
 
 The first page of each cause, and of each form that pages of it have, is compared with the one in tests/long_pages.txt: there
 a reader sees what a change of words does. --write writes that file. Each text in the sources of the pages is in a page.
@@ -773,6 +773,25 @@ HINTS = [
     ),
     ("diet", "opt 2 0 3 1 2", "opt 2 0 3 1 1", "change the solution, or leave it out"),
     ("diet", "iron G 9 2 0 1 1 3", "iron G 9 0", "no solution meets this constraint"),
+    (
+        "knapsack",
+        "bc 2 1 1 2 1",
+        "bc 0 1 1",
+        "lists no value, so each variable is 0: is its count right?",
+    ),
+    (
+        "set_cover",
+        "best 2 0 1 1 1",
+        "best 3 0 0 1 0 2 0",
+        "all values that the solution lists are 0, as is a variable that it doesn't list",
+    ),
+    ("knapsack", "bc 2 1 1", "bc 2 5 1", "are the pairs INDEX VALUE?"),
+    # an expression for a vector, a name that is a sense, quotes, braces without a reason, a keyword that isn't due
+    ("knapsack", "OBJ max", "OBJ max 10*a", "the objective is a count and then that many pairs"),
+    ("knapsack", "cap L 6", "E EQUAL 6", "write `E` for `=`"),
+    ("knapsack", "cap L", 'cap "L"', "is `L` meant? Nothing else may be in its token"),
+    ("knapsack", "{ rnd 3 0 13/4 2 1/4 6 1/2 }", "{}", "is the reason missing between the braces?"),
+    ("knapsack", "CON 7 6", "ver", "is the count after `min` or `max` too small or missing?"),
 ]
 
 # The second solution breaks the second constraint.
@@ -1069,6 +1088,9 @@ TRUE = [
             ("1/1024", "= 0.0009765625"),
             ("10/3", "is about 3.33333"),
             (f"1/{2**20}", "is about 9.53674e-7"),
+            (f"1/{2**18}", "= 0.000003814697265625"),
+            (f"{3 * 10**37 + 1}/2", "= 15000000000000000000000000000000000000.5"),
+            (f"{2**126 + 1}/2", "is about 4.25353e37"),
         )
     ],
     # a token with something else in it, or in another spelling
@@ -1376,6 +1398,122 @@ TRUE = [
     ([], "VER 1.0 VAR 1 x INT 0 OBJ min 0 CON 1 0 a\\x1b Q", ["`a\\\\x1b`"], []),
     ([], "VER 1.0 VAR 0 INT 0 OBJ m\xfcn", ["| " + " " * 24 + "^" * 6 + " this was found"], []),
 ]
+# Helps of other texts, which aren't true of this one: the model has to say so.
+UNTRUE = [
+    (
+        FRONT + "1 s 1 0 0 DER 0",
+        "the solution lists no value, so each variable is 0: is its count right?",
+    ),
+    (
+        FRONT + "1 s 0 DER 0",
+        "all values that the solution lists are 0, as is a variable that it doesn't list: change it, or leave it out",
+    ),
+    (FRONT + "1 s 1 0 0 DER 0", "its name is a number: is the name missing?"),
+    (
+        FRONT + "1 s 1 0 0 DER 0",
+        "is a value rounded, as one of floating point is? Write exact fractions",
+    ),
+    (
+        FRONT + "1 s 1 0 0 DER 0",
+        "no solution meets this constraint: change it, or take it out",
+    ),
+    (
+        "VER 1.0 VAR 1 x INT 0 OBJ min 0 CON 1 0 c G 1 0 RTP infeas SOL 1 s 1 0 1 DER 0",
+        "change the solution, or leave it out; a variable that it doesn't list is 0",
+    ),
+    (
+        "VER 1.0 VAR 1 a INT 0 OBJ max 10*a",
+        "a vector is a count and then that many pairs INDEX COEFFICIENT; the right-hand side is before it",
+    ),
+    *[
+        (
+            "VER 1.0 VAR 1 a INT 0 OBJ max 0 CON 1 0 cap EQUAL 6",
+            f"the name in front of this is {words}",
+        )
+        for words in (
+            "a number: is the count of coefficients in front of that too small, or a right-hand side missing?",
+            "`E`, `L` or `G`: is it the sense, and the name missing? NAME SENSE RIGHT-HAND-SIDE COUNT INDEX COEFFICIENT ..",
+        )
+    ],
+    # what is only said of the first token
+    *[
+        (
+            f"VER 1.0 VAR 1 x INT 0 OBJ min 0 CON 1 0 c {word}",
+            words,
+        )
+        for word, words in (
+            ("[G]]", "this looks like JSON, and not like a certificate"),
+            ("<", "this looks like a page of HTML or XML, and not like a certificate"),
+            ("#", "a comment begins with `%`"),
+            (
+                "min",
+                "this looks like an LP file, which has the problem alone: a certificate has the claim and its proof, too",
+            ),
+            (
+                "*",
+                "this looks like an MPS file, which has the problem alone: a certificate has the claim and its proof, too",
+            ),
+        )
+    ],
+    # a text that is whole
+    *[
+        (FRONT + "0 DER 1 a G 2 1 0 1 { lin 1 0 1 } -1", f"is the file cut, or {words} too large?")
+        for words in ("the count after `DER`", "a count")
+    ],
+    (
+        FRONT + "0 DER 1 a G 2 1 0 1 { lin 1 0 1 } -1",
+        "is the file cut, or is `DER` missing? Then write `DER 0` if nothing is derived",
+    ),
+    # a text that is cut, but refused before its end
+    (
+        FRONT + "1 s 0 DER 1 a G 1 0 { asm",
+        "the reason should end here: `asm` and `sol` take nothing, `uns` takes i1 l1 i2 l2, `lin` and `rnd` COUNT INDEX MULTIPLIER ..: "
+        "is its number of entries missing or too small?",
+    ),
+    # what is only said of a number
+    ("VER 1.1 VAR", "decimals are not in the format: write a fraction, as 13/4"),
+    ("VER 1.0 VAR 4294967296", "a count is digits alone: is it missing after the keyword?"),
+    ("VER 1.0 VAR nan", "is there no value? Then leave the entry or the constraint out"),
+    (
+        f"VER 1.0 VAR 1 x INT {2**128}",
+        "numerator and denominator may be 2^127 - 1 at most; docs/FORMAT.md says what can help",
+    ),
+    (
+        "VER 1.0 VAR 1 x INT 1 (0,0)",
+        "a comma is not in the format: write digits alone, or a fraction, as 13/4",
+    ),
+    (
+        "VER 1.0 VAR 1 x INT 1 1/2",
+        "a fraction is digits, `/` and digits, and its sign is in front, as -5/2",
+    ),
+    (
+        FRONT + "0 DER 1 a G 1 0 { uns 4e0",
+        "exponents are not in the format: write all digits, or a fraction, as 1/1000",
+    ),
+    (FRONT + "0 DER 1 a G 1 0 {{ asm", "put a space before the brace"),
+    ("VER 1.0 - VAR", "a number has no spaces, as -11/9"),
+    # of a derivation, and of the claim
+    (
+        FRONT + "0 DER 1 a G 2 1 0 1 { lin 1 0 1 } -1",
+        "each coefficient has the other sign: does every multiplier have the wrong sign?",
+    ),
+    (
+        FRONT + "0 DER 1 a G 2 1 0 1 { lin 1 0 1 } -1",
+        "is what was computed meant? `sol` gives the best listed value, and nothing better",
+    ),
+    (
+        FRONT + "0 DER 1 a G 1 1 0 1 { rnd 1 0 1/2 } -1",
+        "INT lists no variable: is it left out?",
+    ),
+    (
+        FRONT + "0 DER 0",
+        "the text lists a solution that is feasible, so `infeas` is false: claim `range` and two bounds",
+    ),
+    (
+        "VER 1.0 VAR 1 x INT 0 OBJ min 1 0 1 CON 0 0 RTP range -inf 1 SOL 1 s 1 0 2 DER 0",
+        "list a solution after SOL, or claim no primal bound in RTP (`inf` for min, `-inf` for max)",
+    ),
+]
 # The last reference has to be 9000, which a part of the text doesn't show.
 LATE = (
     "VER 1.0 VAR 0 INT 0 OBJ min 0 CON 1 0 c G 0 0 RTP infeas SOL 0 DER 9001\nd G 0 0 { lin 0 } 1\n"
@@ -1439,6 +1577,7 @@ CAUSES = [
     FRONT + "0 DER 1 a G 1 0 { lin 1 c 1 } -1",
     "VER " + "v" * 65536,
     FRONT + "1 half 1 0 1/2 DER 0",
+    FRONT + f"1 half 1 0 {LARGE}/2 DER 0",
     f"VER 1.0 VAR 1 x INT 0 OBJ min 0 CON 1 0 c G 1 1 0 {LARGE} RTP infeas SOL 1 large 1 0 2 DER 0",
     f"VER 1.0 VAR 1 x INT 0 OBJ min 1 0 {LARGE} CON 0 0 RTP infeas SOL 1 large 1 0 2 DER 0",
     FRONT + f"0 DER 1 a G 1 0 {{ lin 2 0 1 0 {LARGE} }} -1",
@@ -1556,6 +1695,17 @@ def is_true(page, text, name, path="standard input", profile=1):
     return offers
 
 
+def untrue_helps():
+    """The model finds that a help of another text isn't true of this one."""
+    for text, sentence in UNTRUE:
+        page = page_model.Page(page_facts.Facts(text.encode(), 1), "standard input")
+        fault = page_model.line_faults(page, f"  = help: {sentence}")
+        check(
+            fault and fault != page_model.NO_FORM,
+            f"{text!r}: {sentence!r} is not refused: {fault}",
+        )
+
+
 def damaged_texts():
     """What is said of examples that are damaged is true."""
     known = examples()
@@ -1663,13 +1813,16 @@ def texts_of_pages():
 
 
 def count_unreached():
-    """Each text of the sources is in a page."""
+    """Each text of the sources is in a page, and so is each help that the model knows."""
     whole = "\n".join(pages.values())
     for file, text, pattern in texts_of_pages():
         check(
             text in UNREACHED or re.search(pattern, whole),
             f"no page has this text of {file}: {text!r}",
         )
+    said = {line.removeprefix("  = help: ") for line in whole.split("\n")}
+    for sentence in page_model.HINTS:
+        check(sentence in said, f"no page has this help, which the model takes: {sentence!r}")
 
 
 def text_of(lines, at, words):
@@ -1911,6 +2064,7 @@ def main():
         of_a_pipe(Path(folder) / "pipe", PROBLEMS / "cutoff.vipr")
         changes_suffice()
         slips_are_named()
+        untrue_helps()
         damaged_texts()
         large_texts()
         cut_pages(path)

@@ -180,7 +180,7 @@ class Facts:
         self.role = next(walk)
         given = 0
         begin = re.match(rb"[\t-\r ]*(?:%[^\n]*(?:\n|$)[\t-\r ]*)*", self.text).end()
-        self.is_end = True
+        self.is_end = self.is_text_fault()
         for found in re.compile(rb"[^\t-\r ]+").finditer(self.text, begin):
             self.token, role = Token(found.start(), found[0]), self.role
             if found.start() >= end:
@@ -209,6 +209,8 @@ class Facts:
                 self.counts[role.section] = count_of(found[0])
                 given = self.counts[role.section] if role.section == "CON" else given
             self.role = walk.send(found[0])
+        if not self.is_text_fault():
+            self.role, self.token = Role("DER", "nothing"), NOTHING
         self.given = given
 
     def read_items(self):

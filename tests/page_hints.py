@@ -67,14 +67,20 @@ def name_is_number(name):
     return re.fullmatch(rb"[-+]?[0-9]+(/0*[1-9][0-9]*)?", name) is not None
 
 
-def front(*bytes_):
-    return lambda facts: facts.token.bytes.startswith(bytes_)
+def first_is(pattern):
+    """A test of the first token, in the place of `VER`."""
+    return both(role_is("keyword", section="VER"), token_is(pattern))
 
 
 def number_wanted(facts):
     """Whether a number is wanted, and the token is none."""
     is_number = re.fullmatch(rb"[-+]?[0-9]+(/[0-9]+)?", facts.token.bytes)
     return facts.refused == 4 and not is_number
+
+
+def number_like(pattern):
+    """A test of a token in the place of a number."""
+    return both(number_wanted, token_is(pattern))
 
 
 def text_is(pattern):
@@ -95,29 +101,33 @@ def is_repeated(facts):
 
 KEYWORD = token_is("|".join(KEYWORDS))
 NUMBERLIKE = token_is(r"[-+]?[0-9.].*")
+ROUNDED = (
+    "a sum is rounded if all coefficients are whole, and all its variables are integer ones: "
+    "is `lin` meant, which doesn't round?"
+)
 # the hint without `  = help: `, and of which texts it is true
 HINTS = {
     # what stands in front of the first token, or in its place
     **{
-        f"this looks compressed: {tool} -dc FILE | vipr explain --long": front(magic)
+        f"this looks compressed: {tool} -dc FILE | vipr explain --long": first_is(f"{magic}.*")
         for tool, magic in (
-            ("gzip", b"\x1f\x8b"),
-            ("xz", b"\xfd7zXZ"),
-            ("zstd", b"\x28\xb5\x2f\xfd"),
-            ("bzip2", b"BZh"),
+            ("gzip", "\x1f\x8b"),
+            ("xz", "\xfd7zXZ"),
+            ("zstd", "[\x28]\xb5\x2f\xfd"),
+            ("bzip2", "BZh"),
         )
     },
-    "this begins with a byte order mark: save the file without it": front(b"\xef\xbb\xbf"),
-    "this looks like UTF-16: save the file as ASCII or as UTF-8 without a byte order mark": token_is(
+    "this begins with a byte order mark: save the file without it": first_is("\xef\xbb\xbf.*"),
+    "this looks like UTF-16: save the file as ASCII or as UTF-8 without a byte order mark": first_is(
         "(\xff\xfe|\xfe\xff).*"
     ),
-    "this looks like a page of HTML or XML, and not like a certificate": front(b"<"),
-    "a comment begins with `%`": token_is("(#|//|/[*]).*"),
-    "this looks like JSON, and not like a certificate": token_is("[{[].*"),
-    "this looks like an MPS file, which has the problem alone: a certificate has the claim and its proof, too": token_is(
+    "this looks like a page of HTML or XML, and not like a certificate": first_is("<.*"),
+    "a comment begins with `%`": first_is("(#|//|/[*]).*"),
+    "this looks like JSON, and not like a certificate": first_is("[{[].*"),
+    "this looks like an MPS file, which has the problem alone: a certificate has the claim and its proof, too": first_is(
         "[*].*|NAME|ROWS"
     ),
-    "this looks like an LP file, which has the problem alone: a certificate has the claim and its proof, too": token_is(
+    "this looks like an LP file, which has the problem alone: a certificate has the claim and its proof, too": first_is(
         r"\\.*|[Mm](in|ax)imize|min|max"
     ),
     "a certificate begins with the line `VER 1.0`: is it missing here, or is this another file?": role_is(
@@ -135,7 +145,6 @@ HINTS = {
     "the next section comes after the version `1.0`": role_is("keyword", section="VAR"),
     # sections
     "remove the comment: comments may only be before `VER`": token_is("[%#].*"),
-    "is the count after `VAR` right, or is a space in a name?": role_is("keyword", section="INT"),
     "is the count after `INT` too small?": role_is("keyword", section="OBJ"),
     "is the count after `min` or `max` too small or missing?": role_is("keyword", section="CON"),
     "is the first count after `CON` too small? It counts all constraints, bounds included; or is the last constraint's count of "
@@ -151,13 +160,16 @@ HINTS = {
     ),
     "is the file cut, or the count after `DER` too large?": lambda facts: facts.is_end
     and facts.role.section == "DER",
-    "is the file cut, or a count too large?": lambda facts: facts.is_end,
+    "is the file cut, or a count too large?": lambda facts: facts.is_end
+    and facts.role.wanted != "keyword",
     "a file is one certificate, without comments after `VER`: remove all from here on": both(
         cause_is(18), token_is("VER|%.*")
     ),
     "make the count after `DER` larger, or remove all from here on": cause_is(18),
     # what is fixed by the cause
-    "numerator and denominator may be 2^127 - 1 at most; docs/FORMAT.md says what can help": is_long_number,
+    "numerator and denominator may be 2^127 - 1 at most; docs/FORMAT.md says what can help": both(
+        cause_is(5), is_long_number
+    ),
     "a denominator may not be 0": both(cause_is(6), token_is(".*/0+")),
     "counts, and constraints and derivations together, may be 4294967295 at most": cause_is(8),
     "write `min` or `max` after `OBJ`": cause_is(12),
@@ -203,7 +215,6 @@ HINTS = {
         "row count", section="OBJ"
     ),
     "`lin` and `rnd` take COUNT INDEX MULTIPLIER ..": role_is("entry count"),
-    "a count is digits alone": role_is("count"),
     "`INT` lists variables by their indices, from 0, and not by names": role_is("integer index"),
     "a variable is named by its index, from 0: is a name in its place, is a pair missing, or is the count of pairs in front of it too "
     "large?": role_is("row index"),
@@ -217,7 +228,9 @@ HINTS = {
         facts
     )
     and facts.role.section == "SOL",
-    "a count is digits alone: is it missing after the keyword?": role_is("count"),
+    "a count is digits alone: is it missing after the keyword?": lambda facts: facts.role.wanted
+    == "count"
+    and not facts.token.bytes.isdigit(),
     "an index is digits alone, and indices count from 0: are the pairs INDEX COEFFICIENT?": lambda facts: facts.role.wanted
     == "row index"
     and facts.role.section != "SOL"
@@ -239,12 +252,14 @@ HINTS = {
         role_is("right-hand side", section="CON"),
         token_is("[-+]?((?i:inf|infinity|infty)|[0-9.]*[eE][-+]?[0-9]+)"),
     ),
-    "is there no value? Then leave the entry or the constraint out": token_is("nan|NaN|None|null"),
-    "decimals are not in the format: write a fraction, as 13/4": token_is("[-+]?[0-9]*[.][0-9]*"),
-    "a number is digits with or without a sign, or a fraction, as -3 or 13/4, and nothing else is in its token": number_wanted,
-    "a sum is rounded if all coefficients are whole, and all its variables are integer ones: is `lin` meant, which doesn't round?": cause_is(
-        36
+    "is there no value? Then leave the entry or the constraint out": number_like(
+        "nan|NaN|None|null"
     ),
+    "decimals are not in the format: write a fraction, as 13/4": number_like(
+        "[-+]?[0-9]*[.][0-9]*"
+    ),
+    "a number is digits with or without a sign, or a fraction, as -3 or 13/4, and nothing else is in its token": number_wanted,
+    ROUNDED: cause_is(36),
     "INT lists no variable: is it left out?": lambda facts: facts.refused in (36, 37)
     and not facts.problem.integers,
     # senses
@@ -293,7 +308,9 @@ HINTS = {
     )
     or (facts.role.wanted == "open brace" and facts.token.bytes.startswith(b"{}")),
     "is a number missing in front of the brace?": token_is("}"),
-    "a number has no spaces, as -11/9": token_is("[-+]|/.*"),
+    "a number has no spaces, as -11/9": lambda facts: (
+        number_like("[-+]|/.*")(facts) or both(role_is("entry index"), token_is("/.*"))(facts)
+    ),
     "an entry is two tokens, INDEX MULTIPLIER, the index first": both(
         role_is("entry index"), NUMBERLIKE
     ),
@@ -303,7 +320,8 @@ HINTS = {
     "a constraint is named by its index, digits alone, and not by its name; is the number of entries right?": role_is(
         "entry index"
     ),
-    "put a space before the brace": token_is(".+}"),
+    "put a space before the brace": lambda facts: facts.role.wanted != "open brace"
+    and token_is(".+}")(facts),
     # numbers
     "for no lower bound write `-inf`; if the problem is infeasible write `RTP infeas`": both(
         role_is("lower bound"), token_is("[-+]?(?i:inf|infinity|infty)")
@@ -312,16 +330,18 @@ HINTS = {
         role_is("upper bound"), token_is("[-+]?(?i:inf|infinity|infty)")
     ),
     "infinite values may only be bounds of the claim": both(
-        token_is("[-+]?(?i:inf|infinity|infty)"), lambda facts: facts.role.section != "RTP"
+        number_like("[-+]?(?i:inf|infinity|infty)"), lambda facts: facts.role.section != "RTP"
     ),
     "exponents are not in the format: write all digits, or `-inf` first and `inf` second for no bound": both(
         role_is("lower bound", "upper bound"), token_is("[-+]?[0-9.]*[eE][-+]?[0-9]+")
     ),
-    "exponents are not in the format: write all digits, or a fraction, as 1/1000": token_is(
+    "exponents are not in the format: write all digits, or a fraction, as 1/1000": number_like(
         "[-+]?[0-9.]*[eE][-+]?[0-9]+"
     ),
-    "a comma is not in the format: write digits alone, or a fraction, as 13/4": token_is(".*,.*"),
-    "a fraction is digits, `/` and digits, and its sign is in front, as -5/2": token_is(
+    "a comma is not in the format: write digits alone, or a fraction, as 13/4": number_like(
+        ".*,.*"
+    ),
+    "a fraction is digits, `/` and digits, and its sign is in front, as -5/2": number_like(
         r".*/.*|Fraction\(.*"
     ),
     "two bounds come after `range` and nothing else: each is a number, as -3 or 13/4, or `-inf` for no lower one, or `inf` for no upper "
@@ -344,8 +364,9 @@ HINTS = {
     "is a value rounded, as one of floating point is? Write exact fractions": lambda facts: facts.refused
     == 22
     and is_near_miss(facts),
-    "change the solution, or leave it out; a variable that it doesn't list is 0": solution_is(
-        lambda name, count, values: any(values)
+    "change the solution, or leave it out; a variable that it doesn't list is 0": lambda facts: (
+        solution_is(lambda name, count, values: any(values))(facts)
+        and bool(facts.plain(int(facts.details["constraint"].split()[0]))[0])
     ),
     "docs/FORMAT.md says what can help when a number is past the limit": cause_is(23, 35),
     "list a solution after SOL, or claim no primal bound in RTP (`inf` for min, `-inf` for max)": lambda facts: facts.refused

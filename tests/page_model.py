@@ -16,8 +16,10 @@ from page_facts import (
     Wrong,
     rules,
 )
-from page_hints import HINTS, ends_text, is_near_miss
+from page_hints import HINTS, ROUNDED, ends_text, is_near_miss
 from page_lines import FORMS, OFFERS, Page, is_at_fault, is_second, proved, strongest_bound
+
+NO_FORM = "no line has this form"
 
 
 def required(facts, said):
@@ -147,6 +149,7 @@ def required_of_step(facts, said):
         yield "past_bits", 1
     if cause == 36:
         yield "sum", 1
+        yield f"hint: {ROUNDED}", int(not any(said[offer] for offer in OFFERS))
         yield "hint: INT lists no variable: is it left out?", int(not facts.problem.integers)
         yield "row faults", min(MOST_SHOWN, len(list(facts.row_faults(facts.written("sum")[0]))))
     if cause == 37:
@@ -259,7 +262,7 @@ def line_faults(page, line):
             return None if HINTS[hint](page.facts) else "it is not true of this text"
         except (KeyError, IndexError, AttributeError, TypeError, ValueError) as wrong:
             return f"nothing of the text fits it: {type(wrong).__name__} {wrong}"
-    return fault or "no line has this form"
+    return fault or NO_FORM
 
 
 def arguments(test, found):
