@@ -45,6 +45,7 @@ import shutil
 import sys
 import tarfile
 import tempfile
+import time
 import xml.etree.ElementTree
 from collections import Counter
 from concurrent.futures import ThreadPoolExecutor
@@ -927,9 +928,21 @@ def alive():
             shown.part("reading", 10)(5)
             shown.end()
         check(
-            stream.getvalue().strip("\r").partition(" \r")[0] == wanted,
+            stream.getvalue().strip("\r").partition(" \x1b[K")[0] == wanted,
             f"{is_terminal} {seconds}: {stream.getvalue()!r}",
         )
+    stream = io.StringIO()
+    stream.isatty = lambda: True
+    with mock.patch("sys.stderr", stream), mock.patch.multiple(files, LONG=-1, OFTEN=0.01):
+        shown = files.Alive()
+        with shown.during("checking"):
+            for _ in range(6000):
+                if stream.getvalue():
+                    break
+                time.sleep(0.01)
+        shown.end()
+    shows = re.fullmatch(r"(\rchecking, \d+ s \x1b\[K)+\r\x1b\[K", stream.getvalue())
+    check(shows, f"during a call: {stream.getvalue()!r}")
 
 
 def shows_how_far(room):
@@ -940,6 +953,7 @@ def shows_how_far(room):
         ("picture", [example, "-o", f"{room}/alive.svg"], ("reading", "assumptions", "drawing")),
         ("html", [example, "-o", f"{room}/alive.html"], ("reading", "assumptions", "writing")),
         ("compare_mps", [model, example], ("reading the certificate", "comparing")),
+        ("audit", [model, example], ("reading the certificate", "comparing")),
     ):
         stream = io.StringIO()
         stream.isatty = lambda: True

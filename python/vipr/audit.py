@@ -29,7 +29,7 @@ from typing import Dict, List, Optional
 
 from . import library
 from .compare_mps import compared, infinity
-from .files import FAILED, REFUSED, VERIFIED, Parser, printable, read_both, run
+from .files import FAILED, REFUSED, VERIFIED, Alive, Parser, printable, read_both, run
 from .verdict import Claim, Verdict
 
 PLACES = 6
@@ -182,19 +182,23 @@ class Audit:
         }
 
 
-def audited(words: argparse.Namespace) -> Audit:
+def audited(words: argparse.Namespace, alive: Alive) -> Audit:
     """What is found of the two files. Raises OSError and library.Error."""
     model, model_text = read_both(words.model)
     certificate, text = read_both(words.certificate)
-    status, problem = compared(model_text, text, words.integers, words.maximize, words.infinity)
+    status, problem = compared(
+        model_text, text, words.integers, words.maximize, words.infinity, alive
+    )
     claim, constants = None, []
     if status == VERIFIED:
         claim = Claim.parse(problem[0].removeprefix("problem "))
         constants = [Fraction(line.removeprefix("constant ")) for line in problem[1:]]
+    with alive.during("checking the proof"):
+        verdict, digest = library.check(text, words.profile), library.digest(text)
     return Audit(
         Digests.of(model, model_text, hashlib.sha256(model_text).hexdigest()),
-        Digests.of(certificate, text, library.digest(text)),
-        library.check(text, words.profile),
+        Digests.of(certificate, text, digest),
+        verdict,
         problem,
         claim,
         sum(constants, Fraction(0)),
@@ -205,11 +209,14 @@ def audited(words: argparse.Namespace) -> Audit:
 def command(words: argparse.Namespace) -> int:
     model, certificate = (printable(os.fsencode(name)) for name in (words.model, words.certificate))
     question = Question(words.bounds, MEANINGS.get(words.constant))
+    alive = Alive()
     try:
-        found = audited(words)
+        found = audited(words, alive)
     except library.Error as fault:
         print(fault, file=sys.stderr)
         return FAILED
+    finally:
+        alive.end()
     answer = found.answer(question)
     if words.json:
         files = {"model": words.model, "certificate": words.certificate}

@@ -377,16 +377,19 @@ def infinity(word: str) -> Number:
 def command(words: argparse.Namespace) -> int:
     # (each text is let go once it is read)
     texts = [read_file(words.certificate), read_file(words.model)]
+    alive = Alive()
     if words.check:
         try:
-            verdict = library.check(texts[0], words.profile)
+            with alive.during("checking the proof"):
+                verdict = library.check(texts[0], words.profile)
         except library.Error as fault:
             print(fault, file=sys.stderr)
             return FAILED
+        finally:
+            alive.end()
         print(verdict)
         if not verdict:
             return REFUSED
-    alive = Alive()
     status, lines = compared(
         texts.pop(), texts.pop(), words.integers, words.maximize, words.infinity, alive
     )

@@ -2,13 +2,15 @@
 from __future__ import annotations
 
 import argparse
+import contextlib
 import io
 import os
 import stat
 import sys
+import threading
 import time
 from pathlib import Path
-from typing import Any, Callable, Iterable, NoReturn, Optional, Tuple, Union
+from typing import Any, Callable, Iterable, Iterator, NoReturn, Optional, Tuple, Union
 
 from .packed import SUFFIXES, NotWhole, text_of, unpacked
 from .version import VERSION
@@ -165,21 +167,34 @@ class Alive:
         self.shown += LONG
         self.is_terminal, self.is_shown = sys.stderr.isatty(), False
 
+    def show(self, words: Callable[[], str]) -> None:
+        """Shows these words and the time, if the line that is there isn't too new."""
+        now = time.monotonic()
+        if self.is_terminal and now > self.shown:
+            line = f"\r{words()}, {now - self.start:.0f} s \x1b[K"
+            print(line, end="", file=sys.stderr, flush=True)
+            self.shown, self.is_shown = now + OFTEN, True
+
     def part(self, words: str, whole: int) -> Callable[[int], None]:
         """What is called with how much of a part is done."""
+        return lambda done: self.show(lambda: f"{words} {100 * done // max(whole, 1)} %")
 
-        def progress(done: int) -> None:
-            now = time.monotonic()
-            if self.is_terminal and now > self.shown:
-                print(
-                    f"\r{words} {100 * done // max(whole, 1)} %, {now - self.start:.0f} s ",
-                    end="",
-                    file=sys.stderr,
-                    flush=True,
-                )
-                self.shown, self.is_shown = now + OFTEN, True
+    @contextlib.contextmanager
+    def during(self, words: str) -> Iterator[None]:
+        """Shows how long a call of the library takes, which doesn't say how far it is."""
+        is_over = threading.Event()
 
-        return progress
+        def show() -> None:
+            while not is_over.wait(OFTEN):
+                self.show(lambda: words)
+
+        shows = threading.Thread(target=show, daemon=True)
+        shows.start()
+        try:
+            yield
+        finally:
+            is_over.set()
+            shows.join()
 
     def end(self) -> None:
         """Takes the line away."""

@@ -203,7 +203,9 @@ def command(words: argparse.Namespace) -> int:
         return REFUSED
     name = printable(words.certificate.encode("utf-8", "surrogateescape"))
     page = Page(proof, alive.part("assumptions", len(proof.derivations)))
-    pieces = page.html(name, *verdict_of(text, words.certificate, words.profile))
+    with alive.during("checking the proof"):
+        found = verdict_of(text, words.certificate, words.profile)
+    pieces = page.html(name, *found)
     with contextlib.ExitStack() as stack:
         out: IO[bytes] = (
             stack.enter_context(open(words.out, "wb")) if words.out else sys.stdout.buffer
