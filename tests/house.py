@@ -411,6 +411,16 @@ def counts_of_lines_agree():
             yield "%s: says %s lines and not %d (%s)" % (name, said, wanted, words)
 
 
+def kit_crates_are_named():
+    """README.md names each crate of the kit that a crate lists in crates.txt."""
+    rows = read(os.path.join(ROOT, "crates.txt")).split("\n")
+    uses = {word for row in rows for word in row.partition(":")[2].split()}
+    page = read(os.path.join(ROOT, "README.md"))
+    for crate in sorted(uses - set(crates())):
+        if "`%s`" % crate not in page:
+            yield "README.md doesn't name %s" % crate
+
+
 def crates_are_there():
     """crates.txt lists the folders of crates/, and no more."""
     listed, there = set(crates()), {
@@ -653,6 +663,7 @@ CHECKS = [
     long_lines,
     long_files,
     crates_are_there,
+    kit_crates_are_named,
     crates_have_rows,
     counts_of_lines_agree,
     causes_agree,
