@@ -59,7 +59,7 @@ int32_t vipr_is_verified(const void *text, size_t size);
 int32_t vipr_check(const void *text, size_t size, struct vipr_answer *answer);
 
 /* The calls below write a text to a buffer of the caller, and its whole length to *length. They write at most `room`
- * bytes: the first of the text, without a 0 behind them. What the buffer held behind them stays. If the length is larger
+ * bytes: the first of the text, without a 0 after them. What the buffer held after them stays. If the length is larger
  * than the room, call again with as much room: the work is done once more. With VIPR_NO_PROFILE and VIPR_NO_MEMORY there is
  * no text, the length is 0, and so is all in the struct. The buffer may not overlap the text. */
 
@@ -99,7 +99,7 @@ struct vipr_figures {
 int32_t vipr_tighten(uint32_t profile, uint32_t compact, const void *text, size_t size, char *tightened, size_t room,
                      size_t *length, struct vipr_figures *figures);
 
-/* The name of a cause, such as "NotDominated", to a buffer as above, and a 0 behind it if there is room for that. Returns its
+/* The name of a cause, such as "NotDominated", to a buffer as above, and a 0 after it if there is room for that. Returns its
  * length without the 0, which is 0 for a number that is no cause. No name has more than 18 bytes. */
 size_t vipr_cause_name(uint32_t cause, char *name, size_t room);
 

@@ -41,7 +41,8 @@ REFEREE = "PYTHONPATH=python VIPR_LIBRARY=lib/libvipr.so python3 -m vipr audit"
 INSTALL = f"""vipr {{version}}, a proved checker of VIPR certificates, built for Linux on x86-64.
 A referee's one command: {REFEREE} MODEL.mps CERTIFICATE
 
-It needs glibc 2.34 or later (Debian 12, Ubuntu 22.04), and nothing else: neither Rust nor the kit that proved it.
+It needs glibc 2.34 or later (Debian 12, Ubuntu 22.04), and neither Rust nor the kit that proved it. What is in Python
+needs Python 3.9 or later.
 
     sha256sum -c --quiet SHA256SUMS
     ./bin/vipr check share/doc/vipr/examples/infeasible.vipr

@@ -178,7 +178,7 @@ def explain(text: Text, profile: int = 1) -> bytes:
 
 
 def explain_long(text: Text, name: str = "the text", profile: int = 1) -> bytes:
-    """What `vipr explain --long` prints of a file of this name: a page for people behind what `explain` gives.
+    """What `vipr explain --long` prints of a file of this name: a page for people after what `explain` gives.
 
     Raises what `check` raises.
     """
