@@ -120,7 +120,7 @@ def man(command, parser):
         ".SH SYNOPSIS",
         " ".join(usage(command, parser)),
         ".SH DESCRIPTION",
-        *paragraphs("\n\n".join(filter(None, [about.strip("\n "), behind]))),
+        *paragraphs("\n\n".join(filter(None, [about.strip("\n"), behind]))),
         ".SH OPTIONS",
     ]
     for argument in arguments(parser):

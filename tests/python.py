@@ -1199,6 +1199,11 @@ def manual(room, words):
                 f"{command} is installed with other pages",
             )
         page, _, lists = said[said.index("\n\n") :].partition("positional arguments:")
+        for term in re.findall(r"^  (\S.*?)(?:  +|$)", page, re.M):
+            check(
+                f".TP\n\\fB{build_manual.roff(term)}\\fR\n" in made[f"share/man/man1/{command}.1"],
+                f"the man page of {command} has no item {term!r}",
+            )
         wanted, every = page.replace("`", "").split(), []
         for shown, about in HELPED.findall(lists):
             flags, values = re.findall(r"(?<!\S)--?[a-z-]+", shown), re.search(r"{(.*?)}", shown)

@@ -27,7 +27,7 @@ def missing():
         return ""
     return (
         f"'{RT}' isn't on the path. vipr is written in Rattle (Rust with contracts); the Rattle kit proves and builds it:\n"
-        'README.md, "Start", says what it is. RT=/path/to/rt make .. names another command.'
+        'README.md, "Commands and installation", says what it is. RT=/path/to/rt make .. names another command.'
     )
 
 

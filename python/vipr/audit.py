@@ -3,8 +3,8 @@
   model        the SHA-256 of the MPS file, and its name; of a packed file that of its text, too
   certificate  the same of the certificate
   verdict      what `vipr check` prints: the library checks the text, and its answer is proved
-  problem      `same problem` and the claim as one of the model, or where the certificate's problem is another one, as
-               `vipr-compare-mps` prints it; this isn't proved
+  problem      `same problem` and the claim as one about the model; or, if the certificate's problem is another one, how
+               they differ, as `vipr-compare-mps` prints it; this isn't proved
   optimum      what is proved of the model, in decimals that are rounded outward, or why nothing is
   program      the version of the library, its SHA-256, and the commit and kit of its build, if the file BUILD of
                the archive, the wheel or the Debian package has this SHA-256

@@ -1,7 +1,7 @@
 """Checks many certificates on all cores, compressed ones too, shows how far it is, and goes on after a stop.
 
-A PATH is a file, or a folder with files NAME.vipr, NAME.vipr.xz, .gz, .zst or .bz2, in folders below it and at the end of links
-too; the largest are checked first. TABLE, or standard output, has a row for each, with tabs between these fields, or as a
+A PATH is a file or a folder. In a folder, and in those below it, files NAME.vipr, NAME.vipr.xz, .gz, .zst and .bz2 are checked,
+the largest first; links are followed. TABLE, or standard output, has a row for each, with tabs between these fields, or as a
 JSON object:
 
   result    what came of it
@@ -17,7 +17,7 @@ JSON object:
 A result is one of these:
 
   verified, refused   the verdict
-  fault               vipr failed (status 3), or has another status that is no verdict, as that of a killed program
+  fault               vipr failed (status 3), or has another status that is no verdict, such as that of a killed program
   time                there was no verdict within --seconds
   unpack              the file can't be unpacked to its end: what was checked isn't what it holds
   unread              the file or folder can't be read, is a link that leads nowhere, or changed while it was checked

@@ -1,9 +1,9 @@
 """Writes a page on which a person browses a proof: one file for a browser, which loads nothing from elsewhere.
 
-It has the problem and the claim in algebra, and a row for each constraint, with its reason. Derivations stand as the tree of
-their branches, which can be folded. A chosen one is shown with the assumptions that it rests on, and with what names it; a
-click goes along these. What the goal needs is shown first. If the library for C is installed, it checks the certificate, and
-a refusal stands above, as `vipr explain --long` prints it.
+It has the problem and the claim in algebra, and a row for each constraint, with its reason. Derivations are shown as the tree
+of their branches, which can be folded. Click on one to see the assumptions that it rests on, and what names it; click on these
+to go there. What the goal needs is shown first. If the library for C is installed, it checks the certificate, and a refusal is
+shown above, as `vipr explain --long` prints it.
 
 The exit status is 0, 1 if the text is no certificate, 2 if the command line isn't understood, and 3 if a file can't be read
 or written. A certificate whose proof is refused has a page, too.
