@@ -265,7 +265,7 @@ def parser() -> Parser:
         type=int,
         choices=[1, 2],
         default=1,
-        help="by which profile of the rules; 1 without it",
+        help="by which profile of the rules; 1 by default",
     )
     return made
 

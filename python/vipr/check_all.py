@@ -573,7 +573,7 @@ def parser() -> Parser:
         type=number,
         default=os.cpu_count() or 1,
         metavar="RUNS",
-        help="how many at a time; all cores without it",
+        help="how many at a time; all cores by default",
     )
     made.add_argument(
         "-o",

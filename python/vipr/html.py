@@ -226,14 +226,14 @@ def parser() -> Parser:
         help="a certificate, also .gz, .xz, .bz2 or .zst; - is standard input",
     )
     made.add_argument(
-        "-o", "--out", metavar="FILE", help="where the page is written; standard output without it"
+        "-o", "--out", metavar="FILE", help="where the page is written; standard output by default"
     )
     made.add_argument(
         "--profile",
         type=int,
         choices=(1, 2),
         default=1,
-        help="by which profile of the rules; 1 without it",
+        help="by which profile of the rules; 1 by default",
     )
     return made
 

@@ -470,21 +470,21 @@ def parser() -> Parser:
         "-o",
         "--out",
         metavar="FILE",
-        help="where the picture is written; standard output without it",
+        help="where the picture is written; standard output by default",
     )
     made.add_argument(
         "--boxes",
         type=number,
         default=MOST_BOXES,
         metavar="N",
-        help=f"up to how many derivations have a box each; {MOST_BOXES} without it",
+        help=f"up to how many derivations have a box each; {MOST_BOXES} by default",
     )
     made.add_argument(
         "--splits",
         type=number,
         default=MOST_SPLITS,
         metavar="N",
-        help=f"how many splits of a larger certificate are opened; {MOST_SPLITS} without it",
+        help=f"how many splits of a larger certificate are opened; {MOST_SPLITS} by default",
     )
     return made
 
