@@ -295,7 +295,7 @@ HEAD = """# The statement
 **Verified** means that the bytes read spell a certificate that is a proof by the rules below, and so state a problem and \
 solutions of which the claim is true. No feasible point is there; \
 or the dual bound holds at all feasible ones, and if a primal bound is claimed, a listed solution is feasible and attains it. \
-Two functions from bytes to yes or no say it, `is_verified` (part 1) and `is_proof` (part 2). Either is true exactly if the text spells a \
+Two functions that read bytes and answer yes or no say it, `is_verified` (part 1) and `is_proof` (part 2). Either is true exactly if the text spells a \
 proof, and `is_verified` says what that means for the problem.
 
 **The premises**: the source gives the bytes of the text that is meant, with no failed read and fewer than 2^64 of \
@@ -306,7 +306,7 @@ the compiler, the machine and its C library.
 of a file or of standard input. For them the clause `any` of part 3 is what is proved: what is verified is the report of a \
 certificate that is a proof, and what that certificate claims is true. That it is the certificate which the bytes of the \
 file spell is a premise, and no theorem. It rests on this: `check` has one body for all sources, and that body can't ask \
-which source it has. So a slice that holds what a file's reads gave gets the same answer, unless memory runs out for one of both.
+which source it has. So a slice that holds what a file's reads gave gets the same answer, unless memory runs out for one of the two.
 
 **How to read it.** Part 1 has what a verified text means, part 2 which texts are verified, part 3 the whole answer, and \
 part 4 what `tighten` writes. You can stop after each \
