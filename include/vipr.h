@@ -51,8 +51,8 @@ struct vipr_answer {
 };
 
 /* Whether the text is verified by the rules of the first profile: VIPR_VERIFIED, VIPR_REFUSED or VIPR_NO_MEMORY. This call
- * has the shortest proved statement. If it answers VIPR_VERIFIED, the text states a problem and listed solutions, and of
- * whatever problem it states the claim is true: docs/STATEMENT.md, part 1. */
+ * has the shortest proved statement. If it answers VIPR_VERIFIED, the text states a problem and listed solutions, and
+ * the claim is true of whatever problem it states: docs/STATEMENT.md, part 1. */
 int32_t vipr_is_verified(const void *text, size_t size);
 
 /* Checks the text of a certificate by the rules of the first profile, and gives the verdict in numbers. */

@@ -83,8 +83,8 @@ PARTS = [
         "what": "What a `true` of `is_verified` promises of the bytes, and all that it rests on. The first lines say what a point, "
         "a constraint, a problem and a true claim are; the others how bytes state a problem. Nothing here speaks of rules "
         "or derivations, so no mistake in a rule can make it false.",
-        "known": "If `is_verified` answers `true`, the bytes state a problem and listed solutions, and of whatever problem they "
-        "state the claim is true. "
+        "known": "If `is_verified` answers `true`, the bytes state a problem and listed solutions, and the claim is true of "
+        "whatever problem they state. "
         "Under `infeas` no point is feasible. Under `range` the dual bound holds at each feasible point; and if a primal "
         "bound is claimed, a listed solution is feasible and attains it. Stop here if a false `verified` is all that you fear.",
     },

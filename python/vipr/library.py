@@ -219,7 +219,7 @@ def _word(name: str, *text: Union[bytes, int]) -> str:
 
 def is_verified(text: Text) -> bool:
     """Whether the text is verified by the rules of the first profile: the call with the shortest proved statement. If it is,
-    the text states a problem, and of whatever problem it states the claim is true. Raises LibraryMissing and OutOfMemory.
+    the text states a problem, and the claim is true of whatever problem it states. Raises LibraryMissing and OutOfMemory.
     """
     whole = as_bytes(text)
     status = _library().vipr_is_verified(whole, len(whole))
