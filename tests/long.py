@@ -1381,6 +1381,84 @@ TRUE = [
     ([], FRONT + "0 DER 1 a G 1 0 { asm } - 1", ["a number has no spaces: write -1"], []),
     ([], FRONT + "0 DER 1 a G 1 0 { Lin 1 0 1 } -1", ["reasons are in small letters"], []),
     ([], FRONT + "0 DER 1 a G 1 0 13", ["or is the reason missing?"], ["is too small"]),
+    (
+        [],
+        FRONT + "0 DER 1 a G 1 0 -1 { asm }",
+        ["is this the last reference? It comes after the reason, as in `{ asm } -1`"],
+        ["too small"],
+    ),
+    # a comment after VER, before a constraint and at the end of one
+    *[
+        (
+            [],
+            f"VER 1.0 VAR 1 x INT 0 OBJ min 0 CON 2 0 {before} c G 1 1 0 1 {after} d G 1 1 0 1",
+            ["does the name in front of this begin a comment? Comments may only be before `VER`"],
+            ["a space in the name"],
+        )
+        for before, after in (("% the cover\n", ""), ("", "# set one\n"))
+    ],
+    # the letters of the format in place of what an enum or a page of HTML has
+    *[
+        (
+            [],
+            f"VER 1.0 VAR 1 x INT 0 OBJ min 0 CON 1 0 c {word} 1 1 0 1",
+            [help_of_word],
+            ["is `G` meant"],
+        )
+        for word, help_of_word in (
+            ("Sense.G", "a sense is the letter `E`, `L` or `G`"),
+            ("&gt;=", "write `G` for `>=`"),
+            ("&LT;=", "write `L` for `<=`"),
+        )
+    ],
+    # a mark for each variable in place of the indices, and no word OBJ
+    (
+        [],
+        "VER 1.0 VAR 3 x y z INT 1 1 1 OBJ min 0",
+        ["is the count after `INT` too small? `INT` takes a count and that many indices"],
+        [],
+    ),
+    ([], "VER 1.0 VAR 1 x INT 0 x OBJ", ["is the count after `INT` too small?\n"], []),
+    *[
+        ([], f"VER 1.0 VAR 1 x INT 0 {word} 0", ["is `OBJ` missing in front of this?"], ["count"])
+        for word in ("min", "Maximize")
+    ],
+    # a list of pairs in the place of a vector, and bounds as an interval
+    (
+        [],
+        "VER 1.0 VAR 1 x INT 0 OBJ min 0 CON 1 0 c G 1 [(0, 1), (4, 1)]",
+        ["a vector is a count and then that many pairs INDEX COEFFICIENT"],
+        ["is `0` meant"],
+    ),
+    (
+        [],
+        "VER 1.0 VAR 1 x INT 0 OBJ min 0 CON 0 0 RTP range [2, 3]",
+        ["is `2` meant?"],
+        [],
+    ),
+    # a case that is ruled out by no contradiction
+    *[
+        (
+            [],
+            "VER 1.0 VAR 1 x INT 1 0 OBJ min 1 0 1 CON 1 0 c G 1 1 0 1 RTP range 1 inf SOL 0 DER 4 "
+            f"a L 0 1 0 1 {{ asm }} 4 b G 1 1 0 1 {{ asm }} 4 d G {side} 0 {{ lin 2 0 1 1 -1 }} 4 "
+            "e G 1 OBJ { uns 3 1 2 2 } -1",
+            ["is a case ruled out? Then it gives a contradiction, as 0 >= 1"],
+            ["or another constraint as the case"],
+        )
+        for side in (0, -1)
+    ],
+    # an objective that was turned or scaled after its bound was proved
+    *[
+        (
+            [],
+            f"VER 1.0 VAR 2 x y INT 0 OBJ min 2 0 {first} 1 {second} CON 2 0 c G 1 1 0 1 d G 1 1 1 1 "
+            "RTP range 21 inf SOL 0 DER 1 e G 21 OBJ { lin 2 0 2 1 3 } -1",
+            [f"each stated coefficient is {ratio} times the computed one"],
+            ["is what was computed meant"],
+        )
+        for first, second, ratio in ((8, 12, 4), (1, "3/2", "1/2"))
+    ],
     ([], "VER 1", ["only version 1.0 is read"], ["weak"]),
     (
         [],

@@ -146,6 +146,12 @@ HINTS = {
     # sections
     "remove the comment: comments may only be before `VER`": token_is("[%#].*"),
     "is the count after `INT` too small?": role_is("keyword", section="OBJ"),
+    "is the count after `INT` too small? `INT` takes a count and that many indices": both(
+        role_is("keyword", section="OBJ"), token_is("[0-9]+")
+    ),
+    "is `OBJ` missing in front of this?": both(
+        role_is("keyword", section="OBJ"), token_is("(?i:min|max|minimize|maximize)")
+    ),
     "is the count after `min` or `max` too small or missing?": role_is("keyword", section="CON"),
     "is the first count after `CON` too small? It counts all constraints, bounds included; or is the last constraint's count of "
     "coefficients too small?": role_is("keyword", section="RTP"),
@@ -266,8 +272,8 @@ HINTS = {
     **{
         f"write `{letter}` for `{sign}`": both(role_is("sense"), token_is(words))
         for letter, sign, words in (
-            ("G", ">=", "(?i:>=|=>|>|g|ge|geq|gte|greater)"),
-            ("L", "<=", "(?i:<=|=<|<|l|le|leq|lte|less)"),
+            ("G", ">=", "(?i:>=|=>|>|&gt;=|g|ge|geq|gte|greater)"),
+            ("L", "<=", "(?i:<=|=<|<|&lt;=|l|le|leq|lte|less)"),
             ("E", "=", "(?i:=|==|e|eq|equals?)"),
         )
     },
@@ -280,9 +286,11 @@ HINTS = {
     "a name has no spaces, not even in quotes": both(role_is("sense"), token_is('.*"')),
     "the name in front of this is `E`, `L` or `G`: is it the sense, and the name missing? NAME SENSE RIGHT-HAND-SIDE COUNT INDEX "
     "COEFFICIENT ..": both(role_is("sense"), lambda facts: facts.name.bytes in (b"G", b"L", b"E")),
-    "is a space in the name, or a coefficient missing above? The token before this one was read as a name": role_is(
-        "sense"
+    "does the name in front of this begin a comment? Comments may only be before `VER`": both(
+        role_is("sense"), lambda facts: facts.name.bytes[:1] in (b"%", b"#")
     ),
+    "a sense is the letter `E`, `L` or `G`; or is a space in the name, or a coefficient missing above? The token before this one was "
+    "read as a name": role_is("sense"),
     # reasons
     "a reason is between `{` and `}`, with a space on both sides of each": both(
         role_is("open brace"), token_is(r"\{\{.*|[([].*")
@@ -293,6 +301,9 @@ HINTS = {
     ),
     "is the count of coefficients too small or missing, or is the reason missing? COUNT, that many pairs INDEX COEFFICIENT, and then "
     "the reason, as `{ asm }`": role_is("open brace"),
+    "is this the last reference? It comes after the reason, as in `{ asm } -1`": both(
+        role_is("open brace"), token_is("-1")
+    ),
     "a number has no spaces: write -1": both(role_is("last reference"), token_is("-")),
     "`uns` takes four indices: i1 l1 i2 l2, where l1 and l2 are the assumptions": role_is("branch"),
     "is the brace missing in front of this? A reason ends with `}`": both(
@@ -385,6 +396,10 @@ HINTS = {
     "is what was computed meant, or another constraint as the case?": lambda facts: facts.refused
     == 38
     and facts.own().reason == "uns",
+    "is a case ruled out? Then it gives a contradiction, as 0 >= 1: is its right-hand side wrong?": lambda facts: facts.refused
+    == 38
+    and facts.own().reason == "uns"
+    and not facts.written("computed")[0],
     "each coefficient has the other sign: does every multiplier have the wrong sign?": lambda facts: is_entries(
         facts
     )

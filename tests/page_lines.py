@@ -924,6 +924,21 @@ def factor_of_all(page, factor):
     offered(page, [(index, multiplier * factor) for index, multiplier in parts])
 
 
+@form(
+    rf"  = help: each stated coefficient is ({NUMBER}) times the computed one: was the objective, or a row, multiplied by that\?"
+)
+def ratio_of_rows(page, ratio):
+    facts = page.facts
+    computed, stated = facts.written("computed")[0], facts.written("stated")[0]
+    true(facts.own().reason in ("lin", "rnd"), "it is no sum")
+    true(len(stated) > 1, "it has one coefficient")
+    same(
+        "the stated row",
+        stated,
+        {index: number * ratio for index, number in computed.items()},
+    )
+
+
 # ---- pages of the claim
 
 
@@ -1224,6 +1239,10 @@ def alone(page, token: str):
     true(token.encode() != facts.token.bytes, "it is the token")
     same("what else is in it", token, facts.token.bytes.decode("latin-1").strip("\"'`()[]<>=,;:"))
     true(is_token(facts, token), "it is not what is wanted")
+    is_opened = re.search(rb"[(\[]", facts.token.bytes) and not re.search(
+        rb"[)\]]", facts.token.bytes
+    )
+    true("bound" in facts.role.wanted or not is_opened, "a list begins with it")
 
 
 def is_token(facts, token):

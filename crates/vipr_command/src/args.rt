@@ -287,7 +287,7 @@ fn word_of<'a>(task: Task) -> &'a str
 fn help_for<'a>(task: Task) -> (&'a str, &'a str) {
     let about = match task {
         Task::Check => "Checks a certificate and prints the verdict",
-        Task::Explain => "Checks a certificate and prints the verdict with what shows it",
+        Task::Explain => "Checks a certificate and prints the verdict and the reason",
         Task::Show => "Writes a certificate's canonical text",
         Task::Tighten => "Writes a verified certificate without what its proof doesn't need",
     };
@@ -303,9 +303,9 @@ fn help_for<'a>(task: Task) -> (&'a str, &'a str) {
 fn file<'a>(alloc: Global) -> Arg<'a>
     ensures { IsArgument result file_rule }
 {
-    Arg::new(alloc, "file")
-        .value_name("FILE")
-        .help("The certificate; standard input if absent or -")
+    Arg::new(alloc, "file").value_name("FILE").help(
+        "The certificate; standard input by default, or if it is -",
+    )
 }
 
 fn profile<'a>(alloc: Global) -> Arg<'a>
@@ -314,7 +314,7 @@ fn profile<'a>(alloc: Global) -> Arg<'a>
     Arg::new(alloc, "profile")
         .long("profile")
         .value_name("PROFILE")
-        .help("The profile of the rules, 1 or 2; 1 if absent")
+        .help("Which profile of the rules: 1 (the default) or 2")
 }
 
 fn out<'a>(alloc: Global) -> Arg<'a>
@@ -324,7 +324,7 @@ fn out<'a>(alloc: Global) -> Arg<'a>
         .short('o')
         .long("out")
         .value_name("OUT")
-        .help("Where to write it; standard output if absent or -")
+        .help("Where to write it; standard output by default, or if it is -")
 }
 
 fn compact<'a>(alloc: Global) -> Arg<'a>
@@ -346,7 +346,7 @@ fn long<'a>(alloc: Global) -> Arg<'a>
 fn sum<'a>(alloc: Global) -> Arg<'a>
     ensures { IsArgument result sum_rule }
 {
-    flag(alloc, "sum", "Adds the SHA-256 of what was read")
+    flag(alloc, "sum", "Also prints the SHA-256 of what was read")
 }
 
 /// A flag of this name.

@@ -169,10 +169,12 @@ fn hint(cause: u8, fault: &TextFault<'_>, look: Look) -> &'static str {
 fn keyword_hint(section: Section, word: &[u8]) -> &'static str {
     match section {
         Section::Version => start_hint(word),
-        _ if matches!(word, [b'%' | b'#', ..]) =>
-            "remove the comment: comments may only be before `VER`",
+        _ if is_comment(word) => "remove the comment: comments may only be before `VER`",
         Integers => "is the count after `VAR` right, or is a space in a name? Names alone are \
             after it, and no types or bounds",
+        Objective if are_all(word, DIGITS) =>
+            "is the count after `INT` too small? `INT` takes a count and that many indices",
+        Objective if is_spelled(word, &LP_WORDS) => "is `OBJ` missing in front of this?",
         Objective => "is the count after `INT` too small?",
         Constraints => "is the count after `min` or `max` too small or missing?",
         Section::Claim => "is the first count after `CON` too small? It counts all constraints, \
@@ -181,6 +183,11 @@ fn keyword_hint(section: Section, word: &[u8]) -> &'static str {
         Derivations => "is the count after `SOL` too small, or that of a solution's values?",
         Variables => "the next section comes after the version `1.0`",
     }
+}
+
+// Whether a token looks like the begin of a comment.
+fn is_comment(word: &[u8]) -> bool {
+    matches!(word, [b'%' | b'#', ..])
 }
 
 // What the first token of other files begins with.
@@ -300,6 +307,7 @@ fn open_hint(word: &[u8]) -> &'static str {
             "a reason is between `{` and `}`, with a space on both sides of each",
         [b'{', ..] => "put a space after the brace",
         _ if is_any(word, &REASONS) => "write `{` in front of this reason, and `}` after it",
+        b"-1" => "is this the last reference? It comes after the reason, as in `{ asm } -1`",
         _ => "is the count of coefficients too small or missing, or is the reason missing? \
             COUNT, that many pairs INDEX COEFFICIENT, and then the reason, as `{ asm }`",
     }
@@ -344,6 +352,8 @@ fn number_hint(cause: u8, fault: &TextFault<'_>, look: Look) -> &'static str {
 // The token is no sense.
 fn sense_hint(name: &[u8], look: Look, word: &[u8]) -> &'static str {
     match word {
+        _ if is_comment(name) => "does the name in front of this begin a comment? Comments may \
+            only be before `VER`",
         _ if is_spelled(word, &AT_LEAST) => "write `G` for `>=`",
         _ if is_spelled(word, &AT_MOST) => "write `L` for `<=`",
         _ if is_spelled(word, &EQUAL) => "write `E` for `=`",
@@ -360,8 +370,8 @@ fn sense_hint(name: &[u8], look: Look, word: &[u8]) -> &'static str {
         _ if matches!(look, Number | Fraction) => "a sense is a letter, and sense and right-hand \
             side are before the coefficients: \
             NAME SENSE RIGHT-HAND-SIDE COUNT INDEX COEFFICIENT ..",
-        _ => "is a space in the name, or a coefficient missing above? The token before this one \
-            was read as a name",
+        _ => "a sense is the letter `E`, `L` or `G`; or is a space in the name, or a coefficient \
+            missing above? The token before this one was read as a name",
     }
 }
 
@@ -425,9 +435,13 @@ const LAST_REFERENCE: &str = "write the last reference after `}`: the last deriv
 const REASONS: [&[u8]; 5] = [b"asm", b"lin", b"rnd", b"uns", b"sol"];
 
 // Other spellings of the senses.
-const AT_LEAST: [&[u8]; 8] = [b">=", b"=>", b">", b"g", b"ge", b"geq", b"gte", b"greater"];
+#[rattlefmt::skip]
+const AT_LEAST: [&[u8]; 9] =
+    [b">=", b"=>", b">", b"&gt;=", b"g", b"ge", b"geq", b"gte", b"greater"];
 
-const AT_MOST: [&[u8]; 8] = [b"<=", b"=<", b"<", b"l", b"le", b"leq", b"lte", b"less"];
+#[rattlefmt::skip]
+const AT_MOST: [&[u8]; 9] =
+    [b"<=", b"=<", b"<", b"&lt;=", b"l", b"le", b"leq", b"lte", b"less"];
 
 const EQUAL: [&[u8]; 6] = [b"=", b"==", b"e", b"eq", b"equal", b"equals"];
 

@@ -3,7 +3,7 @@
 
 use crate::page::Page;
 use crate::stranger::StrangeBytes;
-use crate::token::{DIGITS, are_all, is_any, is_spelled};
+use crate::token::{DIGITS, are_all, is_any, is_spelled, parted};
 use crate::wanted::Wanted::*;
 use crate::wanted::{TextProgress, Wanted, count_of, is_word};
 use vipr_frac::Frac;
@@ -29,7 +29,8 @@ const SPELLINGS: [(Wanted, &str, &[&[u8]]); 9] = [
 /// did.
 pub(crate) fn ask_whether_meant(page: &mut Page, progress: &TextProgress, word: &[u8]) -> bool {
     let token = bare(word);
-    if token.len() < word.len() && is_accepted(progress, token) {
+    let is_whole = is_bound(progress.wanted) || !opens_only(word);
+    if token.len() < word.len() && is_whole && is_accepted(progress, token) {
         let token = StrangeBytes(token);
         write!(page, "is `{token}` meant? Nothing else may be in its token");
         return true;
@@ -41,6 +42,15 @@ pub(crate) fn ask_whether_meant(page: &mut Page, progress: &TextProgress, word: 
         }
     }
     false
+}
+
+fn is_bound(wanted: Wanted) -> bool {
+    matches!(wanted, LowerBound | UpperBound)
+}
+
+// Whether a bracket opens in a token and none closes, as in the first token of a list of pairs.
+fn opens_only(word: &[u8]) -> bool {
+    parted(word, b"([").is_some() && parted(word, b")]").is_none()
 }
 
 // What is left of a token without what it may have round it.

@@ -44,6 +44,11 @@ impl Residue {
         Residue((number % PRIME) as u32)
     }
 
+    /// Its number, below the prime.
+    pub(crate) fn number(self) -> u32 {
+        self.0
+    }
+
     /// That of the sum.
     pub(crate) fn plus(self, other: Residue) -> Residue {
         Residue::reduced(u64::from(self.0) + u64::from(other.0))

@@ -16,13 +16,12 @@ use vipr_frac::Frac;
 use vipr_linear::{CombError, Combination, Constraint, Row, Sense, compares};
 use vipr_rules::Rows;
 
-/// How many pairs of an entry and a constraint are compared for another constraint, if a quarter of
-/// the text's bytes isn't more.
-const MOST_PAIRS: usize = 1_000_000;
+/// How many pairs of an entry and a constraint with the row that is wanted in its place are
+/// compared, if a sixteenth of the text's bytes isn't more.
+const MOST_PAIRS: usize = 1_000;
 
-/// For how many entries another constraint is sought, if a sixteenth of the text's bytes isn't
-/// more.
-const MOST_REPLACED: usize = 100_000;
+/// For how many entries another constraint is sought, if a fiftieth of the text's bytes isn't more.
+const MOST_REPLACED: usize = 1_000;
 
 /// How many changes of a kind are tried.
 const MOST_TRIED: usize = 8;
@@ -143,7 +142,7 @@ impl Candidates {
     }
 
     // Adds other constraints in the place of an entry, the nearest ones first, and those for one
-    // more entry behind so many.
+    // more entry behind so many. What would be right in the place of each entry comes by its row.
     fn add_others(
         &mut self,
         refused: Refused<'_>,
@@ -153,10 +152,15 @@ impl Candidates {
         missing: &Missing,
         replacements: &[Replacement],
     ) {
+        let mut pairs = MOST_PAIRS.max(refused.subject.text.len() / 16);
         for index in 0..refused.rows.next() {
             if let Some(sketch) = sketches.get(index) {
-                for replacement in replacements {
-                    if replacement.row == sketch && replacement.index != index {
+                for replacement in with_row(replacements, sketch, pairs) {
+                    if replacement.row != sketch {
+                        break;
+                    }
+                    pairs = pairs.saturating_sub(1);
+                    if replacement.index != index {
                         add_exchange(&mut self.exchanges, refused, index, replacement);
                     }
                 }
@@ -310,16 +314,21 @@ fn add_multipliers(
     }
 }
 
-// For each entry what would be right in its place.
+// Those from the first one with this row on, so many at most.
+fn with_row(replacements: &[Replacement], row: Residue, most: usize) -> &[Replacement] {
+    let first = replacements.partition_point(|other| other.row.number() < row.number());
+    let behind = &replacements[first..];
+    &behind[..behind.len().min(most)]
+}
+
+// For each entry what would be right in its place, in the order of the rows.
 fn replacements(
     refused: Refused<'_>,
     sketches: &Sketches,
     entries: &[(u32, Frac)],
     missing: &Missing,
 ) -> Result<Vec<Replacement>, AllocError> {
-    let bytes = refused.subject.text.len();
-    let pairs = MOST_PAIRS.max(bytes / 4) / (refused.rows.next() as usize).max(1);
-    let most = pairs.min(MOST_REPLACED.max(bytes / 16));
+    let most = MOST_REPLACED.max(refused.subject.text.len() / 50);
     let mut found = Vec::new(refused.subject.alloc);
     for (position, entry) in entries[..entries.len().min(most)].iter().enumerate() {
         let (index, multiplier) = *entry;
@@ -340,6 +349,7 @@ fn replacements(
             }
         }
     }
+    found.sort_by_key(|replacement| replacement.row.number())?;
     Ok(found)
 }
 

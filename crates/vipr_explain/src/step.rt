@@ -14,7 +14,7 @@ use crate::past::write_past_in_sum;
 use crate::reason::{label_of, part_at_fault, step_indices, write_reason, write_sources};
 use crate::shown::{PlacedItems, write_last_use};
 use crate::solution::PAST_LIMIT;
-use crate::sought::{Refused, less_sum};
+use crate::sought::{Refused, inverse, less_sum};
 use crate::text::{Reread, Subject};
 use std::alloc::{AllocError, Global};
 use vipr_cert::{Derivation, Problem, Reason, References};
@@ -285,6 +285,21 @@ fn are_opposite(differences: &[Difference]) -> bool {
     differences.iter().all(|difference| difference.stated == difference.computed.neg())
 }
 
+// How many times the computed coefficients the stated ones are, if that is one number for several.
+fn ratio_of(stated: &Constraint, differences: &[Difference]) -> Option<Frac> {
+    let first = differences.first()?;
+    let ratio = first.stated.mul(inverse(first.computed)?).ok()?;
+    if differences.len() < 2 || differences.len() != stated.row.entries().len() {
+        return None;
+    }
+    for difference in differences {
+        if difference.computed.mul(ratio).ok()? != difference.stated {
+            return None;
+        }
+    }
+    Some(ratio)
+}
+
 // What is said of a cause, in front of the number at fault and behind it.
 fn words_of(cause: u8) -> (&'static str, &'static str) {
     match cause {
@@ -313,25 +328,7 @@ fn write_facts(page: &mut Page, refused: &RefusedStep<'_>, reason: &Reason, faul
                     write_sources(page, refused, entries, difference.variable);
                 }
             }
-            page.put(match reason.references() {
-                References::Entries(entries)
-                    if entries.len() > 1 && is_negated(computed.sense, stated, differences) => {
-                    "  = help: each coefficient has the other sign: does every multiplier have \
-                     the wrong sign?\n"
-                }
-                _ if !refused.changes.is_empty() => "",
-                References::Nothing => {
-                    "  = help: is what was computed meant? `sol` gives the best listed value, and \
-                     nothing better\n"
-                }
-                References::Branches { .. } => {
-                    "  = help: is what was computed meant, or another constraint as the case?\n"
-                }
-                References::Entries(_) => {
-                    "  = help: is what was computed meant, or another multiplier, another \
-                     constraint, or another number in one of them?\n"
-                }
-            });
+            write_rows_help(page, refused, reason, computed, stated, differences);
         }
         (StepDetail::Sum(sum), StepFacts::Sum(faults)) => {
             write_labelled(page, problem, "    sum        ", sum);
@@ -364,6 +361,51 @@ fn write_facts(page: &mut Page, refused: &RefusedStep<'_>, reason: &Reason, faul
             }
         }
         _ => {}
+    }
+}
+
+// Writes what is likely to be wrong if a reason gives another constraint than the stated one.
+fn write_rows_help(
+    page: &mut Page,
+    refused: &RefusedStep<'_>,
+    reason: &Reason,
+    computed: &Constraint,
+    stated: &Constraint,
+    differences: &[Difference],
+) {
+    match reason.references() {
+        References::Entries(entries)
+            if entries.len() > 1 && is_negated(computed.sense, stated, differences) => {
+            page.put(
+                "  = help: each coefficient has the other sign: does every multiplier have the \
+                 wrong sign?\n",
+            );
+        }
+        _ if !refused.changes.is_empty() => {}
+        References::Entries(_) => match ratio_of(stated, differences) {
+            Some(ratio) => {
+                write!(
+                    page,
+                    "  = help: each stated coefficient is {ratio} times the computed "
+                );
+                page.put("one: was the objective, or a row, multiplied by that?\n");
+            }
+            None => page.put(
+                "  = help: is what was computed meant, or another multiplier, another constraint, \
+                 or another number in one of them?\n",
+            ),
+        },
+        References::Branches { .. } if computed.row.entries().is_empty() => page.put(
+            "  = help: is a case ruled out? Then it gives a contradiction, as 0 >= 1: is its \
+             right-hand side wrong?\n",
+        ),
+        References::Branches { .. } => page.put(
+            "  = help: is what was computed meant, or another constraint as the case?\n",
+        ),
+        References::Nothing => page.put(
+            "  = help: is what was computed meant? `sol` gives the best listed value, and nothing \
+             better\n",
+        ),
     }
 }
 
