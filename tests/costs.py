@@ -48,6 +48,8 @@ OPEN = {("large_and_spread", "check")}
 COMPACT = "show --compact", "tighten --compact"
 # how much more a text of four times the length may cost
 GROWTH = 5
+# how many times the instructions of `check` an explanation of these texts takes at most
+MOST_CHECKS = 6
 # bytes of memory for a byte of text, and what is free beside them
 MOST = {"check": 50, "explain": 50, "show": 50, "tighten": 50}
 ROOM = 2 << 20
@@ -428,39 +430,45 @@ def overlapping_sets(n):
     return ders
 
 
+def instructions(words):
+    """How many instructions a run of the program takes, None if it doesn't end in time."""
+    words = [VALGRIND, "--tool=callgrind", "--callgrind-out-file=/dev/null", PROGRAM, *words]
+    found = re.search(rb"Collected : (\d+)", run(words, timeout=20 * SECONDS).stderr)
+    return found and int(found[1])
+
+
 def long_growth(task):
-    """How much more instructions an explanation of four times the text costs."""
+    """How much more instructions an explanation of four times the text costs, and how many times those of its check."""
     known = []
     for which, n in enumerate(task[1:]):
         name, text = list(long_texts(n))[task[0]]
         path = Path(ROOM_FOR_FILES, f"long.{task[0]}.{which}")
         path.write_text(text, encoding="utf-8")
-        words = [
-            VALGRIND,
-            "--tool=callgrind",
-            "--callgrind-out-file=/dev/null",
-            PROGRAM,
-            "explain",
-            "--long",
-            path,
-        ]
-        found = re.search(rb"Collected : (\d+)", run(words, timeout=20 * SECONDS).stderr)
-        known.append((found and int(found[1]), len(text)))
+        known.append((instructions(["explain", "--long", path]), len(text)))
     (first, size), (second, larger) = known
-    return name, None if None in (first, second) else second / first / (larger / size / 4)
+    checked = instructions(["check", path])
+    if None in (first, second, checked):
+        return name, None, None
+    return name, second / first / (larger / size / 4), second / checked
 
 
 def long_growths(pool):
     """Checks what `explain --long` costs."""
     names = [name for name, _ in long_texts(2)]
     tasks = [(number, *LONGER.get(name, (500, 2_000))) for number, name in enumerate(names)]
-    for name, times in pool.map(long_growth, tasks):
+    for name, times, checks in pool.map(long_growth, tasks):
         check(times is not None, name, "explain --long", f"not explained within {SECONDS} seconds")
         check(
             (times or 0) <= GROWTH,
             name,
             "explain --long",
             f"{times or 0:.1f} times for 4 times the text",
+        )
+        check(
+            (checks or 0) <= MOST_CHECKS,
+            name,
+            "explain --long",
+            f"{checks or 0:.1f} times what the check takes",
         )
 
 
