@@ -430,8 +430,8 @@ def overlapping_sets(n):
     return ders
 
 
-def instructions(words):
-    """How many instructions a run of the program takes, None if it doesn't end in time."""
+def counted(words):
+    """How many instructions a run takes, whatever its answer; None if it doesn't end in time."""
     words = [VALGRIND, "--tool=callgrind", "--callgrind-out-file=/dev/null", PROGRAM, *words]
     found = re.search(rb"Collected : (\d+)", run(words, timeout=20 * SECONDS).stderr)
     return found and int(found[1])
@@ -444,9 +444,9 @@ def long_growth(task):
         name, text = list(long_texts(n))[task[0]]
         path = Path(ROOM_FOR_FILES, f"long.{task[0]}.{which}")
         path.write_text(text, encoding="utf-8")
-        known.append((instructions(["explain", "--long", path]), len(text)))
+        known.append((counted(["explain", "--long", path]), len(text)))
     (first, size), (second, larger) = known
-    checked = instructions(["check", path])
+    checked = counted(["check", path])
     if None in (first, second, checked):
         return name, None, None
     return name, second / first / (larger / size / 4), second / checked

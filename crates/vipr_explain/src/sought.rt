@@ -16,8 +16,8 @@ use vipr_frac::Frac;
 use vipr_linear::{CombError, Combination, Constraint, Row, Sense, compares};
 use vipr_rules::Rows;
 
-/// How many pairs of an entry and a constraint with the row that is wanted in its place are
-/// compared, if a sixteenth of the text's bytes isn't more.
+/// How many pairs of an entry and a constraint with the wanted row are compared, if a sixteenth of
+/// the text's bytes isn't more.
 const MOST_PAIRS: usize = 1_000;
 
 /// For how many entries another constraint is sought, if a fiftieth of the text's bytes isn't more.
