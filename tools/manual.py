@@ -53,8 +53,8 @@ class Command:
 
 
 def values_in(about):
-    """The values of an option, where its help names them as `1 or 2`; a file's name otherwise."""
-    found = re.search(r", (\w+) or (\w+);", about)
+    """The values of an option, if its help names them as `1 (the default) or 2`; a file's name otherwise."""
+    found = re.search(r": (\w+) \(the default\) or (\w+)$", about)
     return list(found.groups()) if found else []
 
 
