@@ -493,6 +493,12 @@ def is_there(number):
         return False
 
 
+def take_signals():
+    """Ends at each signal, even if this script was started by nohup or by a shell in the background."""
+    for number in (signal.SIGTERM, signal.SIGHUP, signal.SIGINT):
+        signal.signal(number, signal.SIG_DFL)
+
+
 def stopped(many):
     """A signal that ends the command ends its runs and what unpacks for them."""
     many.put({"m/good.vipr": GOOD, "m/good.vipr.zst": b"x"})
@@ -516,6 +522,7 @@ def stopped(many):
             cwd=many.room,
             env=environment,
             stderr=subprocess.PIPE,
+            preexec_fn=take_signals,
         ) as command:
             late = time.monotonic() + SECONDS
             while not all(file.exists() for file in files) and time.monotonic() < late:
