@@ -659,15 +659,16 @@ def mounted():
 
 def refusing_disk():
     """On a disk that refuses to change permissions OUT is written in place, and replaced if the new file has its permissions
-    anyway. On one that only says that it changes them, OUT has those that the new file began with.
+    anyway. On one that only says that it changes them, OUT stays as it is.
     """
     if not shutil.which("bindfs"):
         CHECKS.skip("bindfs", "no disk that refuses permissions is tried")
         return
-    for options, mode, is_in_place in (
-        (["--chmod-deny"], 0o644, True),
-        (["--chmod-deny", "--perms=0644"], 0o644, False),
-        (["--chmod-ignore"], 0o600, False),
+    failed = b"", b"fault write after %d\n" % len(TIGHT), 3
+    for options, *wanted in (
+        (["--chmod-deny"], (b"", KEPT, 0), TIGHT, True),
+        (["--chmod-deny", "--perms=0644"], (b"", KEPT, 0), TIGHT, False),
+        (["--chmod-ignore"], failed, b"before", True),
     ):
         (folder, file), point = fresh(), Path(tempfile.mkdtemp(dir=WORK))
         (folder / "out").write_bytes(b"before")
@@ -676,19 +677,19 @@ def refusing_disk():
             print("output: nothing can be mounted by bindfs here, so it isn't tried")
             return
         try:
-            one_refusing_disk(options, file, point / "out", mode, is_in_place)
+            one_refusing_disk(options, file, point / "out", *wanted)
         finally:
             subprocess.run(["umount", point], check=True)
 
 
-def one_refusing_disk(options, file, out, mode, is_in_place):
+def one_refusing_disk(options, file, out, answer, text, is_one_file):
     node = out.stat().st_ino
     got = run(["tighten", file, "--out", out])
     after = out.stat()
     expect(
         f"OUT below bindfs {options}",
         (got, out.read_bytes(), stat.S_IMODE(after.st_mode), after.st_ino == node),
-        ((b"", KEPT, 0), TIGHT, mode, is_in_place),
+        (answer, text, 0o644, is_one_file),
     )
     new = out.with_name("new")
     got = run(["tighten", file, "--out", new])
@@ -1067,13 +1068,23 @@ def failing_rights():
         (got, out.read_bytes(), out.stat().st_ino != node),
         ((b"", KEPT, 0), TIGHT, True),
     )
+    out.write_bytes(b"before")
     out.chmod(0o644)
+    node = out.stat().st_ino
     got, _ = traced(["tighten", file, "--out", out], "-e", "inject=fchmod:retval=0")
     expect(
         "permissions that are given in word alone",
-        (got, out.read_bytes(), stat.S_IMODE(out.stat().st_mode)),
-        ((b"", KEPT, 0), TIGHT, 0o600),
+        (got, out.read_bytes(), out.stat().st_ino, names(folder)),
+        ((b"", b"fault write after %d\n" % len(TIGHT), 3), b"before", node, ["a.vipr", "out"]),
     )
+    if not os.getuid():
+        os.chown(out, 1234, 1234)
+        got, _ = traced(["tighten", file, "--out", out], "-e", "inject=fchown:retval=0")
+        expect(
+            "an owner that is given in word alone",
+            (got, out.read_bytes(), out.stat().st_ino, out.stat().st_uid, names(folder)),
+            ((b"", KEPT, 0), TIGHT, node, 1234, ["a.vipr", "out"]),
+        )
 
 
 def each_call_fails():

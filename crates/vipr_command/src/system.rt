@@ -23,6 +23,9 @@ const NAME: usize = 36;
 /// The system's number of the error that a right is missing.
 const EPERM: i32 = 1;
 
+/// The bits of a mode that say who may read, write and run a file.
+const RIGHTS: u32 = 0o777;
+
 /// The system's files. What they hold isn't known, nor what the system refuses.
 #[derive(Drop)]
 pub struct SystemFiles<'a, H> {
@@ -339,16 +342,29 @@ fn give_rights(new: &File, old: &File) -> io::Result<()> {
     let other = old.metadata()?;
     if new.metadata()?.mode() != other.mode() {
         new.set_permissions(other.permissions())?;
+        // Some file systems only say that they changed them.
+        if new.metadata()?.mode() & RIGHTS != other.mode() & RIGHTS {
+            return Err(io::Error::from(ErrorKind::Unsupported));
+        }
     }
     Ok(())
 }
 
 fn give_owner(new: &File, old: &File) -> io::Result<()> {
-    let (own, other) = (new.metadata()?, old.metadata()?);
-    if own.uid() != other.uid() || own.gid() != other.gid() {
+    let other = old.metadata()?;
+    if !has_owner_of(new, &other)? {
         fchown(new, Some(other.uid()), Some(other.gid()))?;
+        if !has_owner_of(new, &other)? {
+            return Err(io::Error::from(ErrorKind::Unsupported));
+        }
     }
     Ok(())
+}
+
+/// Whether a file has the owner and the group of another one.
+fn has_owner_of(file: &File, other: &Metadata) -> io::Result<bool> {
+    let own = file.metadata()?;
+    Ok(own.uid() == other.uid() && own.gid() == other.gid())
 }
 
 /// Brings what a file took to its disk, if there is one.
