@@ -47,7 +47,8 @@ pub fn answer_to<R: Incoming + Drop>(
     }
 }
 
-// The verdict on a certificate.
+// The verdict on a certificate. Its caller needs no stack for it when it does something else.
+#[inline(never)]
 fn check<R: Source + Drop>(
     alloc: Global,
     profile: Profile,
@@ -65,6 +66,7 @@ fn check<R: Source + Drop>(
 }
 
 // The verdict on a certificate, with what there is to show of it.
+#[inline(never)]
 fn explain<R: Source + Drop>(
     alloc: Global,
     profile: Profile,

@@ -2,8 +2,10 @@
 ghost use Rattle.std.specs.Prelude.{◌≡◌, ◌<◌, ◌^◌, Some, None, true, false};
 ghost use Rattle.std.specs.Prelude.{length, take, ◌/◌, IfOk, IfSome, string_bytes};
 ghost use Rattle.vipr_spec.specs.{Input.Input, Verdict.Answer, Verdict.IsAnswer};
+ghost use Rattle.vipr_spec.specs.{Verdict.IsExplained};
 ghost use Rattle.vipr_rules.specs.Profile.{profile_of};
-ghost use Rattle.vipr_bytes.specs.Known.{text_of};
+ghost use Rattle.vipr_bytes.specs.Known.{text_of, IfKnown};
+ghost use Rattle.vipr_check.specs.{Checks.ChecksIn, Run.SaysInDetail, Run.verdict_in};
 ghost use Rattle.vipr_command.specs.Answer.{AnswersWhole, HasRead, IsPrinted, ReadsOn, input_of};
 ghost use Rattle.vipr_command.specs.Text.{answer_lines, sum_asked};
 
@@ -13,8 +15,9 @@ use crate::incoming::Incoming;
 use crate::request::{Job, Task};
 use std::alloc::{AllocError, Global};
 use vipr_bytes::{BUFFER_BYTES, Bytes, Failed, Source};
-use vipr_check::{Detail, Explanation, Table, Verdict, check_in, explain_in};
+use vipr_check::{Detail, Explanation, Fault, Table, Verdict, check_in, explain_in};
 use vipr_explain::{Page, page_for, with_page};
+use vipr_rules::Profile;
 use vipr_text::hex_digest;
 
 // How many bytes are read before their first eighth is checked; then eight times as many.
@@ -143,7 +146,7 @@ impl ReadText {
         ensures { AnswersWhole job.now.command (profile_of job.now.profile) job.now.is_long
             job.now.has_sum (input_of self.now.bytes.items self.now.has_failed) result }
     {
-        let (verdict, detail) = explain_in(alloc, job.profile, self.reader())?;
+        let (verdict, detail) = explained(alloc, job.profile, self.reader())?;
         let text = self.text(alloc, job, &verdict, &detail);
         drop(detail);
         Ok(Printed {
@@ -205,6 +208,21 @@ impl ReadText {
             Some(self.bytes.as_slice())
         }
     }
+}
+
+// The verdict on a certificate, with what there is to show of it. The stack that this takes is free
+// again while a page is made.
+#[inline(never)]
+fn explained<R: Source + Drop>(
+    alloc: Global,
+    profile: Profile,
+    source: R,
+) -> Result<(Verdict, Detail), Fault>
+    ensures verdict { ChecksIn (profile_of profile) (R.input source) (verdict_in result) }
+    ensures detail { IfKnown (R.input source)
+        (λ i. SaysInDetail (IsExplained (profile_of profile) (text_of i)) result) }
+{
+    explain_in(alloc, profile, source)
 }
 
 /// The lines of the verdict, with those of the detail for a task that explains.
