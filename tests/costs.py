@@ -44,7 +44,7 @@ import families
 
 # what doesn't meet its bounds yet: bytes of memory and instructions for a byte of text that it may take until then, by
 # family and command
-OPEN = {("large_and_spread", "check"): (600, 2_800)}
+OPEN = {}
 # the commands that write the compact text
 COMPACT = "show --compact", "tighten --compact"
 # how much more a text of four times the length may cost

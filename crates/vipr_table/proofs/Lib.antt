@@ -2,6 +2,7 @@ mod RisingLemmas
 mod SetLemmas
 mod ListsLemmas
 mod PagesLemmas
+mod BitsLemmas
 mod ExpiryLemmas
 mod TableLemmas
 mod ExpiryOrderLemmas

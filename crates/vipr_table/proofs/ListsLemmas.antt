@@ -107,16 +107,9 @@ only_item [] e = absurd (omega arith)
 only_item (x ∷ []) e = refl
 only_item (x ∷ y ∷ ys) e = absurd (omega arith)
 
-pub listed_in : (s : FinSet nat_cmp) (xs : List ℕ) (q : ℕ) (b : Bool) → from_list xs ≡ s
-    → b ≡ has xs q → contains s q ≡ b
-listed_in s xs q b is e = ap (λ t. contains t q) (sym is) ∙ contains-from_list_nat xs q ∙ sym e
-
 pub listed_empty : (s : FinSet nat_cmp) (xs : List ℕ) (b : Bool) → from_list xs ≡ s
     → b ≡ nat_eq (length xs) 0 → (b ≡ true → s ≡ empty) × (s ≡ empty → b ≡ true)
 listed_empty s xs b is e = (λ h. sym is ∙ (empty_seen xs b e).0 h, λ h. (empty_seen xs b e).1 (is ∙ h))
-
-pub length_of_none : (s : FinSet nat_cmp) (xs : List ℕ) → from_list xs ≡ s → s ≡ empty → length xs ≡ 0
-length_of_none s xs is none = grind (arith, listed_empty)
 
 pub none_listed : (s : FinSet nat_cmp) (xs : List ℕ) → from_list xs ≡ s → length xs ≡ 0 → s ≡ empty
 none_listed s xs is e = sym is ∙ ap from_list (no_items xs e)

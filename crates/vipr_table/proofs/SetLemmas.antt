@@ -21,7 +21,7 @@ use Rattle.std.specs.{Cmp.nat_cmp_total, Cmp.unsigned_tied, List.list_any, List.
 use Rattle.vipr_table.specs.Rising.{IsRising, RisesWithin, IsUnion, has}
 use Rattle.vipr_table.proofs.RisingLemmas.{has_all_but, rises_order}
 
-same_numbers : (s t : FinSet nat_cmp) → ((q : ℕ) → contains s q ≡ contains t q) → s ≡ t
+pub same_numbers : (s t : FinSet nat_cmp) → ((q : ℕ) → contains s q ≡ contains t q) → s ≡ t
 same_numbers s t same = same_set nat_cmp_total nat_cmp-IsAntisymmetric s t same
 
 -- a list that has what either of two has

@@ -1,6 +1,7 @@
 pub mod Rising
 pub mod Merging
 pub mod Sets
+pub mod Bits
 pub mod IndexList
 pub mod Unions
 pub mod Table

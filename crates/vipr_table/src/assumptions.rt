@@ -2,8 +2,8 @@
 //!
 //! [`Assumptions`] is a set of indices. A sum rests on the union of the sets of its constraints,
 //! and a split takes one assumption out of each of its branches. Clones share their indices, so a
-//! long set that many constraints rest on is in memory once. A long set is in pages of short lists,
-//! and a union or a removal makes only those anew that it changes.
+//! long set that many constraints rest on is in memory once. A long set is in pages of bits, and a
+//! union or a removal makes only those anew that it changes.
 mod list;
 mod merge;
 mod page;
@@ -17,8 +17,7 @@ ghost use Rattle.vipr_table.specs.{IndexList.listed_set, Sets.IsListOf};
 
 use crate::assumptions::list::{IndexList, front_but_last, front_of};
 use crate::assumptions::merge::{all_but, has_all, is_in, join};
-use crate::assumptions::page::lists_of;
-use crate::assumptions::pages::IndexPages;
+use crate::assumptions::pages::{IndexPages, words_in_pages};
 pub use crate::assumptions::union::Union;
 use std::alloc::{AllocError, Global};
 use std::marker::Model;
@@ -28,8 +27,8 @@ use vipr_shared::Shared;
 // Up to how many indices are one list.
 const SHORT: usize = 256;
 
-// How many indices a list of a page has at least, on average.
-const DENSE: usize = 8;
+// How many indices a word of a page has at least, on average.
+const DENSE: usize = 2;
 
 // Up to how many indices are few.
 const FEW: usize = 8;
@@ -192,7 +191,7 @@ impl Assumptions {
         self.list.is_one(&other.list)
     }
 
-    // The union, which shares the pages and lists to which nothing is added.
+    // The union, which shares the pages to which nothing is added.
     fn joined(&self, alloc: Global, other: &Assumptions) -> Result<Self, AllocError>
         ensures { IfOk result (λ s. s ≡ set.union self.now other.now) }
     {
@@ -216,7 +215,7 @@ impl Assumptions {
         Assumptions::of_pages(alloc, union)
     }
 
-    // The set without an index. It shares the pages and lists that don't have that.
+    // The set without an index. It shares the pages that don't have that.
     fn shortened(&self, alloc: Global, index: u32) -> Result<Self, AllocError>
         ensures { IfOk result (λ s. s ≡ set.remove self.now index) }
     {
@@ -263,7 +262,7 @@ impl Assumptions {
         let list = match indices.as_slice() {
             [] => IndexList::Nothing,
             [index] => IndexList::One(*index),
-            items if items.len() > SHORT && is_dense(lists_of(items), items.len()) => {
+            items if items.len() > SHORT && is_dense(words_in_pages(items), items.len()) => {
                 IndexList::Longer(Shared::new(alloc, IndexPages::of_rising(alloc, items)?)?)
             }
             _ => {
@@ -276,11 +275,11 @@ impl Assumptions {
         Ok(Assumptions { list })
     }
 
-    // The set of these pages. They become one list if they have few indices, or few for each list.
+    // The set of these pages. They become one list if they have few indices, or few for each word.
     fn of_pages(alloc: Global, pages: IndexPages) -> Result<Self, AllocError>
         ensures { IfOk result (λ s. s ≡ pages) }
     {
-        if pages.len() <= SHORT / 2 || !is_dense(pages.lists(), pages.len()) {
+        if pages.len() <= SHORT / 2 || !is_dense(pages.words(), pages.len()) {
             let indices = pages.indices(alloc);
             drop(pages);
             return Assumptions::of_indices(alloc, indices?);
@@ -343,7 +342,7 @@ impl Assumptions {
     }
 }
 
-// Whether so many indices are enough for so many lists.
-fn is_dense(lists: usize, len: usize) -> bool {
-    len / DENSE >= lists
+// Whether so many indices are enough for so many words.
+fn is_dense(words: usize, len: usize) -> bool {
+    len / DENSE >= words
 }

@@ -1,22 +1,24 @@
-//! Sets in lists of neighbouring indices, which other sets may share.
+//! Sets of neighbouring indices, a bit for each number.
 
-ghost use Rattle.std.specs.Prelude.{◌≡◌, ◌↔◌, ◌<◌, ◌≤◌, length, IfOk, IsTrue, OnOk};
+ghost use Rattle.std.specs.Prelude.{◌≡◌, ◌↔◌, ℕ, ◌+◌, ◌*◌, ◌/◌, ◌^◌, ◌<◌, ◌≤◌, min, max, [], ◌∷◌};
+ghost use Rattle.std.specs.Prelude.{length, slice_index, All, IfOk, IsTrue, OnOk};
 ghost use Rattle.std.specs.FinSet as set;
-ghost use Rattle.vipr_table.specs.{Rising.IsRising, Sets.union_of_all};
+ghost use Rattle.vipr_table.specs.{Rising.IsRising, Bits.page_set, Bits.word_at};
 
-use crate::assumptions::list::Front;
-use crate::assumptions::merge::is_in;
 use std::alloc::{AllocError, Global};
 use std::marker::Model;
 
-// The indices of a list differ in so many of their last bits at most.
-const LIST_BITS: u32 = 8;
+// How many numbers a word has a bit for.
+const WORD: u32 = 64;
 
-/// A set in lists. The indices of a list are those of one range of 256 numbers, and the lists come
-/// in the order of their ranges.
+/// A set in words. Each number from the first word on to the last has a bit, which is 1 if it is in
+/// the set.
 #[derive(Debug, Drop)]
 pub(crate) struct IndexPage {
-    fronts: Vec<Front>,
+    // the number before the first word, in words
+    first: u32,
+    words: Vec<u64>,
+    // how many indices there are
     len: usize,
 }
 
@@ -24,77 +26,78 @@ impl Model for IndexPage {
     ghost use Rattle.std.specs.Coded.{coded_ℕ};
     ghost use Rattle.std.specs.FinSet as set;
     ghost use Rattle.std.specs.Ordering.{nat_cmp};
-    ghost use Rattle.vipr_table.specs.Sets.{union_of_all};
+    ghost use Rattle.std.specs.Prelude.{◌+◌, ◌*◌, ◌≤◌, ◌^◌, length};
+    ghost use Rattle.vipr_table.specs.Bits.{page_set};
 
     ghost Value = { set.FinSet nat_cmp };
 
     ghost coded = { set.code coded_ℕ };
 
-    ghost view = { λ p. union_of_all p.fronts.items };
+    ghost view = { λ p. page_set p.first p.words.items };
+
+    ghost invariant = { λ p. 64 * (p.first + length p.words.items) ≤ 2 ^ 32 };
 }
 
 impl IndexPage {
-    // The page of these lists.
-    fn of(fronts: Vec<Front>) -> IndexPage
-        ensures { result ≡ union_of_all fronts.items }
+    // The page of these words.
+    fn of(first: u32, words: Vec<u64>) -> IndexPage
+        requires { 64 * (first + length words.items) ≤ 2 ^ 32 }
+        ensures { result ≡ page_set first words.items }
     {
-        let mut len = 0_usize;
-        for front in &fronts {
-            len = len.saturating_add(front.len());
-        }
-        IndexPage { fronts, len }
+        let len = ones(words.as_slice());
+        IndexPage { first, words, len }
     }
 
-    /// The lists of these indices.
+    /// The words of these indices.
     pub(crate) fn of_rising(alloc: Global, items: &[u32]) -> Result<IndexPage, AllocError>
         requires { IsRising items.now }
         ensures { IfOk result (λ page. page ≡ set.from_list items.now) }
     {
-        let mut fronts = Vec::new(alloc);
-        let mut start = 0;
-        while start < items.len() {
-            let end = end_of_range(items, start, LIST_BITS);
-            fronts.push(Front::of(alloc, items[start..end].to_vec(alloc)?)?)?;
-            start = end;
-        }
-        Ok(IndexPage::of(fronts))
+        let first = first_word_of(items);
+        Ok(IndexPage::of(first, words_of(alloc, first, items)?))
     }
 
-    /// Whether no index is in a list.
+    /// Whether no index is in the set.
     pub(crate) fn is_empty(&self) -> bool
         ensures { IsTrue result ↔ (self.now ≡ set.empty) }
     {
-        are_empty(self.fronts.as_slice())
+        are_zero(self.first, self.words.as_slice())
     }
 
-    /// Whether an index is in one of the lists.
+    /// Whether an index is in the set.
     pub(crate) fn contains(&self, index: u32) -> bool
         ensures { result ≡ set.contains self.now index }
     {
-        one_has(self.fronts.as_slice(), index)
+        has(self.first, self.words.as_slice(), index)
     }
 
-    /// The indices of both. Lists to which the other set adds nothing are shared.
+    /// The indices of both.
     pub(crate) fn union(&self, alloc: Global, other: &IndexPage) -> Result<IndexPage, AllocError>
         ensures { IfOk result (λ page. page ≡ set.union self.now other.now) }
     {
-        let fronts = united(alloc, self.fronts.as_slice(), other.fronts.as_slice())?;
-        Ok(IndexPage::of(fronts))
+        let words = united(
+            alloc,
+            self.first,
+            self.words.as_slice(),
+            other.first,
+            other.words.as_slice(),
+        )?;
+        Ok(IndexPage::of(self.first.min(other.first), words))
     }
 
-    /// All indices but one. Lists that don't have it are shared.
+    /// All indices but one.
     pub(crate) fn without(&self, alloc: Global, index: u32) -> Result<IndexPage, AllocError>
         ensures { IfOk result (λ page. page ≡ set.remove self.now index) }
     {
-        let fronts = fronts_without(alloc, self.fronts.as_slice(), index)?;
-        Ok(IndexPage::of(fronts))
+        let words = words_without(alloc, self.first, self.words.as_slice(), index)?;
+        Ok(IndexPage::of(self.first, words))
     }
 
-    /// Whether both share all lists. `true` says that they are equal.
+    /// Whether both have the same words. `true` says that they are equal.
     pub(crate) fn is_same(&self, other: &IndexPage) -> bool
         ensures { IsTrue result → self.now ≡ other.now }
     {
-        are_same(self.fronts.as_slice(), other.fronts.as_slice())
+        self.first == other.first && self.words.as_slice() == other.words.as_slice()
     }
 
     /// Adds the indices behind those that are there.
@@ -102,7 +105,7 @@ impl IndexPage {
         ensures { OnOk result (set.from_list indices.new.items
             ≡ set.union (set.from_list indices.old.items) self.now) }
     {
-        add_indices(indices, self.fronts.as_slice())
+        add_indices(indices, self.first, self.words.as_slice())
     }
 
     /// How many indices there are.
@@ -110,29 +113,15 @@ impl IndexPage {
         self.len
     }
 
-    /// How many lists there are.
-    pub(crate) fn lists(&self) -> usize {
-        self.fronts.len()
+    /// How many words there are.
+    pub(crate) fn words(&self) -> usize {
+        self.words.len()
     }
 
-    /// The first index, if there is one.
-    pub(crate) fn first(&self) -> Option<u32> {
-        self.fronts.first()?.as_slice().first().copied()
+    /// The first number that has a bit.
+    pub(crate) fn start(&self) -> u32 {
+        self.first.saturating_mul(WORD)
     }
-}
-
-/// In how many lists of pages these indices are.
-pub(crate) fn lists_of(items: &[u32]) -> usize {
-    let mut lists = 0_usize;
-    let mut last = None;
-    for item in items {
-        let range = Some(*item >> LIST_BITS);
-        if range != last {
-            lists = lists.saturating_add(1);
-        }
-        last = range;
-    }
-    lists
 }
 
 /// Behind which index those end that agree with the one at `start` in all but so many bits.
@@ -150,116 +139,184 @@ pub(crate) fn end_of_range(items: &[u32], start: usize, bits: u32) -> usize
     end
 }
 
-// The range of a list.
-fn range_of(front: &Front) -> u32 {
-    match front.as_slice().first() {
-        Some(index) => *index >> LIST_BITS,
-        None => 0,
+/// In how many words these indices are, in pages whose numbers differ in so many bits at most.
+pub(crate) fn words_for(items: &[u32], bits: u32) -> usize
+    requires { bits < 32 }
+{
+    let mut words = 0_usize;
+    let mut last = None;
+    for item in items {
+        let more = match last {
+            Some(before) if before >> bits == *item >> bits => {
+                (*item / WORD).saturating_sub(before / WORD)
+            }
+            _ => 1,
+        };
+        words = words.saturating_add(more as usize);
+        last = Some(*item);
     }
+    words
 }
 
-// Whether no list has an index.
-fn are_empty(fronts: &[Front]) -> bool
-    ensures { IsTrue result ↔ (union_of_all fronts.now ≡ set.empty) }
+// How many bits are 1.
+fn ones(words: &[u64]) -> usize {
+    let mut len = 0_usize;
+    for word in words {
+        len = len.saturating_add(word.count_ones() as usize);
+    }
+    len
+}
+
+// The word of a number, in words, where the first word is that of `first`.
+#[inline(always)]
+fn word_of(first: u32, words: &[u64], number: u32) -> u64
+    ensures { result ≡ word_at first words.now number }
 {
-    for front in fronts {
-        if !front.as_slice().is_empty() {
+    if number < first {
+        return 0;
+    }
+    let place = (number - first) as usize;
+    if place < words.len() { words[place] } else { 0 }
+}
+
+// Whether the bit of an index is 1.
+fn has(first: u32, words: &[u64], index: u32) -> bool
+    ensures { result ≡ set.contains (page_set first words.now) index }
+{
+    (word_of(first, words, index / WORD) >> (index % WORD)) & 1 == 1
+}
+
+// Whether each bit is 0.
+fn are_zero(first: u32, words: &[u64]) -> bool
+    ensures { IsTrue result ↔ (page_set first words.now ≡ set.empty) }
+{
+    let _first = first;
+    for word in words {
+        if *word != 0 {
             return false;
         }
     }
     true
 }
 
-// Whether one of the lists has an index.
-fn one_has(fronts: &[Front], index: u32) -> bool
-    ensures { result ≡ set.contains (union_of_all fronts.now) index }
+// The number of the first word of rising indices.
+fn first_word_of(items: &[u32]) -> u32
+    requires { IsRising items.now }
+    ensures within { 64 * result ≤ 2 ^ 32 }
+    ensures least { All (λ x. result ≤ x / 64) items.now }
 {
-    for front in fronts {
-        if is_in(front.as_slice(), index) {
-            return true;
-        }
+    if items.is_empty() {
+        return 0;
     }
-    false
+    items[0] / WORD
 }
 
-// Whether these lists are one by one the same.
-fn are_same(fronts: &[Front], others: &[Front]) -> bool
-    ensures { IsTrue result → union_of_all fronts.now ≡ union_of_all others.now }
+// The words of these indices.
+fn words_of(alloc: Global, first: u32, items: &[u32]) -> Result<Vec<u64>, AllocError>
+    requires within { 64 * first ≤ 2 ^ 32 }
+    requires least { All (λ x. first ≤ x / 64) items.now }
+    ensures within { IfOk result (λ words. 64 * (first + length words.items) ≤ 2 ^ 32) }
+    ensures set { IfOk result (λ words. page_set first words.items ≡ set.from_list items.now) }
 {
-    if fronts.len() != others.len() {
-        return false;
+    let mut words = Vec::new(alloc);
+    for item in items {
+        let place = (*item / WORD - first) as usize;
+        lengthen(&mut words, place + 1)?;
+        words[place] |= 1 << (*item % WORD);
     }
-    let mut i = 0;
-    while i < fronts.len() {
-        if !fronts[i].is_one(&others[i]) {
-            return false;
-        }
-        i += 1;
-    }
-    true
+    Ok(words)
 }
 
-// The lists of both, where those of one range are one.
-fn united(alloc: Global, fronts: &[Front], others: &[Front]) -> Result<Vec<Front>, AllocError>
-    ensures { IfOk result (λ all.
-        union_of_all all.items ≡ set.union (union_of_all fronts.now) (union_of_all others.now)) }
+// Adds words without a 1 until there are so many.
+fn lengthen(words: &mut Vec<u64>, len: usize) -> Result<(), AllocError>
+    ensures len { OnOk result (length words.new.items ≡ max (length words.old.items) len) }
+    ensures same { OnOk result
+        ((k : ℕ) → slice_index words.new.items k ≡ slice_index words.old.items k) }
 {
-    let mut all = Vec::with_capacity(alloc, fronts.len().max(others.len()))?;
-    let mut i = 0;
-    let mut j = 0;
-    while i < fronts.len() && j < others.len() {
-        let range = range_of(&fronts[i]);
-        let other = range_of(&others[j]);
-        if range < other {
-            all.push(fronts[i].clone()?)?;
-            i += 1;
-        } else if other < range {
-            all.push(others[j].clone()?)?;
-            j += 1;
-        } else {
-            all.push(fronts[i].union(alloc, &others[j])?)?;
-            i += 1;
-            j += 1;
-        }
-    }
-    add_fronts(&mut all, &fronts[i..])?;
-    add_fronts(&mut all, &others[j..])?;
-    Ok(all)
-}
-
-// Adds lists.
-fn add_fronts(fronts: &mut Vec<Front>, more: &[Front]) -> Result<(), AllocError>
-    ensures { OnOk result (union_of_all fronts.new.items
-        ≡ set.union (union_of_all fronts.old.items) (union_of_all more.now)) }
-{
-    for front in more {
-        fronts.push(front.clone()?)?;
+    while words.len() < len {
+        words.push(0)?;
     }
     Ok(())
 }
 
-// The lists without an index, but for one that has no other.
-fn fronts_without(alloc: Global, fronts: &[Front], index: u32) -> Result<Vec<Front>, AllocError>
-    ensures { IfOk result (λ rest.
-        union_of_all rest.items ≡ set.remove (union_of_all fronts.now) index) }
+// The words of both, from the first one of either to the last.
+fn united(
+    alloc: Global,
+    first: u32,
+    words: &[u64],
+    other: u32,
+    others: &[u64],
+) -> Result<Vec<u64>, AllocError>
+    requires ours { 64 * (first + length words.now) ≤ 2 ^ 32 }
+    requires theirs { 64 * (other + length others.now) ≤ 2 ^ 32 }
+    ensures within { IfOk result (λ all. 64 * (min first other + length all.items) ≤ 2 ^ 32) }
+    ensures set { IfOk result (λ all. page_set (min first other) all.items
+        ≡ set.union (page_set first words.now) (page_set other others.now)) }
 {
-    let mut rest = Vec::with_capacity(alloc, fronts.len())?;
-    for front in fronts {
-        let left = front.without(alloc, index)?;
-        if !left.as_slice().is_empty() {
-            rest.push(left)?;
-        }
+    let start = first.min(other);
+    let end = (first + words.len() as u32).max(other + others.len() as u32);
+    let mut all = Vec::with_capacity(alloc, (end - start) as usize)?;
+    for number in start..end {
+        all.push(word_of(first, words, number) | word_of(other, others, number))?;
     }
+    Ok(all)
+}
+
+// The words without the bit of an index.
+fn words_without(
+    alloc: Global,
+    first: u32,
+    words: &[u64],
+    index: u32,
+) -> Result<Vec<u64>, AllocError>
+    ensures len { IfOk result (λ rest. length rest.items ≡ length words.now) }
+    ensures set { IfOk result (λ rest. page_set first rest.items
+        ≡ set.remove (page_set first words.now) index) }
+{
+    let mut rest = words.to_vec(alloc)?;
+    clear(&mut rest, first, index);
     Ok(rest)
 }
 
-// Adds the indices of the lists.
-fn add_indices(indices: &mut Vec<u32>, fronts: &[Front]) -> Result<(), AllocError>
-    ensures { OnOk result (set.from_list indices.new.items
-        ≡ set.union (set.from_list indices.old.items) (union_of_all fronts.now)) }
+// Makes the bit of an index 0, if there is one.
+fn clear(words: &mut Vec<u64>, first: u32, index: u32)
+    ensures len { length words.new.items ≡ length words.old.items }
+    ensures set { page_set first words.new.items
+        ≡ set.remove (page_set first words.old.items) index }
 {
-    for front in fronts {
-        indices.extend_from_slice(front.as_slice())?;
+    let number = index / WORD;
+    if number < first {
+        return;
+    }
+    let place = (number - first) as usize;
+    if place < words.len() {
+        words[place] &= !(1 << (index % WORD));
+    }
+}
+
+// Adds the indices of words.
+fn add_indices(indices: &mut Vec<u32>, first: u32, words: &[u64]) -> Result<(), AllocError>
+    requires { 64 * (first + length words.now) ≤ 2 ^ 32 }
+    ensures { OnOk result (set.from_list indices.new.items
+        ≡ set.union (set.from_list indices.old.items) (page_set first words.now)) }
+{
+    for (place, word) in words.iter().enumerate() {
+        add_ones(indices, first + place as u32, *word)?;
+    }
+    Ok(())
+}
+
+// Adds the indices of a word.
+fn add_ones(indices: &mut Vec<u32>, number: u32, word: u64) -> Result<(), AllocError>
+    requires { 64 * (number + 1) ≤ 2 ^ 32 }
+    ensures { OnOk result (set.from_list indices.new.items
+        ≡ set.union (set.from_list indices.old.items) (page_set number (word ∷ []))) }
+{
+    let mut left = word;
+    while left != 0 {
+        let bit = left.trailing_zeros();
+        left &= !(1u64 << bit);
+        indices.push(number * WORD + bit)?;
     }
     Ok(())
 }

@@ -1,19 +1,19 @@
-//! Large sets of indices in pages, which share all pages and lists that they have in common with
-//! the sets that they were made from.
+//! Large sets of indices in pages. They share all pages that they have in common with the sets that
+//! they were made from.
 
 ghost use Rattle.std.specs.Prelude.{◌≡◌, ◌↔◌, IfOk, IsTrue, OnOk};
 ghost use Rattle.std.specs.FinSet as set;
 ghost use Rattle.vipr_table.specs.{Rising.IsRising, Sets.union_of_all};
 
-use crate::assumptions::page::{IndexPage, end_of_range};
+use crate::assumptions::page::{IndexPage, end_of_range, words_for};
 use std::alloc::{AllocError, Global};
 use std::marker::Model;
 use vipr_shared::Shared;
 
 // The indices of a page differ in so many of their last bits at most.
-const PAGE_BITS: u32 = 13;
+const PAGE_BITS: u32 = 11;
 
-/// A set in pages. The indices of a page are those of one range of 8,192 numbers, and the pages
+/// A set in pages. The indices of a page are those of one range of 2,048 numbers, and the pages
 /// come in the order of their ranges.
 #[derive(Debug, Drop)]
 pub(crate) struct IndexPages {
@@ -104,22 +104,24 @@ impl IndexPages {
         len
     }
 
-    /// How many lists there are.
-    pub(crate) fn lists(&self) -> usize {
-        let mut lists = 0_usize;
+    /// How many words there are.
+    pub(crate) fn words(&self) -> usize {
+        let mut words = 0_usize;
         for page in &self.pages {
-            lists = lists.saturating_add(page.as_ref().lists());
+            words = words.saturating_add(page.as_ref().words());
         }
-        lists
+        words
     }
+}
+
+/// How many words the pages of these indices have.
+pub(crate) fn words_in_pages(items: &[u32]) -> usize {
+    words_for(items, PAGE_BITS)
 }
 
 // The range of a page.
 fn range_of(page: &Shared<IndexPage>) -> u32 {
-    match page.as_ref().first() {
-        Some(index) => index >> PAGE_BITS,
-        None => 0,
-    }
+    page.as_ref().start() >> PAGE_BITS
 }
 
 // Whether no page has an index.

@@ -1,77 +1,23 @@
-use Rattle.std.proofs.Common.{◌∙◌, ◌<◌, length, take, ap, ap₂, sym, arith}
-use Rattle.std.specs.FinSet.{empty, union}
-use Rattle.vipr_table.specs.Sets.{union_of_all}
-use Rattle.vipr_table.proofs.ListsLemmas.{more_united}
-use Rattle.vipr_table.proofs.PagesLemmas.{joined_left, joined_right, joined_both, joined_all, behind}
-use Rattle.vipr_table.proofs.{SetLemmas.union_none, UnionsLemmas.one_below}
+use Rattle.std.proofs.Common.{◌∙◌, ap, ap₂, sym, arith, bit_or}
+use Rattle.vipr_table.specs.Bits.{page_set}
+use Rattle.vipr_table.proofs.BitsLemmas.{each_more, page_union, united_words}
 use Rattle.vipr_table.proofs.assumptions.page.united.Goals as goal
 
-pub loop-i-init : goal.loop-i-init
-loop-i-init c = record {
-  i_within = omega arith;
-  j_within = omega arith;
-  so_far = ap union_of_all c.in_ok-all.ensures.items ∙ union_none empty;
+pub loop-number-preserved : goal.loop-number-preserved
+loop-number-preserved c = record {
+  count = omega (arith, c.in_ok-push.ensures.len);
+  each = each_more c.min-start.result c.args.first c.args.other c.loop-number.number _
+      c.loop-number.all.items c.push.new.self.items c.args.words.now c.args.others.now
+      c.in_ok-push.ensures.items c.loop-number.invariant.count
+      (ap₂ bit_or c.word_of.ensures c.word_of-in-loop-number.ensures) c.loop-number.invariant.each;
 }
 
-pub loop-i-preserved-then-range-other : goal.loop-i-preserved-then-range-other
-loop-i-preserved-then-range-other c =
-    let i = c.loop-i.i in
-    let all = union_of_all c.loop-i.all.items in
-    let theirs = union_of_all (take c.loop-i.j c.args.others.now) in
-    let item = c.index-fronts-i-then-range-other in
-    let lt : i < length c.args.fronts.now = c.loop-i-test.true in
-    record {
-      i_within = omega (arith, lt);
-      j_within = c.loop-i.invariant.j_within;
-      so_far =
-          ap union_of_all c.in_ok-push.ensures.items ∙ one_below c.loop-i.all.items c.in_ok-clone.field-0
-          ∙ ap (union all) c.in_ok-clone.ensures.cases
-          ∙ joined_left all (union_of_all (take i c.args.fronts.now)) theirs item.result c.loop-i.invariant.so_far
-          ∙ ap (λ s. union s theirs) (sym (more_united c.args.fronts.now i item.result lt item.is));
-    }
-
-pub loop-i-preserved-then-other-range : goal.loop-i-preserved-then-other-range
-loop-i-preserved-then-other-range c =
-    let j = c.loop-i.j in
-    let all = union_of_all c.loop-i.all.items in
-    let ours = union_of_all (take c.loop-i.i c.args.fronts.now) in
-    let item = c.index-others-j-then-other-range in
-    let lt : j < length c.args.others.now = c.if-j-others.true in
-    record {
-      i_within = c.loop-i.invariant.i_within;
-      j_within = omega (arith, lt);
-      so_far =
-          ap union_of_all c.in_ok-push-2.ensures.items ∙ one_below c.loop-i.all.items c.in_ok-clone-2.field-0
-          ∙ ap (union all) c.in_ok-clone-2.ensures.cases
-          ∙ joined_right all ours (union_of_all (take j c.args.others.now)) item.result c.loop-i.invariant.so_far
-          ∙ ap (union ours) (sym (more_united c.args.others.now j item.result lt item.is));
-    }
-
-pub loop-i-preserved : goal.loop-i-preserved
-loop-i-preserved c =
-    let i = c.loop-i.i in
-    let j = c.loop-i.j in
-    let all = union_of_all c.loop-i.all.items in
-    let one = c.index-fronts-i-else-other-range in
-    let other = c.index-others-j-else-other-range in
-    let lt : i < length c.args.fronts.now = c.loop-i-test.true in
-    let lt' : j < length c.args.others.now = c.if-j-others.true in
-    record {
-      i_within = omega (arith, lt);
-      j_within = omega (arith, lt');
-      so_far =
-          ap union_of_all c.in_ok-push-3.ensures.items ∙ one_below c.loop-i.all.items c.in_ok-union.field-0
-          ∙ ap (union all) c.in_ok-union.ensures
-          ∙ joined_both all (union_of_all (take i c.args.fronts.now)) (union_of_all (take j c.args.others.now))
-          one.result other.result c.loop-i.invariant.so_far
-          ∙ ap₂ union (sym (more_united c.args.fronts.now i one.result lt one.is))
-          (sym (more_united c.args.others.now j other.result lt' other.is));
-    }
-
-pub returns : goal.returns
-returns c =
-    joined_all c.args.fronts.now c.args.others.now c.loop-i.i c.loop-i.j _ _ _ c.loop-i.invariant.so_far
-    (c.in_ok-add_fronts.ensures
-    ∙ ap (λ l. union (union_of_all c.loop-i.all.items) (union_of_all l)) (behind c.loop-i.i c.args.fronts.now))
-    (c.in_ok-add_fronts-2.ensures
-    ∙ ap (λ l. union (union_of_all c.add_fronts.new.fronts.items) (union_of_all l)) (behind c.loop-i.j c.args.others.now))
+pub returns-clause-set : goal.returns-clause-set
+returns-clause-set c =
+    let start = c.min-start.ensures in
+    let end = c.max-end.ensures in
+    ap (λ f. page_set f c.loop-number.all.items) (sym start)
+    ∙ page_union c.min-start.result c.args.first c.args.other c.loop-number.all.items c.args.words.now c.args.others.now
+    (united_words c.min-start.result c.max-end.result c.args.first c.args.other c.loop-number.all.items
+    c.args.words.now c.args.others.now (omega (arith, start)) (omega (arith, start)) (omega (arith, end))
+    (omega (arith, end)) (omega (arith, start, end)) c.loop-number.invariant.each)

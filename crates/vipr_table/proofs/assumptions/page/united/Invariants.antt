@@ -1,15 +1,10 @@
-use Rattle.std.proofs.Common.{◌≡◌, ◌≤◌, ◌+◌, ◌-◌, length, take}
-use Rattle.std.specs.FinSet.{union}
-use Rattle.vipr_table.specs.Sets.{union_of_all}
+use Rattle.std.proofs.Common.{◌≡◌, ℕ, ◌+◌, ◌<◌, length, get_or, bit_or}
+use Rattle.vipr_table.specs.Bits.{word_at}
 use Rattle.vipr_table.proofs.assumptions.page.united.Given as goal
 
-abbrev pub invariant-loop-i : goal.invariant-loop-i
-invariant-loop-i l = record {
-  i_within : l.i ≤ length l.fronts;
-  j_within : l.j ≤ length l.others;
-  so_far : union_of_all l.all.items
-      ≡ union (union_of_all (take l.i l.fronts)) (union_of_all (take l.j l.others));
+abbrev pub invariant-loop-number : goal.invariant-loop-number
+invariant-loop-number l = record {
+  count : l.start + length l.all.items ≡ l.number;
+  each : (k : ℕ) → k < length l.all.items → get_or l.all.items k 0
+      ≡ bit_or (word_at l.first l.words (l.start + k)) (word_at l.other l.others (l.start + k));
 }
-
-abbrev pub decreases-loop-i : goal.decreases-loop-i
-decreases-loop-i l = (length l.fronts - l.i) + (length l.others - l.j)
