@@ -123,7 +123,8 @@ module _ (o : Row) (cs : List Constraint) (i j : ℕ) (places : List ColumnEntry
 
     last : (m : ℕ) → m < length (places ++ (i, a) ∷ []) → length places ≤ m
         → get_or (places ++ (i, a) ∷ []) m no_entry ≡ (i, a)
-    last m l past = get_or_push places (i, a) no_entry m (let n = length_push places (i, a) in omega (arith, n, l, past))
+    last m l past =
+        get_or_push places (i, a) no_entry m (let n = length_push places (i, a) in omega (arith, n, l, past))
 
     pub places_more : IsCoefficientIn (nth cs i) j a → ArePlaces o cs (i + 1) j (places ++ (i, a) ∷ [])
     places_more is_in = search (rules, cases_lt, left, later, last, length_push)

@@ -4,7 +4,8 @@ use Rattle.std.proofs.Common.{Bool, true, false, not, cond, ◌||◌, ◌&&◌, 
 use Rattle.std.proofs.Common.{length, get_or, set, take, refl, sym, ap, ap₂, ◌∙◌, arith, inl, inr, bit_or, w64, ⊎_elim}
 use Rattle.std.proofs.lemmas.Bool.{true≢false, cases_eq, cases_lt, cases_order}
 use Rattle.std.proofs.lemmas.Bool.Decides.{nat_tests}
-use Rattle.std.proofs.lemmas.List.{get_or_past, get_or-set_same, get_or-set_other, get_or-take, take_more, length-take, length-append}
+use Rattle.std.proofs.lemmas.List.{get_or_past, get_or-set_same, get_or-set_other, get_or-take}
+use Rattle.std.proofs.lemmas.List.{take_more, length-take, length-append}
 use Rattle.std.proofs.lemmas.Nat.Bits.{bit_at_or, bit_at-zero, bit_at-lt, bit_at_set_same, bit_at_set_other}
 use Rattle.std.proofs.lemmas.Nat.Bits.{bit_at_clear_same, bit_at_clear_other, bit_at-trailing_zeros}
 use Rattle.std.proofs.lemmas.Nat.{and_le_l}
@@ -235,7 +236,8 @@ pub united_words : (start end f g : ℕ) (zs xs ys : List ℕ) → start ≤ f �
 united_words start end f g zs xs ys sf sg xe ye ze each k = elim (cases_lt k start) [
   | inl before ↦
       word_before start k zs before
-      ∙ sym (ap₂ bit_or (word_before f k xs (omega (arith, before, sf))) (word_before g k ys (omega (arith, before, sg))))
+      ∙ sym (ap₂ bit_or (word_before f k xs (omega (arith, before, sf)))
+      (word_before g k ys (omega (arith, before, sg))))
   | inr from ↦ elim (cases_lt k end) [
     | inl inside ↦
         word_is start k zs from
@@ -301,7 +303,8 @@ one_word_more f i xs lt = page_union f f (f + i) (take (i + 1) xs) (take i xs) (
           ∙ ap (λ n. get_or (take (i + 1) xs) n 0) at
           ∙ get_or-take (i + 1) xs i 0 (omega arith)
           ∙ sym (ap₂ bit_or (word_past f k (take i xs) (omega (arith, same, length-take i xs, lt)))
-          (word_is (f + i) k (get_or xs i 0 ∷ []) (omega (arith, same)) ∙ ap (λ n. get_or (get_or xs i 0 ∷ []) n 0) zero))
+          (word_is (f + i) k (get_or xs i 0 ∷ []) (omega (arith, same))
+          ∙ ap (λ n. get_or (get_or xs i 0 ∷ []) n 0) zero))
       | inr (inl before) ↦ elim (cases_lt k f) [
         | inl low ↦
             word_before f k (take (i + 1) xs) low
@@ -338,7 +341,8 @@ moved s t i here = same_numbers _ _ (λ q.
   where
     by : (q : ℕ) → ((nat_eq q i || contains s q) || (not (nat_eq q i) && contains t q)) ≡ (contains s q || contains t q)
     by q = elim (cases_eq q i) [
-      | inl same ↦ moved_here (nat_eq q i) (contains s q) (contains t q) (eq_true q i same) (ap (contains t) same ∙ here)
+      | inl same ↦ moved_here (nat_eq q i) (contains s q) (contains t q) (eq_true q i same)
+          (ap (contains t) same ∙ here)
       | inr other ↦ moved_not (nat_eq q i) (contains s q) (contains t q) (eq_false q i other)
     ]
 
@@ -370,7 +374,8 @@ lower w more fits =
     let left : ℕ = bit_and w (bit_not w64 (1 * 2 ^ b % 2 ^ 64)) in
     let gone : bit_at left b ≡ 0 = bit_at_clear_same w64 w b low.0 in
     elim (cases_eq left w) [
-      | inl same ↦ absurd (let both : bit_at left b ≡ bit_at w b = ap (λ x. bit_at x b) same in omega (arith, gone, low.1, both))
+      | inl same ↦ absurd (let both : bit_at left b ≡ bit_at w b = ap (λ x. bit_at x b) same in
+          omega (arith, gone, low.1, both))
       | inr other ↦ omega (arith, other, and_le_l w (bit_not w64 (1 * 2 ^ b % 2 ^ 64)))
     ]
 

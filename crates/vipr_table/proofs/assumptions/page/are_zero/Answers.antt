@@ -12,4 +12,7 @@ returns-then-word-ne0 c =
     (λ h. absurd (true≢false (sym h)), λ none. absurd (some_word c.args.first i words more (omega (arith, fits)) none))
 
 pub returns : goal.returns
-returns c = (λ _. zero_words c.args.first c.args.words.now (λ k lt. c.loop-word.invariant k (omega (arith, lt))), λ _. refl)
+returns c = (
+  λ _. zero_words c.args.first c.args.words.now (λ k lt. c.loop-word.invariant k (omega (arith, lt))),
+  λ _. refl,
+)
