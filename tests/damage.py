@@ -221,11 +221,9 @@ def mistaken(text, chance):
     """The text with one slip, or two."""
     tokens = re.findall(rb"[^\t-\r ]+", text)
     for _ in range(chance.choice([1, 1, 1, 2])):
-        what = chance.randrange(8)
-        if what == 0:
-            tokens = with_values(tokens, chance)
-        elif what == 1:
-            tokens = with_decimals(tokens, chance)
+        what = chance.randrange(12)
+        if what < len(OF_TOKENS):
+            tokens = OF_TOKENS[what](tokens, chance)
         else:
             pattern, others = chance.choice(SLIPS)
             places = [at for at, token in enumerate(tokens) if re.fullmatch(pattern, token)]
@@ -264,3 +262,44 @@ def with_decimals(tokens, chance):
         else token
         for token in tokens
     ]
+
+
+FRACTION = re.compile(rb"(-?[0-9]+)/([1-9][0-9]*)")
+
+
+def with_rounded(tokens, chance):
+    """Fractions are rounded to four places, or to those of floating point."""
+    is_binary = chance.randrange(2)
+
+    def rounded(token):
+        number = Fraction(token.decode())
+        near = Fraction(float(number)) if is_binary else Fraction(round(number * 10_000), 10_000)
+        return b"%d/%d" % near.as_integer_ratio()
+
+    return [rounded(token) if FRACTION.fullmatch(token) else token for token in tokens]
+
+
+def with_split(tokens, chance):
+    """A fraction is in two tokens, or in three."""
+    places = [at for at, token in enumerate(tokens) if FRACTION.fullmatch(token)]
+    if not places:
+        return tokens
+    at = chance.choice(places)
+    above, below = tokens[at].split(b"/")
+    parts = chance.choice(([above, b"/" + below], [above + b"/", below], [above, b"/", below]))
+    return [*tokens[:at], *parts, *tokens[at + 1 :]]
+
+
+def with_other_sign(tokens, chance):
+    """A number behind OBJ has the other sign."""
+    start = tokens.index(b"OBJ") if b"OBJ" in tokens else 0
+    places = [at for at in range(start, len(tokens)) if NUMBER.fullmatch(tokens[at])]
+    if not places:
+        return tokens
+    at = chance.choice(places)
+    sign, number = tokens[at][:1], tokens[at].lstrip(b"+-")
+    return [*tokens[:at], number if sign == b"-" else b"-" + number, *tokens[at + 1 :]]
+
+
+# what is done to all tokens, or to one of some kind
+OF_TOKENS = [with_values, with_decimals, with_rounded, with_split, with_other_sign]
