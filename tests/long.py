@@ -342,6 +342,77 @@ HINTS = [
         "a certificate begins with the line `VER 1.0`: is it missing here",
     ),
     ("diet", "VER 1.0", "VER 1.0 1", "the next section comes after the version `1.0`"),
+    # a number of a row of the problem, or the stated one
+    (
+        "pigeonhole",
+        "job2 G 1 2 2 1 3 1",
+        "job2 G 1 2 2 1 3 -1",
+        "with 1 in place of -1 at x22 in [1] job2  (line 13) the rows are the same: is that meant",
+    ),
+    (
+        "pigeonhole",
+        "job3 G 1 2 4 1 5 1",
+        "job3 G 1 2 4 1 3 1",
+        "with x32 in place of x22 in [2] job3  (line 14) the rows are the same: is that meant?",
+    ),
+    # the right-hand side alone
+    (
+        "diet",
+        "dual G 16/5",
+        "dual G 17/5",
+        "the sum has the stated row: is 16/5 meant here, or is a right-hand side below wrong?",
+    ),
+    # a file that is cut among the derivations
+    (
+        "set_cover",
+        "leaf0 G 7 OBJ { lin 4 0 4 2 5 9 -6 3 0 } 13\nleaf1 G 7 OBJ { lin 3 1 4 10 3 5 1 } 13\nall G 7 OBJ { uns 11 9 12 10 } -1\n",
+        "",
+        "the text ends after 2 of 5 derivations: is the file cut, or the count after `DER` too large?",
+    ),
+    (
+        "set_cover",
+        "} 13\nleaf1 G 7 OBJ { lin 3 1 4 10 3 5 1 } 13\nall G 7 OBJ { uns 11 9 12 10 } -1\n",
+        "}",
+        "the text ends after 2 of 5 derivations",
+    ),
+    # one index of a derivation that is counted from 0
+    (
+        "set_cover",
+        "9 -6",
+        "0 -6",
+        "with [9] down in place of [0] a at entry 2 the derivation follows (indices count from 0",
+    ),
+    (
+        "set_cover",
+        "uns 11 9 12 10",
+        "uns 2 9 12 10",
+        "with `uns 11 9 12 10` the derivation follows (indices count from 0: the problem has 9",
+    ),
+    # an equation in place of an inequality
+    (
+        "set_cover",
+        "a G 1 2 0 1 1 1",
+        "a E 1 2 0 1 1 1",
+        "is `G` meant in place of `E`? Then the solution meets this constraint",
+    ),
+    ("knapsack", "a_up L", "a_up E", "is `L` meant in place of `E`? Then the solution meets"),
+    # a fraction in two tokens
+    ("diet", "range 16/5", "range 16/\n5", "is `16/5` meant? A number is one token"),
+    ("diet", "lin 2 0 11/50", "lin 2 0 11\n/50", "is `11/50` meant? A number is one token"),
+    ("diet", "7/10", "7 / 10", "is `7/10` meant? A number is one token"),
+    (
+        "set_cover",
+        "c G 1 2 0 1 2 1\n",
+        "c G 1 2 0 1 2 1\n/1\n",
+        "the name in front of this begins with `/`: is it the end of a number",
+    ),
+    # a bound that is proved and attained
+    (
+        "set_cover",
+        "RTP range 7 7\n",
+        "RTP infeas\n",
+        "and a listed solution attains it: is `RTP range 7 7` meant?",
+    ),
     # a section left out, or in small letters
     (
         "diet",
@@ -539,8 +610,8 @@ HINTS = [
         "a constraint is named by its index, digits alone, and not by its name",
     ),
     ("diet", "2 0 11/50", "2 0:11/50", "an entry is two tokens, INDEX MULTIPLIER"),
-    ("diet", "0 11/50", "0 11 / 50", "a number has no spaces"),
-    ("diet", "0 11/50", "0 11 /50", "a number has no spaces"),
+    ("diet", "0 11/50", "0 11 / 50", "is `11/50` meant? A number is one token"),
+    ("diet", "0 11/50", "0 11 /50", "is `11/50` meant? A number is one token"),
     ("diet", "opt 2 0 3 1 2", "2 1 1 2", "its name is a number: is the name missing?"),
     ("diet", "1 4/25 }", "}", "the brace comes before the last entry that is counted"),
     ("set_cover", "uns 11 9 12 10", "uns 11 9 12", "`uns` takes four indices"),
@@ -847,6 +918,8 @@ STRANGE = [
 # What an explanation says of a text: the words of the command, the text, what has to be in the page, and what must not.
 FRONT = "VER 1.0 VAR 1 x INT 1 0 OBJ min 1 0 1 CON 1 0 c G 1 1 0 1 RTP infeas SOL "
 ASSUMED = " ".join(f"a{i} L 0 0 {{ asm }} -1" for i in range(4)) + " b G 1 0 { asm } -1 "
+# 0.2 as a number of floating point
+FIFTH = "3602879701896397/18014398509481984"
 TRUE = [
     # a constraint rests on an assumption that isn't one of the first four
     (
@@ -952,6 +1025,106 @@ TRUE = [
         "VER 1.0 VAR 1 x INT 0 OBJ max 1 0 1 CON 1 0 c L 1 1 0 1 RTP range 1 1 SOL 1 bc 1 0 0 DER 0",
         ["0 is attained: is that the primal bound"],
         ["lists no value"],
+    ),
+    # an assumption about another variable than that of the other case
+    (
+        [],
+        "VER 1.0 VAR 2 x y INT 2 0 1 OBJ min 0 CON 0 0 RTP infeas SOL 0 DER 3 a L 0 1 0 1 { asm } -1 b G 1 1 1 1 { asm } -1 "
+        "u G 0 0 { uns 0 0 1 1 } -1",
+        ["one is about x, and the other about y: is the variable's index wrong in one of them?"],
+        [],
+    ),
+    # a sign that is lost in a row that a solution breaks
+    (
+        [],
+        "VER 1.0 VAR 3 x y z INT 0 OBJ min 0 CON 1 0 flow E 1 3 0 1 1 1 2 1 RTP range 0 0 SOL 1 s 2 0 2 1 1 DER 0",
+        ["is -1 meant in place of 1 at y? Then both sides are the same"],
+        ["in place of `E`"],
+    ),
+    # a sign that is lost in what a derivation states, and two variables that are exchanged
+    *[
+        (
+            [],
+            f"VER 1.0 VAR 2 x y INT 0 OBJ min 0 CON 2 0 a G 1 2 0 1 1 -1 b G 2 2 0 1 1 -1 RTP infeas SOL 0 DER 1 d G 3 {row} {{ lin 2 0 1 1 1 }} -1",
+            [f"with {change} in the stated row the rows are the same: is that meant?"],
+            [],
+        )
+        for row, change in (
+            ("2 0 2 1 2", "-2 in place of 2 at y"),
+            ("2 0 -2 1 2", "the coefficients of x and y exchanged"),
+        )
+    ],
+    # the coefficients of two variables are exchanged in a row
+    (
+        [],
+        "VER 1.0 VAR 3 x y z INT 0 OBJ min 3 0 2 1 3 2 1 CON 2 0 a G 4 2 0 3 1 2 b G 1 1 2 1 RTP range 5 inf SOL 0 DER 1 "
+        "d G 5 OBJ { lin 2 0 1 1 1 } -1",
+        ["with the coefficients of x and y exchanged in the stated row the rows are the same"],
+        [],
+    ),
+    (
+        [],
+        "VER 1.0 VAR 3 x y z INT 0 OBJ min 2 0 5 1 5 CON 2 0 a G 4 2 0 3 1 2 b G 1 2 0 3 1 2 RTP range 5 inf SOL 0 DER 1 "
+        "d G 5 OBJ { lin 2 0 1 1 1 } -1",
+        ["with the coefficients of x and y exchanged in [0] a  (line 1) the rows are the same"],
+        [],
+    ),
+    # multipliers that are rounded, in decimal or binary digits
+    *[
+        (
+            [],
+            f"VER 1.0 VAR 2 x y INT 0 OBJ min 2 0 1 1 1 CON 2 0 a G {bound} 2 0 {large} 1 {small} b G {bound} 2 0 {small} 1 {large} "
+            f"RTP range 2 inf SOL 0 DER 1 d G 2 OBJ {{ lin 2 0 {number} 1 {number} }} -1",
+            [
+                f"with {meant} for {number}, and such a fraction for each rounded multiplier, the sum has the stated row"
+            ],
+            ["with one more entry"],
+        )
+        for number, meant, bound, large, small in (
+            ("3333/10000", "1/3", 3, 2, 1),
+            (FIFTH, "1/5", 5, 3, 2),
+        )
+    ],
+    # a coefficient of floating point
+    (
+        [],
+        f"VER 1.0 VAR 2 x y INT 0 OBJ min 2 0 1 1 1 CON 2 0 a G 1 2 0 {FIFTH} 1 1 b G 0 1 0 1 RTP range 1 inf SOL 0 DER 1 "
+        "d G 1 OBJ { lin 2 0 1 1 4/5 } -1",
+        [f"with 1/5 in place of {FIFTH} at x in [0] a  (line 1) the rows are the same"],
+        [],
+    ),
+    (
+        [],
+        f"VER 1.0 VAR 2 x y INT 0 OBJ min 2 0 1 1 2 CON 1 0 a G 1 2 0 {FIFTH} 1 {FIFTH} RTP range 1 inf SOL 0 DER 1 "
+        "d G 1 OBJ { lin 1 0 1 } -1",
+        [f"{FIFTH} is near 1/5, and its denominator is a power of 2"],
+        [],
+    ),
+    # lines that were sorted by name
+    (
+        [],
+        "VER 1.0 VAR 3 x y z INT 0 OBJ min 2 0 1 1 1 CON 3 0 C1 G 1 1 0 1 C3 G 0 1 2 1 C2 G 1 1 1 1 RTP range 2 inf SOL 0 DER 1 "
+        "d G 2 OBJ { lin 2 0 1 1 1 } -1",
+        [
+            "[1] is `C3`, and [2] is `C2`: are the lines in another order than they were written, as by name?"
+        ],
+        [],
+    ),
+    # of a sum with both senses the entry is marked that gives another sense than the stated one
+    (
+        [],
+        "VER 1.0 VAR 3 x y z INT 0 OBJ min 0 CON 2 0 a L 1 2 0 1 1 2 b G 1 2 0 3 2 1 RTP infeas SOL 0 DER 1 "
+        "d G 1 0 { lin 2 0 1 1 1 } -1",
+        ["entry 1 gives >=, and the sum before it is <=", "<-- entry 0"],
+        ["<-- entry 1"],
+    ),
+    # a shift of all indices comes before another constraint in the place of one
+    (
+        [],
+        "VER 1.0 VAR 3 x y z INT 0 OBJ min 2 1 1 2 1 CON 4 0 a G 1 1 0 1 b G 2 1 1 1 c G 3 1 2 1 e G 0 1 0 2 RTP range 5 inf SOL 0 "
+        "DER 1 d G 5 OBJ { lin 2 0 1 1 1 } -1",
+        ["  = help: with every index one more the derivation follows (indices count from 0"],
+        ["~"],
     ),
     # a vector of the objective has nothing in front of it
     (
@@ -1570,6 +1743,41 @@ UNTRUE = [
     ),
     (FRONT + "0 DER 1 a G 1 0 {{ asm", "put a space before the brace"),
     ("VER 1.0 - VAR", "a number has no spaces, as -11/9"),
+    # of a sum, and of the numbers in its rows
+    *[
+        (
+            FRONT + "0 DER 1 a G 2 1 0 1 { lin 1 0 3333/10000 } -1",
+            sentence,
+        )
+        for sentence in (
+            "the sum has the stated row: is 1 meant here, or is a right-hand side below wrong?",
+            "with 1/3 for 3333/10000, and such a fraction for each rounded multiplier, the sum has the stated row: write exact fractions",
+            "with -1 in place of 1 at x in [0] c  (line 1) the rows are the same: is that meant, or 3333/10000 in the stated row?",
+            "with -1 in place of 1 at x in the stated row the rows are the same: is that meant?",
+            "3333/10000 is near 1/3, and its denominator is a power of 2, as in floating point: is 1/3 meant?",
+            "[0] is `c`, and [1] is `a`: are the lines in another order than they were written, as by name?",
+        )
+    ],
+    # of a text that is cut, and of a token that is no fraction
+    (
+        FRONT + "0 DER 3 a G 2 1 0 1 { lin 1 0 1 } -1",
+        "the text ends after 2 of 3 derivations: is the file cut, or the count after `DER` too large?",
+    ),
+    (
+        FRONT + "0 DER 1 a G 1 / 2",
+        "is `1/3` meant? A number is one token, without white space or a line break in it",
+    ),
+    # of a solution that breaks a constraint
+    *[
+        (
+            "VER 1.0 VAR 1 x INT 0 OBJ min 0 CON 1 0 c E 1 1 0 1 RTP infeas SOL 1 s 1 0 2 DER 0",
+            sentence,
+        )
+        for sentence in (
+            "is `L` meant in place of `E`? Then the solution meets this constraint; else change the solution, or leave it out",
+            "is -1 meant in place of 1 at x? Then both sides are the same; else change the solution, or leave it out",
+        )
+    ],
     # of a derivation, and of the claim
     (
         FRONT + "0 DER 1 a G 2 1 0 1 { lin 1 0 1 } -1",

@@ -326,6 +326,16 @@ class Facts:
         changed = [index for index in sorted(computed) if stated.get(index) != computed[index]]
         return changed + sorted(stated.keys() - computed.keys())
 
+    def differences_of_rows(self):
+        """The variables at which the row of a sum and the stated one differ."""
+        summed = self.written("sum" if self.refused == 36 else "computed")[0]
+        stated = self.plain(self.number())[0]
+        return {
+            index
+            for index in summed.keys() | stated.keys()
+            if summed.get(index) != stated.get(index)
+        }
+
     def row_faults(self, row):
         """What keeps a row from being whole: a coefficient or a variable, by the variable's index."""
         for index in sorted(row):

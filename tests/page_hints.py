@@ -51,6 +51,20 @@ def is_near_miss(facts):
     )
 
 
+def is_other_sense(sign):
+    """Whether a solution breaks an equation, but not that as an inequality."""
+
+    def test(facts):
+        row, sense, bound = facts.plain(int(facts.details["constraint"].split()[0]))
+        values = facts.solutions[facts.number()].values
+        total = sum(
+            (number * Fraction(values.get(index, 0)) for index, number in row.items()), Fraction(0)
+        )
+        return sense == "E" and (total < bound if sign == "L" else total > bound)
+
+    return both(cause_is(22), test)
+
+
 def solution_is(test):
     """A test of the solution that breaks a constraint: of its name, the count of its values in the text, and those values."""
 
@@ -251,6 +265,9 @@ HINTS = {
     "the name in front of this is a number: is the count of coefficients in front of that too small, or a right-hand side missing?": both(
         role_is("sense"), lambda facts: name_is_number(facts.name.bytes)
     ),
+    "the name in front of this begins with `/`: is it the end of a number, which is one token, without white space or a line break in it?": both(
+        role_is("sense"), lambda facts: re.fullmatch(b"/[0-9]+", facts.name.bytes) is not None
+    ),
     "a sense is a letter, and sense and right-hand side are before the coefficients: NAME SENSE RIGHT-HAND-SIDE COUNT INDEX COEFFICIENT ..": both(
         role_is("sense"), NUMBERLIKE
     ),
@@ -363,6 +380,12 @@ HINTS = {
     "no solution meets this constraint: change it, or take it out": lambda facts: facts.refused
     == 22
     and not facts.plain(int(facts.details["constraint"].split()[0]))[0],
+    **{
+        f"is `{sign}` meant in place of `E`? Then the solution meets this constraint; else change the solution, or leave it out": is_other_sense(
+            sign
+        )
+        for sign in "LG"
+    },
     "its name is a number: is the name missing?": solution_is(
         lambda name, count, values: name_is_number(name)
     ),

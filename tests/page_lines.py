@@ -70,6 +70,10 @@ class Page:
             [],
         )
 
+    def is_asked(self):
+        """Whether something else is asked before a change of a part is offered: then no change is marked."""
+        return any(self.said[kind] for kind in (*ASKED, "shift_of_all", "factor_of_all"))
+
 
 @form(r"error: (\w+): (.*)")
 def text_error(page, name: str, words: str):
@@ -288,8 +292,8 @@ def is_at_fault(facts, kind, part):
     if kind == "branch" and "index" in facts.details:
         index = int(facts.details["index"])
         return facts.own().indices[part] == index and (facts.refused != 33 or part % 2 == 1)
-    if facts.entry_at_fault() is not None:
-        return part == facts.entry_at_fault()
+    if entry_at_fault(facts) is not None:
+        return part == entry_at_fault(facts)
     return kind == (
         "branch" if facts.refused == 37 else "name" if facts.refused == 38 else "reason"
     ) and part in (None, 1)
@@ -424,6 +428,23 @@ def none_listed(page):
 
 
 @form(
+    rf"  = help: is ({NUMBER}) meant in place of ({NUMBER}) at (\S+)\? Then both sides are the same; else change the solution, or leave it out"
+)
+def lost_sign(page, meant, present, name: str):
+    facts = page.facts
+    row, _, bound = facts.plain(int(facts.details["constraint"].split()[0]))
+    values = facts.solutions[facts.number()].values
+    same("the sign", meant, -present)
+    places = [at for at, number in row.items() if number == present and variable(facts, at) == name]
+    true(places, "there is no such coefficient")
+    total = sum(
+        (Fraction(number) * Fraction(values.get(at, 0)) for at, number in row.items()), Fraction(0)
+    )
+    gain = [2 * meant * Fraction(values.get(at, 0)) for at in places]
+    true(bound - total in gain, "the sides are not the same")
+
+
+@form(
     r"  = help: solution (\d+) `(\S+)` lists no value, so each variable is 0: is its count right\?",
     "attained",
 )
@@ -487,9 +508,9 @@ def derivation_error(page, index, name: str, words: str):
     same("what is wrong", words, HEADS[facts.refused].format_map(known))
 
 
-def given_senses(facts, end):
+def given_senses(facts, end, first=0):
     """The senses that the entries of a sum give up to this one, the last one first: an equation and a multiplier 0 give none."""
-    for index, multiplier in reversed(facts.own().entries[: end + 1]):
+    for index, multiplier in reversed(facts.own().entries[first : end + 1]):
         sense = facts.constraint(index).sense
         if sense != "E" and multiplier:
             yield ">=" if (sense == "G") == (multiplier > 0) else "<="
@@ -529,7 +550,18 @@ def entry(page, multiplier, index, name: str, text: str, line, later, what: str,
 def marked_entry(page):
     """The position of the entry that is marked: the one that a help changes, if it changes one of a sum with both senses."""
     is_changed = page.facts.refused == 34 and page.part in page.changed
-    return page.part[1] if is_changed else page.facts.entry_at_fault()
+    return page.part[1] if is_changed and not page.is_asked() else entry_at_fault(page.facts)
+
+
+def entry_at_fault(facts):
+    """The position of the entry at fault: of a sum with both senses the first one that gives another sense than the stated one."""
+    sense = SIGNS[facts.plain(facts.number())[1]]
+    if facts.refused == 34 and sense != "=":
+        end = int(facts.details["entry"])
+        return next(
+            at for at in range(end + 1) if next(given_senses(facts, at, at), sense) != sense
+        )
+    return facts.entry_at_fault()
 
 
 def named(facts, index, name, text, line, what):
@@ -678,6 +710,20 @@ def other_rows(page):
     true(page.facts.written("first")[0] != page.facts.written("second")[0], "they are of one row")
 
 
+@form(
+    r"  = help: one is about (\S+), and the other about (\S+): is the variable's index wrong in one of them\?"
+)
+def other_variable(page, first: str, second: str):
+    facts = page.facts
+    rows = [facts.written(label)[0] for label in ("first", "second")]
+    same(
+        "the variables",
+        [[first], [second]],
+        [[variable(facts, at) for at in row] for row in rows],
+    )
+    true(rows[0].keys() != rows[1].keys(), "it is one variable")
+
+
 @form(rf"    a split is (.+); here it is (<=|>=|=) ({NUMBER}) and (<=|>=|=) ({NUMBER})")
 def split(page, words: str, sign, side, other_sign, other):
     facts = page.facts
@@ -796,6 +842,10 @@ def from_zero(page, count, first):
 
 
 NAMED = r"\[(\d+)\] (\S+)"
+# behind a change of one index, if that was counted from the first derivation on
+FROM_ZERO = (
+    r"(?: \(indices count from 0: the problem has (\d+) constraints?, so the first derivation is (\d+)\))?"
+)
 # the kinds of lines that offer a change
 OFFERS = (
     "other_join",
@@ -815,12 +865,14 @@ def offered(page, parts, word=None):
     true(page.facts.accepts(parts, word), "the derivation does not follow with this")
 
 
-@form(r"  = help: with `uns (\d+) (\d+) (\d+) (\d+)` the derivation follows")
-def other_join(page, *join):
+@form(rf"  = help: with `uns (\d+) (\d+) (\d+) (\d+)` the derivation follows{FROM_ZERO}")
+def other_join(page, *given):
+    join, *counted = given[:4], *given[4:]
     same("the reason", page.facts.own().reason, "uns")
     old = page.facts.own().indices
     others = [("branch", at) for at in range(4) if join[at] != old[at]]
     page.changed += others if "index" in page.facts.details else others[:1]
+    test_count(page, [(old[at], join[at]) for _, at in others], *counted)
     offered(page, list(join))
 
 
@@ -850,9 +902,9 @@ def other_multiplier(page, new, old, index, name: str):
 
 
 @form(
-    rf"  = help: with {NAMED} in place of \[(\d+)\](?: (\S+))? at entry (\d+) the derivation follows"
+    rf"  = help: with {NAMED} in place of \[(\d+)\](?: (\S+))? at entry (\d+) the derivation follows{FROM_ZERO}"
 )
-def other_index(page, new, new_name: str, old, old_name: str, at):
+def other_index(page, new, new_name: str, old, old_name: str, at, count, first):
     facts = page.facts
     parts = facts.parts(facts.own())
     true(new < facts.number(), f"[{new}] is not earlier")
@@ -867,7 +919,17 @@ def other_index(page, new, new_name: str, old, old_name: str, at):
     same(f"entry {at}", old, parts[at][0])
     page.changed.append(("entry index", at))
     page.mends["entry index", at] = str(new)
+    test_count(page, [(old, new)], count, first)
     offered(page, [*parts[:at], (new, parts[at][1]), *parts[at + 1 :]])
+
+
+def test_count(page, changes, count, first):
+    """Tests that a change of an index is said to be one of a derivation that was counted from 0, if it is one."""
+    given = page.facts.given
+    is_counted = len(changes) == 1 and all(
+        old < given and new == old + given for old, new in changes
+    )
+    same("the first derivation", (count, first), (given, given) if is_counted else (None, None))
 
 
 @form(rf"  = help: with one more entry, ({NUMBER}) x {NAMED}, the derivation follows")
@@ -922,6 +984,149 @@ def factor_of_all(page, factor):
     parts = facts.parts(facts.own())
     true(len(parts) > 1, "it has one multiplier")
     offered(page, [(index, multiplier * factor) for index, multiplier in parts])
+
+
+# the kinds of lines that ask about numbers and lines of the text
+ASKED = ("other_order", "rounded_multipliers", "other_side", "other_number", "floating", "swapped")
+NUMBERS_ASKED = ASKED[1:]
+
+
+@form(
+    r"  = help: \[(\d+)\] is `(\S+)`, and \[(\d+)\] is `(\S+)`: are the lines in another order than they were written, as by name\?"
+)
+def other_order(page, index, name: str, second, other: str):
+    facts = page.facts
+    true(31 <= facts.refused <= 38, "no derivation is refused so")
+    same("the next one", second, index + 1)
+    same("the section", index < facts.given, second < facts.given)
+    numbers = []
+    for at, text in ((index, name), (second, other)):
+        same("a name", text, shown_name(facts.names["CON", at].bytes))
+        numbers.append(int(re.search(rb"[0-9]*$", facts.names["CON", at].bytes)[0]))
+    true(numbers[1] < numbers[0], "their numbers are in the order of the lines")
+
+
+def simple_near(number):
+    """The fraction with the least denominator up to 64 that is nearer to a number than one part of its denominator, if that is large."""
+    for below in range(1, 65) if number.denominator >= 100 else ():
+        near = Fraction((number * below + Fraction(1, 2)).__floor__(), below)
+        if abs(number - near) * number.denominator < 1:
+            return near
+    return None
+
+
+def sum_of(facts, entries, index=None, row=None):
+    """The row of a sum of these entries, with another row for one constraint."""
+    total = Counter()
+    for at, multiplier in entries:
+        for place, number in (row if at == index else facts.plain(at)[0]).items():
+            total[place] += Fraction(number) * multiplier
+    return {place: number for place, number in total.items() if number}
+
+
+@form(
+    rf"  = help: with ({NUMBER}) for ({NUMBER}), and such a fraction for each rounded multiplier, the sum has the stated row: write exact fractions"
+)
+def rounded_multipliers(page, meant, present):
+    facts = page.facts
+    entries = facts.parts(facts.own())
+    true(present in dict.fromkeys(other for _, other in entries), "it is no multiplier")
+    same("the fraction", meant, simple_near(Fraction(present)))
+    entries = [(index, simple_near(number) or number) for index, number in entries]
+    same("the row", sum_of(facts, entries), facts.plain(facts.number())[0])
+
+
+@form(
+    rf"  = help: the sum has the stated row: is ({NUMBER}) meant here, or is a right-hand side below wrong\?"
+)
+def other_side(page, side):
+    facts = page.facts
+    true(facts.refused == 38 and facts.own().reason in ("lin", "rnd"), "it is no sum")
+    (row, _, bound), (stated, _, _) = facts.written("computed"), facts.written("stated")
+    same("the row and the side", (row, bound), (stated, side))
+
+
+PLACED_ROW = r"(?:(the stated row)|\[(\d+)\] (\S+)  \(line (\d+)\))"
+
+
+def test_row(page, changed, stated_row, index, name, line):
+    """Tests that the row of a constraint, or the stated one, is the same as the sum's if it is changed."""
+    facts = page.facts
+    entries, stated = facts.parts(facts.own()), facts.plain(facts.number())[0]
+    true(facts.refused in (36, 38) and facts.own().reason in ("lin", "rnd"), "it is no sum")
+    if stated_row is not None:
+        same("the rows", changed(stated), sum_of(facts, entries))
+        return
+    constraint_shown(facts, index, name, None, line)
+    true(index in dict(entries), "no entry is of it")
+    row = {at: Fraction(number) for at, number in facts.plain(index)[0].items()}
+    same("the rows", sum_of(facts, entries, index, changed(row)), stated)
+
+
+@form(
+    rf"  = help: with ({NUMBER}) in place of ({NUMBER}) at (\S+) in {PLACED_ROW} the rows are the same: is that meant(?:, or ({NUMBER}) in the stated row)?\?"
+)
+def other_number(page, meant, present, place: str, stated: str, index, name: str, line, here):
+    facts = page.facts
+    (at,) = {at for at in facts.differences_of_rows() if variable(facts, at) == place}
+
+    def changed(row):
+        same("the coefficient", row.get(at, 0), present)
+        return {**row, at: meant}
+
+    test_row(page, changed, stated, index, name, line)
+    if stated is None:
+        same("the sum", here, sum_of(facts, facts.parts(facts.own())).get(at, 0))
+
+
+@form(
+    rf"  = help: with (?:the coefficients of (\S+) and (\S+) exchanged|(\S+) in place of (\S+)) in {PLACED_ROW} the rows are the same: is that meant\?"
+)
+def swapped(
+    page,
+    one: str,
+    other: str,
+    meant: str,
+    present: str,
+    stated: str,
+    index,
+    name: str,
+    line,
+):
+    facts = page.facts
+    places = sorted(facts.differences_of_rows())
+    same(
+        "the variables",
+        {one, other} if one else {meant, present},
+        {variable(facts, at) for at in places},
+    )
+
+    def changed(row):
+        same("whether both are there", all(at in row for at in places), one is not None)
+        if one is None:
+            same(
+                "what is there", [variable(facts, at) for at in places if at in row], [present]
+            )
+        rest = {at: number for at, number in row.items() if at not in places}
+        turned = dict(zip(places, reversed(places)))
+        return rest | {turned[at]: row[at] for at in places if at in row}
+
+    test_row(page, changed, stated, index, name, line)
+
+
+@form(
+    rf"  = help: ({NUMBER}) is near ({NUMBER}), and its denominator is a power of 2, as in floating point: is ({NUMBER}) meant\?"
+)
+def floating(page, present, meant, again):
+    facts = page.facts
+    present = Fraction(present)
+    numbers = [number for _, number in facts.parts(facts.own())]
+    for at in [facts.number(), *dict(facts.own().entries)]:
+        row, _, side = facts.plain(at)
+        numbers += [*map(Fraction, row.values()), side]
+    true(present in numbers, "there is no such number")
+    same("the number", (meant, again), (simple_near(present), meant))
+    true(present.denominator & (present.denominator - 1) == 0, "it is no power of 2")
 
 
 @form(
@@ -1167,6 +1372,28 @@ def read_as_name(page, word, section, count, again: str):
     )
 
 
+@form(
+    r"  = help: the text ends after (\d+) of (\d+) derivations: is the file cut, or the count after `DER` too large\?"
+)
+def cut_in_derivations(page, passed, count):
+    facts = page.facts
+    same("where the text ends", (facts.is_end, facts.role.section), (True, "DER"))
+    same("the derivations", (passed, count), (len(facts.derivations), facts.counts["DER"]))
+
+
+@form(
+    r"  = help: is `([-+]?\d+/\d+)` meant\? A number is one token, without white space or a line break in it"
+)
+def split_fraction(page, meant: str):
+    facts = page.facts
+    front = facts.text[: facts.token.at].split()[-1:]
+    behind = facts.text[facts.token.at + len(facts.token.bytes) :].split()[:1]
+    parts = [*front, facts.token.bytes, *behind]
+    joined = {b"".join(parts[at:end]) for at in range(2) for end in range(at + 2, 4)}
+    true(meant.encode() in joined, "these tokens are other ones")
+    true(b"/" in facts.token.bytes, "the token has no slash")
+
+
 @form(r"  = help: is the file cut, or is `(\w+)` missing\? Then write (.*)")
 def keyword_missing(page, section, words: str):
     true(page.facts.is_end, "the text does not end here")
@@ -1300,12 +1527,16 @@ def spelled(page, word: str):
 
 
 @form(
-    rf"  = help: \[(\d+)\] says objective (<=|>=) ({NUMBER}) and rests on no assumption: is `RTP range (\S+) (\S+)` meant\?"
+    rf"  = help: \[(\d+)\] says objective (<=|>=) ({NUMBER}) and rests on no assumption(, and a listed solution attains it)?: is `RTP range (\S+) (\S+)` meant\?"
 )
-def proved_bound(page, index, sign, side, lower: str, upper: str):
+def proved_bound(page, index, sign, side, attained: str, lower: str, upper: str):
     facts = page.facts
     same("the strongest bound", (index, sign, side), strongest_bound(facts))
+    is_attained = facts.listed > 0 and facts.best() == side
+    same("whether it is attained", attained is not None, is_attained)
     wanted_claim = [str(side), "inf"] if facts.checker.minimizes else ["-inf", str(side)]
+    if is_attained:
+        wanted_claim = [str(side), str(side)]
     same("the claim", [lower, upper], wanted_claim)
 
 

@@ -17,7 +17,16 @@ from page_facts import (
     rules,
 )
 from page_hints import HINTS, ROUNDED, ends_text, is_near_miss
-from page_lines import FORMS, OFFERS, Page, is_at_fault, is_second, proved, strongest_bound
+from page_lines import (
+    FORMS,
+    NUMBERS_ASKED,
+    OFFERS,
+    Page,
+    is_at_fault,
+    is_second,
+    proved,
+    strongest_bound,
+)
 
 NO_FORM = "no line has this form"
 
@@ -149,7 +158,8 @@ def required_of_step(facts, said):
         yield "past_bits", 1
     if cause == 36:
         yield "sum", 1
-        yield f"hint: {ROUNDED}", int(not any(said[offer] for offer in OFFERS))
+        is_advised = any(said[kind] for kind in (*OFFERS, *NUMBERS_ASKED))
+        yield f"hint: {ROUNDED}", int(not is_advised)
         yield "hint: INT lists no variable: is it left out?", int(not facts.problem.integers)
         yield "row faults", min(MOST_SHOWN, len(list(facts.row_faults(facts.written("sum")[0]))))
     if cause == 37:
@@ -167,7 +177,8 @@ def required_of_step(facts, said):
             count > 0 and not facts.problem.integers
         )
         yield "second_profile", int(is_one and not count and is_second(facts))
-    if cause in (34, 36, 38) and own.reason in ("lin", "rnd") and mends(facts):
+    is_asked = any(said[kind] for kind in NUMBERS_ASKED)
+    if cause in (34, 36, 38) and own.reason in ("lin", "rnd") and not is_asked and mends(facts):
         yield "offers", None
 
 
@@ -291,13 +302,10 @@ def read(page_text, facts, file="standard input"):
     helps = [line for line in lines if line.startswith("  = ")]
     page.said["help"] = sum(line.startswith("  = help: ") for line in helps)
     found += ["a line is there twice"] if len(set(helps)) < len(helps) else []
-    if (
-        page.part
-        and page.part not in page.changed
-        and (page.changed or not is_at_fault(facts, *page.part))
-    ):
+    changed, mends = ([], {}) if page.is_asked() else (page.changed, page.mends)
+    if page.part and page.part not in changed and (changed or not is_at_fault(facts, *page.part)):
         found.append(f"the carets are at {page.part}, and what is offered is at {page.changed}")
-    if page.mended != page.mends.get(page.part):
+    if page.mended != mends.get(page.part):
         found.append(
             f"the line with the change has {page.mended}, and what is offered is {page.mends}"
         )

@@ -20,6 +20,9 @@ use vipr_frac::Frac;
 use vipr_linear::Combination;
 use vipr_rules::{Rows, RuleError, apply_in};
 
+/// How many changes of a reason are written.
+const MOST_WRITTEN: usize = 2;
+
 /// A change of a reason.
 #[derive(Clone, Copy)]
 pub enum Change {
@@ -42,7 +45,7 @@ pub enum Change {
 pub struct Changes {
     pub multiplier: Option<Change>,
     pub exchange: Option<Change>,
-    /// It is looked for if there is no change of one part.
+    /// If there is a change of one part, it is one of all indices.
     pub slip: Option<Change>,
     pub addition: Option<Change>,
 }
@@ -75,7 +78,38 @@ impl Change {
             Change::Factor(factor) => write!(page, "every multiplier times {factor}"),
             Change::Shift(..) => {}
         }
-        page.put(" the derivation follows\n");
+        page.put(" the derivation follows");
+        let given = known.problem.cons().len() as u32;
+        if self.counts_from_zero(given, reason) {
+            write_first_index(page, given);
+        }
+        page.put("\n");
+    }
+
+    /// Whether it takes a derivation in place of the index that it would have if derivations
+    /// counted from 0, in a problem of so many constraints.
+    pub(crate) fn counts_from_zero(&self, given: u32, reason: &Reason) -> bool {
+        match (*self, reason.references()) {
+            (Change::Entry(position, index, _), References::Entries(entries)) => {
+                match entries.get(position) {
+                    Some(entry) => is_moved(entry.0, index, given),
+                    None => false,
+                }
+            }
+            (Change::Join(join), References::Branches { i1, l1, i2, l2 }) => {
+                let indices = [(i1, join.i1), (l1, join.l1), (i2, join.i2), (l2, join.l2)];
+                let mut moved: usize = 0;
+                for (old, index) in indices {
+                    if is_moved(old, index, given) {
+                        moved = moved.saturating_add(1);
+                    } else if old != index {
+                        return false;
+                    }
+                }
+                moved == 1
+            }
+            _ => false,
+        }
     }
 
     // Writes the multiplier, the index or the word that is new.
@@ -107,13 +141,18 @@ impl Changes {
 
     /// Writes a line for each change of a reason, at most two.
     pub(crate) fn write(&self, page: &mut Page, known: &PlacedItems<'_>, reason: &Reason) {
-        let has_both = self.multiplier.is_some() && self.exchange.is_some();
-        let addition = if has_both { None } else { self.addition };
-        for change in [self.multiplier, self.exchange, self.slip, addition] {
-            if let Some(change) = change {
+        let mut count: usize = 0;
+        for change in [self.slip, self.multiplier, self.exchange, self.addition] {
+            if let (Some(change), true) = (change, count < MOST_WRITTEN) {
                 change.write(page, known, reason);
+                count = count.saturating_add(1);
             }
         }
+    }
+
+    /// Whether the first one is a change of all parts.
+    pub(crate) fn begin_with_slip(&self) -> bool {
+        self.slip.is_some()
     }
 
     /// Whether the first change is one of a token of a sum.
@@ -145,12 +184,8 @@ fn write_shift(page: &mut Page, known: &PlacedItems<'_>, from: u32, by: u32) {
     }
     page.put(" the derivation follows");
     if from == 0 || from == given {
-        let plural = if given == 1 { "" } else { "s" };
-        write!(
-            page,
-            " (indices count from 0: the problem has {given} constraint{plural}, "
-        );
-        write!(page, "so the first derivation is {given})\n");
+        write_first_index(page, given);
+        page.put("\n");
     } else {
         let moved = shifted(from, from, by);
         page.put(match by {
@@ -161,6 +196,22 @@ fn write_shift(page: &mut Page, known: &PlacedItems<'_>, from: u32, by: u32) {
         write_line(page, known.marks.place(moved));
         page.put("?\n");
     }
+}
+
+/// Whether an index is another one with the number of the problem's constraints added, which there
+/// are.
+pub(crate) fn is_moved(old: u32, index: u32, given: u32) -> bool {
+    given > 0 && old < given && old.checked_add(given) == Some(index)
+}
+
+// Writes which index the first derivation has.
+fn write_first_index(page: &mut Page, given: u32) {
+    let plural = if given == 1 { "" } else { "s" };
+    write!(
+        page,
+        " (indices count from 0: the problem has {given} constraint{plural}, "
+    );
+    write!(page, "so the first derivation is {given})");
 }
 
 // The word of the other sum with these entries.
@@ -228,14 +279,13 @@ pub fn changes_of(refused: Refused<'_>, scratch: &mut Combination) -> Result<Cha
     requires variables { length scratch.old.sums ≡ variables refused.problem.now }
     ensures { IfOk result (FollowEach refused.entry) }
 {
-    let candidates = Candidates::find(refused, scratch)?;
+    let mut candidates = Candidates::find(refused, scratch)?;
     let multiplier = first_that_follows(refused, scratch, &candidates.multipliers)?;
     let exchange = first_that_follows(refused, scratch, &candidates.exchanges)?;
-    let slip = if multiplier.is_none() && exchange.is_none() {
-        first_that_follows(refused, scratch, &candidates.slips)?
-    } else {
-        None
-    };
+    if multiplier.is_some() || exchange.is_some() {
+        keep_those_of_all(&mut candidates.slips, refused.problem.cons().len() as u32);
+    }
+    let slip = first_that_follows(refused, scratch, &candidates.slips)?;
     let addition = first_that_follows(refused, scratch, &candidates.additions)?;
     Ok(Changes {
         multiplier,
@@ -243,6 +293,20 @@ pub fn changes_of(refused: Refused<'_>, scratch: &mut Combination) -> Result<Cha
         slip,
         addition,
     })
+}
+
+// Keeps the shifts of all indices, or of those of all derivations, if the problem has so many
+// constraints.
+fn keep_those_of_all(slips: &mut Ranking, given: u32) {
+    for place in 0..slips.0.len() {
+        let is_of_all = match slips.0[place].1 {
+            Some(Change::Shift(from, _)) => from == 0 || from == given,
+            _ => false,
+        };
+        if !is_of_all {
+            slips.0[place].1 = None;
+        }
+    }
 }
 
 // The first change with which a derivation follows.

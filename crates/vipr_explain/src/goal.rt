@@ -128,6 +128,8 @@ struct ProvedBound {
     index: u32,
     sense: Sense,
     side: Frac,
+    /// Whether a listed solution attains it.
+    is_attained: bool,
 }
 
 impl<'a> UnprovedClaim<'a> {
@@ -137,10 +139,15 @@ impl<'a> UnprovedClaim<'a> {
         let has_solution = solutions.left() > 0;
         drop(solutions);
         drop(problem);
+        let best = if has_solution {
+            best_value(subject)?
+        } else {
+            None
+        };
         let (problem, search, step) = search_to(subject, None)?;
         drop(step);
         let proved = match search.target {
-            Target::Absurdity => strongest_bound(&problem, &search.replay.rows),
+            Target::Absurdity => strongest_bound(&problem, &search.replay.rows, best),
             _ => None,
         };
         match near_names(subject, search.near.as_slice()) {
@@ -228,9 +235,17 @@ impl<'a> UnprovedClaim<'a> {
     }
 }
 
+// The best objective of the listed solutions.
+fn best_value(subject: Subject<'_>) -> Reread<Option<Frac>> {
+    let values = ListedValues::find(subject)?;
+    let best = values.best_value();
+    drop(values);
+    Ok(best)
+}
+
 // The strongest of the derived constraints that bound the objective from the dual side, are kept to
-// the end, and rest on no assumption.
-fn strongest_bound(problem: &Problem, rows: &Table) -> Option<ProvedBound> {
+// the end, and rest on no assumption, if this is the best objective of a listed solution.
+fn strongest_bound(problem: &Problem, rows: &Table, best: Option<Frac>) -> Option<ProvedBound> {
     let objective = problem.objective();
     let (sense, other) = match problem.sense() {
         Goal::Min => (Sense::G, Sense::L),
@@ -246,8 +261,12 @@ fn strongest_bound(problem: &Problem, rows: &Table) -> Option<ProvedBound> {
             } = &entry.constraint;
             let is_bound = *stated != other && entry.assumptions.is_empty();
             if is_bound && row.is_same(objective) && is_stronger(&found, sense, *rhs) {
-                let side = *rhs;
-                found = Some(ProvedBound { index, sense, side });
+                found = Some(ProvedBound {
+                    index,
+                    sense,
+                    side: *rhs,
+                    is_attained: best == Some(*rhs),
+                });
             }
         }
     }
@@ -264,13 +283,23 @@ fn is_stronger(bound: &Option<ProvedBound>, sense: Sense, side: Frac) -> bool {
 
 // Asks whether a bound that is proved is what is to be claimed, in place of infeasibility.
 fn write_proved(page: &mut Page, proved: ProvedBound) {
-    let ProvedBound { index, sense, side } = proved;
+    let ProvedBound {
+        index,
+        sense,
+        side,
+        ..
+    } = proved;
     let sign = sign_of(sense);
     write!(
         page,
-        "  = help: [{index}] says objective {sign} {side} and rests on no assumption: "
+        "  = help: [{index}] says objective {sign} {side} and rests on no assumption"
     );
+    if proved.is_attained {
+        page.put(", and a listed solution attains it");
+    }
+    page.put(": ");
     match sense {
+        _ if proved.is_attained => write!(page, "is `RTP range {side} {side}` meant?\n"),
         Sense::L => write!(page, "is `RTP range -inf {side}` meant?\n"),
         _ => write!(page, "is `RTP range {side} inf` meant?\n"),
     }

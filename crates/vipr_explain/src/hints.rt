@@ -3,6 +3,7 @@
 
 use crate::meant::ask_whether_meant;
 use crate::page::Page;
+use crate::stranger::StrangeBytes;
 use crate::syntax::TextFault;
 use crate::token::Look::*;
 use crate::token::{DIGITS, Look, are_all, is_any, is_spelled, keyword_of, parted};
@@ -23,6 +24,12 @@ pub(crate) fn write_hint(page: &mut Page, cause: u8, fault: &TextFault<'_>) {
         write!(page, "or is something missing in front of `{name}`?");
         return;
     }
+    if let Some((above, below)) = split_fraction(fault) {
+        let (above, below) = (StrangeBytes(above), StrangeBytes(below));
+        write!(page, "is `{above}/{below}` meant? A number is one token, ");
+        page.put("without white space or a line break in it");
+        return;
+    }
     let found = keyword_of(fault.word).unwrap_or("");
     let is_begun = !matches!(progress.section, Section::Version);
     if !matches!(cause, TRUNCATED | TOKEN_TOO_LONG)
@@ -33,6 +40,14 @@ pub(crate) fn write_hint(page: &mut Page, cause: u8, fault: &TextFault<'_>) {
     match (cause, Look::of(fault.word)) {
         (TRUNCATED, _) if is_begun && matches!(progress.wanted, Keyword) => {
             write_missing(page, progress.section, "")
+        }
+        (TRUNCATED, _) if is_cut_in_derivations(progress) => {
+            let (passed, count) = (progress.item, progress.items);
+            write!(
+                page,
+                "the text ends after {passed} of {count} derivations: "
+            );
+            page.put("is the file cut, or the count after `DER` too large?");
         }
         (WRONG_KEYWORD, SmallHeading) if !progress.section.is_behind(found) => {
             write_small(page, progress.section, found)
@@ -51,6 +66,32 @@ pub(crate) fn write_hint(page: &mut Page, cause: u8, fault: &TextFault<'_>) {
         }
         (_, look) => page.put(hint(cause, fault, look)),
     }
+}
+
+// Whether more than the last derivation is missing.
+fn is_cut_in_derivations(progress: &TextProgress) -> bool {
+    let is_last = progress.item.saturating_add(1) >= progress.items;
+    let is_begun = !matches!(progress.wanted, Keyword | Count);
+    matches!(progress.section, Derivations) && is_begun && !is_last
+}
+
+// The numerator and the denominator of a fraction that is in several tokens, of which the one at
+// the fault has the slash.
+fn split_fraction<'a>(fault: &TextFault<'a>) -> Option<(&'a [u8], &'a [u8])> {
+    let wanted = fault.found.progress.wanted;
+    let (above, below) = match fault.word {
+        _ if fault.is_end() => return None,
+        // (the token in front of a number of a pair is an index)
+        [b'/', ..] if matches!(wanted, RowCoefficient | EntryMultiplier) => return None,
+        [b'/'] => (fault.before, fault.after),
+        [b'/', below @ ..] => (fault.before, below),
+        [above @ .., b'/'] => (above, fault.after),
+        _ => return None,
+    };
+    let ([b'+' | b'-', size @ ..] | size) = above;
+    let are_parts = are_all(size, DIGITS) && are_all(below, DIGITS);
+    let are_short = size.len().max(below.len()) <= MOST_DIGITS;
+    (are_parts && are_short && !size.is_empty() && !below.is_empty()).then_some((above, below))
 }
 
 // The keyword of a section whose count is too large, and the next one, which was read as a name.
@@ -349,9 +390,19 @@ fn number_hint(cause: u8, fault: &TextFault<'_>, look: Look) -> &'static str {
     }
 }
 
+// Whether a name looks like the end of a fraction.
+fn is_denominator(name: &[u8]) -> bool {
+    match name {
+        [b'/', below @ ..] => !below.is_empty() && are_all(below, DIGITS),
+        _ => false,
+    }
+}
+
 // The token is no sense.
 fn sense_hint(name: &[u8], look: Look, word: &[u8]) -> &'static str {
     match word {
+        _ if is_denominator(name) => "the name in front of this begins with `/`: is it the end of \
+            a number, which is one token, without white space or a line break in it?",
         _ if is_comment(name) => "does the name in front of this begin a comment? Comments may \
             only be before `VER`",
         _ if is_spelled(word, &AT_LEAST) => "write `G` for `>=`",
@@ -450,5 +501,8 @@ const NO_REASON: &str = "is the reason missing between the braces? `{ asm }`, `{
 
 // From so many places on a decimal is likely to be rounded.
 const MANY_PLACES: usize = 5;
+
+// How many digits a part of a fraction has at most.
+const MOST_DIGITS: usize = 39;
 
 const LP_WORDS: [&[u8]; 4] = [b"minimize", b"maximize", b"min", b"max"];

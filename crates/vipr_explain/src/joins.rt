@@ -1,6 +1,6 @@
 //! Joins that may be meant in place of a refused one.
 
-use crate::changes::Change;
+use crate::changes::{Change, is_moved};
 use crate::near::{Join, is_turned};
 use crate::sketch::Sketches;
 use crate::sought::{Ranking, Refused, constraint_at};
@@ -34,19 +34,46 @@ pub(crate) fn add_joins(
         }
     }
     let own = refused.rows.next();
+    let given = refused.problem.cons().len() as u32;
     for index in 0..own {
-        let rank = own - index;
+        let last = own - index;
         if is_case(refused, sketches, index) {
-            add_join(ranking, refused, rank, Join { i1: index, ..join });
-            add_join(ranking, refused, rank, Join { i2: index, ..join });
+            add_join(
+                ranking,
+                refused,
+                rank_of(i1, index, given, last),
+                Join { i1: index, ..join },
+            );
+            add_join(
+                ranking,
+                refused,
+                rank_of(i2, index, given, last),
+                Join { i2: index, ..join },
+            );
         }
         if are_sides(refused, sketches, index, l2) {
-            add_join(ranking, refused, rank, Join { l1: index, ..join });
+            add_join(
+                ranking,
+                refused,
+                rank_of(l1, index, given, last),
+                Join { l1: index, ..join },
+            );
         }
         if are_sides(refused, sketches, index, l1) {
-            add_join(ranking, refused, rank, Join { l2: index, ..join });
+            add_join(
+                ranking,
+                refused,
+                rank_of(l2, index, given, last),
+                Join { l2: index, ..join },
+            );
         }
     }
+}
+
+// What a join is ranked by that has an index in place of an old one: it comes first if that was
+// counted from the first derivation on.
+fn rank_of(old: u32, index: u32, given: u32, last: u32) -> u32 {
+    if is_moved(old, index, given) { 0 } else { last }
 }
 
 // Adds a join whose cases are apart. Those come first of which each case rests on its own

@@ -1,11 +1,11 @@
 //! The reason of a derivation, with the constraints that it refers to.
 
 use crate::algebra::{ShownName, VariableName};
-use crate::changes::{Change, Changes, shifted};
+use crate::changes::{Change, shifted};
 use crate::excerpt::part_of;
 use crate::marks::ItemPart;
 use crate::page::Page;
-use crate::step::{RefusedStep, StepFault};
+use crate::step::{RefusedStep, StepAdvice, StepFault};
 use std::alloc::{AllocError, Global};
 use vipr_cert::{Reason, References};
 use vipr_check::{StepDetail, cause};
@@ -23,8 +23,13 @@ pub(crate) fn step_indices(
     alloc: Global,
     fault: StepFault<'_>,
     reason: &Reason,
-    changes: &Changes,
+    advice: &StepAdvice,
 ) -> Result<Vec<u32>, AllocError> {
+    let StepAdvice {
+        doubts,
+        changes,
+        ..
+    } = advice;
     let mut wanted = Vec::new(alloc);
     wanted.push(fault.index)?;
     match reason.references() {
@@ -33,7 +38,7 @@ pub(crate) fn step_indices(
             for entry in &entries[..entries.len().min(MOST_ENTRIES)] {
                 add_earlier(&mut wanted, fault.index, entry.0)?;
             }
-            match marked_position(fault, entries, changes) {
+            match marked_position(fault, entries, advice) {
                 Some(at) if at < entries.len() => {
                     add_earlier(&mut wanted, fault.index, entries[at].0)?;
                 }
@@ -48,6 +53,11 @@ pub(crate) fn step_indices(
     }
     for change in [changes.multiplier, changes.exchange, changes.addition] {
         if let Some(Change::Entry(_, index, _)) = change {
+            add_earlier(&mut wanted, fault.index, index)?;
+        }
+    }
+    for doubtful in doubts.indices() {
+        if let Some(index) = doubtful {
             add_earlier(&mut wanted, fault.index, index)?;
         }
     }
@@ -83,29 +93,38 @@ fn position_at_fault(fault: StepFault<'_>, entries: &[(u32, Frac)]) -> Option<us
     }
 }
 
-// The entry of a sum that is marked: the one that a change is of, or the one at fault.
+// The entry of a sum that is marked.
 fn marked_position(
     fault: StepFault<'_>,
     entries: &[(u32, Frac)],
-    changes: &Changes,
+    advice: &StepAdvice,
 ) -> Option<usize> {
-    match (fault.what, changes.multiplier, changes.exchange) {
+    let (multiplier, exchange) = advice.marked();
+    match (fault.what, multiplier, exchange) {
         (StepDetail::Entry(_), Some(Change::Entry(position, ..)), _)
         | (StepDetail::Entry(_), None, Some(Change::Entry(position, ..))) => Some(position),
+        (StepDetail::Entry(_), ..) if advice.entry.is_some() => advice.entry,
         _ => position_at_fault(fault, entries),
     }
 }
 
 /// The part of a derivation that is at fault, or that a change with which it follows is of.
-pub(crate) fn part_at_fault(fault: StepFault<'_>, reason: &Reason, changes: &Changes) -> ItemPart {
-    match (changes.multiplier, changes.exchange) {
+pub(crate) fn part_at_fault(
+    fault: StepFault<'_>,
+    reason: &Reason,
+    advice: &StepAdvice,
+) -> ItemPart {
+    let (multiplier, exchange) = advice.marked();
+    match (multiplier, exchange) {
         (Some(Change::Entry(position, ..)), _) => return ItemPart::Multiplier(position),
         (None, Some(Change::Entry(position, ..))) => return ItemPart::Reference(position),
         (None, Some(Change::Word)) => return ItemPart::Reason,
         _ => {}
     }
-    match (fault.what, reason.references(), changes.exchange) {
-        (StepDetail::Entry(position), ..) => ItemPart::Multiplier(*position as usize),
+    match (fault.what, reason.references(), exchange) {
+        (StepDetail::Entry(position), ..) => {
+            ItemPart::Multiplier(advice.entry.unwrap_or(*position as usize))
+        }
         (StepDetail::Index(_), References::Entries(entries), _) => {
             match position_at_fault(fault, entries) {
                 Some(position) => ItemPart::Reference(position),
@@ -144,9 +163,9 @@ pub(crate) fn part_at_fault(fault: StepFault<'_>, reason: &Reason, changes: &Cha
 }
 
 /// What is said below this part of a derivation.
-pub(crate) fn label_of(fault: StepFault<'_>, part: ItemPart, changes: &Changes) -> &'static str {
+pub(crate) fn label_of(fault: StepFault<'_>, part: ItemPart, advice: &StepAdvice) -> &'static str {
     match part {
-        _ if changes.is_empty() && matches!(fault.what, StepDetail::Pair(..)) => {
+        _ if advice.has_no_mark() && matches!(fault.what, StepDetail::Pair(..)) => {
             "this assumption, and that of case 2"
         }
         ItemPart::Sense => "this sense",
@@ -178,7 +197,7 @@ pub(crate) fn write_reason(
         References::Entries(entries) => {
             let count = entries.len();
             write!(page, "  its reason   {word} of {count}:\n");
-            let marked = marked_position(fault, entries, &refused.changes);
+            let marked = marked_position(fault, entries, refused.advice());
             for (position, entry) in entries.iter().enumerate() {
                 let (index, multiplier) = *entry;
                 let is_marked = marked == Some(position);

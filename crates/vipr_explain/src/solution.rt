@@ -200,8 +200,57 @@ fn write_broken(page: &mut Page, known: &RefusedSolution<'_>, index: u32, left: 
         let gap = Measured(size_of(gap));
         write!(page, ", off by {gap}");
     }
-    let hint = solution_hint(known, constraint, gap);
-    write!(page, "\n  = help: {hint}\n");
+    page.put("\n");
+    write_solution_help(page, known, constraint, left, gap);
+}
+
+// Writes what is likely to be wrong with a solution that breaks a constraint, with its left side
+// and how much that is off.
+fn write_solution_help(
+    page: &mut Page,
+    known: &RefusedSolution<'_>,
+    constraint: &Constraint,
+    left: Frac,
+    gap: Option<Frac>,
+) {
+    page.put("  = help: ");
+    match lost_sign(constraint, &known.solution.item, left) {
+        Some((variable, present)) => write_lost_sign(page, &known.problem, variable, present),
+        None => {
+            page.put(solution_hint(known, constraint, gap));
+            page.put("\n");
+        }
+    }
+}
+
+// Asks whether the coefficient of a variable lost its sign.
+fn write_lost_sign(page: &mut Page, problem: &Problem, variable: u32, present: Frac) {
+    let meant = present.neg();
+    let name = VariableName(problem, variable);
+    write!(page, "is {meant} meant in place of {present} at {name}? ");
+    page.put("Then both sides are the same; ");
+    page.put("else change the solution, or leave it out\n");
+}
+
+// The one variable, with its coefficient, at which the other sign makes both sides the same.
+fn lost_sign(constraint: &Constraint, solution: &Solution, left: Frac) -> Option<(u32, Frac)> {
+    let off = left.add(constraint.rhs.neg()).ok()?;
+    let half = off.mul(Frac::new(1, 2).ok()?).ok()?;
+    let entries = constraint.row.entries();
+    let mut found = None;
+    if entries.len() < 2 {
+        return None;
+    }
+    for entry in entries {
+        if let Ok(term) = entry.1.mul(solution.0.coefficient(entry.0)) {
+            if term == half && found.is_none() {
+                found = Some(*entry);
+            } else if term == half {
+                return None;
+            }
+        }
+    }
+    found
 }
 
 // What is likely to be wrong with a solution that breaks a constraint by so much.
@@ -225,6 +274,14 @@ fn solution_hint(
         }
         Some(gap) if gap.denom() / 1000 >= size_of(gap).numer() && has_fraction(values) => {
             "is a value rounded, as one of floating point is? Write exact fractions"
+        }
+        Some(gap) if constraint.sense == Sense::E && gap.numer() > 0 => {
+            "is `L` meant in place of `E`? Then the solution meets this constraint; else change \
+             the solution, or leave it out"
+        }
+        Some(_) if constraint.sense == Sense::E => {
+            "is `G` meant in place of `E`? Then the solution meets this constraint; else change \
+             the solution, or leave it out"
         }
         _ if is_number => "its name is a number: is the name missing?",
         _ => "change the solution, or leave it out; a variable that it doesn't list is 0",
@@ -298,6 +355,14 @@ impl ListedValues {
     fn number(&self) -> Option<u32> {
         match &self.best {
             Some((number, ..)) => Some(*number),
+            None => None,
+        }
+    }
+
+    /// The best objective, if a solution is listed.
+    pub(crate) fn best_value(&self) -> Option<Frac> {
+        match &self.best {
+            Some((.., value)) => Some(*value),
             None => None,
         }
     }

@@ -2,7 +2,8 @@
 ghost use Rattle.std.specs.Prelude.{◌≡◌, length};
 ghost use Rattle.vipr_spec.specs.Certificate.{variables};
 
-use crate::changes::Change;
+use crate::changes::{Change, is_moved};
+use crate::doubts::is_other_absurdity;
 use crate::joins::add_joins;
 use crate::near::Join;
 use crate::sketch::{Residue, Sketches, sketch_of};
@@ -171,7 +172,8 @@ impl Candidates {
             ) {
                 if let Some(rank) = rank_of(refused, off) {
                     let change = Change::Entry(count, index, multiplier);
-                    self.additions.add(rank, change);
+                    let last = of_weak(is_assumption(refused, index));
+                    self.additions.add(rank.saturating_add(last), change);
                 }
             }
         }
@@ -263,6 +265,19 @@ fn add_both_sides(
         drop(equation);
     }
     Ok(())
+}
+
+// Whether a constraint is an assumption.
+fn is_assumption(refused: Refused<'_>, index: u32) -> bool {
+    match refused.rows.get(index) {
+        Some(entry) => entry.is_assumption,
+        None => false,
+    }
+}
+
+// What a change is ranked behind for that brings another assumption, or a contradiction.
+fn of_weak(is_weak: bool) -> u64 {
+    if is_weak { 1 << 33 } else { 0 }
 }
 
 /// The constraint of an index that a derivation may refer to.
@@ -370,9 +385,16 @@ fn add_exchange(
         if let Ok(gap) = constraint.rhs.add(replacement.side.neg()) {
             if let Ok(off) = multiplier.mul(gap) {
                 if let Some(rank) = rank_of(refused, off) {
-                    let distance = u64::from(index.abs_diff(replacement.index));
+                    let given = refused.problem.cons().len() as u32;
+                    let distance = match index.abs_diff(replacement.index) {
+                        _ if is_moved(replacement.index, index, given) => 0,
+                        distance => u64::from(distance).saturating_add(rank),
+                    };
                     let change = Change::Entry(replacement.position, index, multiplier);
-                    exchanges.add(rank.saturating_add(distance), change);
+                    let is_same = is_assumption(refused, replacement.index);
+                    let is_more = is_assumption(refused, index) && !is_same && distance > 0;
+                    let is_weak = is_more || is_other_absurdity(refused, index);
+                    exchanges.add(distance.saturating_add(of_weak(is_weak)), change);
                 }
             }
         }

@@ -1,11 +1,13 @@
 //! A derivation that is refused.
 ghost use Rattle.std.specs.Prelude.{◌≡◌, length};
 ghost use Rattle.vipr_spec.specs.Certificate.{variables};
+ghost use Rattle.vipr_table.specs.Table.{DerivedBelow};
 ghost use Rattle.vipr_explain.specs.Replays.{IsReplayOf};
 
-use crate::algebra::{Algebra, ShownName, sign_of};
+use crate::algebra::{Algebra, ShownName, VariableName, sign_of};
 use crate::changes::{Change, Changes, Replay, changes_of};
 use crate::differences::{Difference, row_differences, write_differences};
+use crate::doubts::Doubts;
 use crate::faults::{RowFault, row_faults, write_faults};
 use crate::marks::{ItemSort, Marks, Sought};
 use crate::near::{NearSearch, is_turned, search_to};
@@ -14,7 +16,7 @@ use crate::past::write_past_in_sum;
 use crate::reason::{label_of, part_at_fault, step_indices, write_reason, write_sources};
 use crate::shown::{PlacedItems, write_last_use};
 use crate::solution::PAST_LIMIT;
-use crate::sought::{Refused, inverse, less_sum};
+use crate::sought::{Refused, constraint_at, inverse, less_sum};
 use crate::text::{Reread, Subject};
 use std::alloc::{AllocError, Global};
 use vipr_cert::{Derivation, Problem, Reason, References};
@@ -44,9 +46,18 @@ pub(crate) struct RefusedStep<'a> {
     search: NearSearch,
     pub(crate) known: PlacedItems<'a>,
     facts: StepFacts,
-    /// Changes with which it follows.
-    pub(crate) changes: Changes,
+    advice: StepAdvice,
     profile: Profile,
+}
+
+/// What is said of a refused derivation: what is likely to be wrong, and changes with which it
+/// follows.
+#[derive(Clone, Copy)]
+pub(crate) struct StepAdvice {
+    pub(crate) doubts: Doubts,
+    pub(crate) changes: Changes,
+    /// The entry of a sum that gives another sense than the stated one.
+    pub(crate) entry: Option<usize>,
 }
 
 /// What is behind the fault of a derivation.
@@ -63,6 +74,36 @@ enum StepFacts {
     Nothing,
 }
 
+impl StepAdvice {
+    // Nothing.
+    fn none() -> StepAdvice {
+        StepAdvice {
+            doubts: Doubts::none(),
+            changes: Changes::none(),
+            entry: None,
+        }
+    }
+
+    // Whether a change of one part comes first, so that the part is marked.
+    fn begins_with_part(&self) -> bool {
+        !self.doubts.are_first() && !self.changes.begin_with_slip()
+    }
+
+    /// The other multiplier and the exchange of which the part is marked.
+    pub(crate) fn marked(&self) -> (Option<Change>, Option<Change>) {
+        if self.begins_with_part() {
+            (self.changes.multiplier, self.changes.exchange)
+        } else {
+            (None, None)
+        }
+    }
+
+    /// Whether no change is marked.
+    pub(crate) fn has_no_mark(&self) -> bool {
+        !self.begins_with_part() || self.changes.is_empty()
+    }
+}
+
 impl<'a> RefusedStep<'a> {
     /// Reads the derivation that is refused, and what it names.
     pub(crate) fn find(subject: Subject<'a>, fault: StepFault<'_>) -> Reread<RefusedStep<'a>> {
@@ -73,7 +114,7 @@ impl<'a> RefusedStep<'a> {
             return Err(TextError::Read);
         };
         match find_behind(subject, fault, &problem, &mut search.replay, &own) {
-            Ok((marks, facts, changes)) => Ok(RefusedStep {
+            Ok((marks, facts, advice)) => Ok(RefusedStep {
                 own,
                 search,
                 known: PlacedItems {
@@ -82,7 +123,7 @@ impl<'a> RefusedStep<'a> {
                     marks,
                 },
                 facts,
-                changes,
+                advice,
                 profile: subject.profile,
             }),
             Err(error) => {
@@ -100,6 +141,28 @@ impl<'a> RefusedStep<'a> {
             Some(named) => Some(&named.item),
             None => Some(&self.search.replay.rows.get(index)?.constraint),
         }
+    }
+
+    /// What is said of it.
+    pub(crate) fn advice(&self) -> &StepAdvice {
+        &self.advice
+    }
+
+    /// What it states.
+    pub(crate) fn stated(&self) -> &Constraint {
+        &self.own.constraint
+    }
+
+    /// The multiplier of the first entry of a constraint, 0 if there is none.
+    pub(crate) fn multiplier(&self, index: u32) -> Frac {
+        if let References::Entries(entries) = self.own.reason.references() {
+            for entry in entries {
+                if entry.0 == index {
+                    return entry.1;
+                }
+            }
+        }
+        Frac::zero()
     }
 
     // Writes the sense that an entry of a sum gives, and the one that the entries before it give.
@@ -133,19 +196,22 @@ impl<'a> RefusedStep<'a> {
             self.write_senses(page, *at);
         }
         page.put("\n");
+        let advice = &self.advice;
+        let changes = &advice.changes;
         if let Some(place) = self.known.part(index) {
-            let part = part_at_fault(fault, &own.reason, &self.changes);
-            place.write(page, file, label_of(fault, part, &self.changes));
-            if self.changes.has_token() {
+            let part = part_at_fault(fault, &own.reason, advice);
+            place.write(page, file, label_of(fault, part, advice));
+            if advice.begins_with_part() && changes.has_token() {
                 place.write_front(page, "~");
-                self.changes.write_token(page, &own.reason);
+                changes.write_token(page, &own.reason);
                 place.write_rest(page);
             }
         }
         let problem = &self.known.problem;
+        advice.doubts.write_order(page, self.known.text);
         write_facts(page, self, &own.reason, fault);
-        self.changes.write(page, &self.known, &own.reason);
-        if self.changes.is_empty() {
+        changes.write(page, &self.known, &own.reason);
+        if changes.is_empty() {
             write_help(page, fault.cause, problem.cons().len());
         }
         if let Some(dropped) = used_by(fault) {
@@ -166,7 +232,7 @@ fn find_behind(
     problem: &Problem,
     replay: &mut Replay,
     step: &Derivation,
-) -> Result<(Marks, StepFacts, Changes), AllocError>
+) -> Result<(Marks, StepFacts, StepAdvice), AllocError>
     requires { IsReplayOf (variables problem.now) replay.old }
 {
     let refused = Refused {
@@ -175,31 +241,21 @@ fn find_behind(
         rows: &replay.rows,
         step,
     };
-    let (changes, front) = match fault.cause {
-        cause::NOT_EARLIER
-        | cause::DROPPED
-        | cause::NOT_ASSUMPTION
-        | cause::MIXED_SIGNS
-        | cause::NOT_ROUNDABLE
-        | cause::NOT_SPLIT
-        | cause::NOT_DOMINATED => {
-            let changes = changes_of(refused, &mut replay.scratch)?;
-            (without_lin(changes, fault, problem.ints()), None)
-        }
+    let (advice, front) = match fault.cause {
         cause::OVERFLOW => {
             let front = negated_front(refused, &mut replay.scratch, fault)?;
-            (Changes::none(), front)
+            (StepAdvice::none(), front)
         }
-        _ => (Changes::none(), None),
+        _ => (advice_of(refused, &mut replay.scratch, fault)?, None),
     };
     let wanted = or_drop!(
-        step_indices(subject.alloc, fault, &step.reason, &changes),
+        step_indices(subject.alloc, fault, &step.reason, &advice),
         front
     );
     let sought = Sought {
         kind: ItemSort::Constraints,
         items: wanted.as_slice(),
-        part: part_at_fault(fault, &step.reason, &changes),
+        part: part_at_fault(fault, &step.reason, &advice),
         used: used_by(fault),
     };
     let marks = or_drop!(Marks::find(subject.alloc, subject.text, sought), front);
@@ -210,7 +266,61 @@ fn find_behind(
             marks
         ),
     };
-    Ok((marks, facts, changes))
+    Ok((marks, facts, advice))
+}
+
+// What is said of a refused derivation, if it is one that might follow with a change.
+fn advice_of(
+    refused: Refused<'_>,
+    scratch: &mut Combination,
+    fault: StepFault<'_>,
+) -> Result<StepAdvice, AllocError>
+    requires rows { DerivedBelow (variables refused.problem.now) refused.rows.now }
+    requires variables { length scratch.old.sums ≡ variables refused.problem.now }
+{
+    let mut advice = StepAdvice::none();
+    match fault.cause {
+        cause::NOT_EARLIER
+        | cause::DROPPED
+        | cause::NOT_ASSUMPTION
+        | cause::MIXED_SIGNS
+        | cause::NOT_ROUNDABLE
+        | cause::NOT_SPLIT
+        | cause::NOT_DOMINATED => {
+            let mut doubts = Doubts::find(refused, scratch, fault.what)?;
+            let changes = changes_of(refused, scratch)?;
+            let changes = without_lin(changes, fault, refused.problem.ints());
+            advice.changes = doubts.weigh(refused, changes);
+            advice.doubts = doubts;
+            advice.entry = entry_of_other_sense(refused, fault);
+            Ok(advice)
+        }
+        _ => Ok(advice),
+    }
+}
+
+// The first entry that gives another sense than the stated one, if a sum has both.
+fn entry_of_other_sense(refused: Refused<'_>, fault: StepFault<'_>) -> Option<usize> {
+    let stated = refused.step.constraint.sense;
+    let (StepDetail::Entry(last), References::Entries(entries)) = (
+        fault.what,
+        refused.step.reason.references(),
+    ) else {
+        return None;
+    };
+    if stated == Sense::E {
+        return None;
+    }
+    for (position, entry) in entries.iter().enumerate() {
+        if let Some(constraint) = constraint_at(refused, entry.0) {
+            let is_as_stated = (constraint.sense == stated) == (entry.1.numer() > 0);
+            let gives_sense = constraint.sense != Sense::E && !entry.1.is_zero();
+            if gives_sense && !is_as_stated && position <= *last as usize {
+                return Some(position);
+            }
+        }
+    }
+    None
 }
 
 // The sum of the entries in front of the one at fault, with the other sign.
@@ -333,7 +443,8 @@ fn write_facts(page: &mut Page, refused: &RefusedStep<'_>, reason: &Reason, faul
         (StepDetail::Sum(sum), StepFacts::Sum(faults)) => {
             write_labelled(page, problem, "    sum        ", sum);
             write_faults(page, problem, faults);
-            if refused.changes.is_empty() {
+            refused.advice.doubts.write(page, refused, sum);
+            if refused.advice.changes.is_empty() && !refused.advice.doubts.has_number() {
                 page.put(
                     "  = help: a sum is rounded if all coefficients are whole, and all its \
                      variables are integer ones: is `lin` meant, which doesn't round?\n",
@@ -345,6 +456,9 @@ fn write_facts(page: &mut Page, refused: &RefusedStep<'_>, reason: &Reason, faul
                 page.put(
                     "    they are about different rows: a split is of one row, `<=` and `>=`\n",
                 );
+                if refused.advice.changes.is_empty() {
+                    write_other_variable(page, problem, &first.row, &second.row);
+                }
             } else if faults.is_empty() {
                 write_gap(page, refused.profile, *is_split, first, second);
             } else {
@@ -381,7 +495,10 @@ fn write_rows_help(
                  wrong sign?\n",
             );
         }
-        _ if !refused.changes.is_empty() => {}
+        References::Entries(_) if refused.advice.doubts.has_number() => {
+            refused.advice.doubts.write(page, refused, computed);
+        }
+        _ if !refused.advice.changes.is_empty() => {}
         References::Entries(_) => match ratio_of(stated, differences) {
             Some(ratio) => {
                 write!(
@@ -406,6 +523,21 @@ fn write_rows_help(
             "  = help: is what was computed meant? `sol` gives the best listed value, and nothing \
              better\n",
         ),
+    }
+}
+
+// Asks whether another variable is meant in one of two rows that have one each.
+fn write_other_variable(page: &mut Page, problem: &Problem, first: &Row, second: &Row) {
+    if let ([first], [second]) = (first.entries(), second.entries()) {
+        if first.0 != second.0 {
+            let first = VariableName(problem, first.0);
+            let second = VariableName(problem, second.0);
+            write!(
+                page,
+                "  = help: one is about {first}, and the other about {second}: "
+            );
+            page.put("is the variable's index wrong in one of them?\n");
+        }
     }
 }
 

@@ -17,6 +17,8 @@ pub(crate) struct FaultToken {
     /// The name of the item that the token is in, empty before that is read.
     name: Span,
     word: Span,
+    /// The token before that one.
+    before: Span,
     /// Whether a variable has the name `INT`.
     pub(crate) has_name_int: bool,
     /// Whether the text ends before the token. Then `word` is the last one.
@@ -31,6 +33,7 @@ impl FaultToken {
             progress: TextProgress::start(),
             name: nothing,
             word: nothing,
+            before: nothing,
             has_name_int: false,
             is_end: true,
         }
@@ -38,6 +41,7 @@ impl FaultToken {
 
     // Takes the next token, which is passed if it is before this byte.
     fn take(&mut self, word: TextWord<'_>, offset: u64) {
+        self.before = self.word;
         self.word = word.span;
         if word.span.offset >= offset {
             self.is_end = false;
@@ -59,6 +63,9 @@ pub(crate) struct TextFault<'a> {
     pub(crate) found: FaultToken,
     pub(crate) name: &'a [u8],
     pub(crate) word: &'a [u8],
+    /// The tokens before that one and after it.
+    pub(crate) before: &'a [u8],
+    pub(crate) after: &'a [u8],
     pub(crate) text: &'a [u8],
     /// Whether the text ends with the token's last byte.
     is_last: bool,
@@ -80,10 +87,17 @@ impl<'a> TextFault<'a> {
             found,
             name: part_of(text, found.name),
             word: part_of(text, found.word),
+            before: part_of(text, found.before),
+            after: token_after(text, found.word),
             text,
             is_last: ends_text(found.word, text),
             place: Excerpt::of(text, found.word),
         }
+    }
+
+    /// Whether the text ends before the token that is wanted.
+    pub(crate) fn is_end(&self) -> bool {
+        self.found.is_end
     }
 
     /// Writes the page of a fault of this cause.
@@ -118,6 +132,21 @@ impl<'a> TextFault<'a> {
         write_hint(page, cause, self);
         page.put("\n");
     }
+}
+
+// The token after a place, empty if there is none.
+fn token_after(text: &[u8], span: Span) -> &[u8] {
+    let start = span.offset.saturating_add(span.size as u64);
+    let rest = &text[start.min(text.len() as u64) as usize..];
+    let blanks = rest.iter().take_while(|byte| is_blank(**byte)).count();
+    let token = &rest[blanks.min(rest.len())..];
+    let size = token.iter().take_while(|byte| !is_blank(**byte)).count();
+    &token[..size.min(token.len())]
+}
+
+// Whether a byte is white space.
+fn is_blank(byte: u8) -> bool {
+    matches!(byte, b'\t'..=b'\r' | b' ')
 }
 
 // Whether a text ends with the last byte of a token.
