@@ -294,13 +294,17 @@ fn counts_from_zero(refused: Refused<'_>, change: Option<Change>) -> bool {
 
 // Whether a change of a multiplier is one of its sign.
 fn is_sign(change: Option<Change>, entries: &[(u32, Frac)]) -> bool {
-    match change {
-        Some(Change::Entry(position, _, multiplier)) => match entries.get(position) {
-            Some(entry) => entry.1 == multiplier.neg(),
-            None => false,
-        },
-        _ => false,
+    let Some(Change::Entry(position, _, multiplier)) = change else {
+        return false;
+    };
+    let turned = multiplier.neg();
+    for (at, entry) in entries.iter().enumerate() {
+        let (_, stated) = *entry;
+        if at == position && stated == turned {
+            return true;
+        }
     }
+    false
 }
 
 // Whether a constraint in the place of an entry rests on an assumption that no entry rests on.
