@@ -332,6 +332,66 @@ MISTAKES = [
 
 # More mistakes: the problem, what is replaced by what, and what the long explanation says to change. A row for each hint.
 HINTS = [
+    # a space, a line break or more is lost in a token
+    ("knapsack", "VAR 3", "VAR3", "did a space or a line break get lost between `VAR` and `3`?"),
+    ("set_cover", "0 1 1 1\n", "0 1 1 1", "get lost between `1` and `b`?"),
+    ("set_cover", "} 13\nleaf1", "} 13leaf1", "get lost between `13` and `leaf1`?"),
+    ("set_cover", "7 7\nSOL", "7 7SOL", "get lost between `7` and `SOL`?"),
+    ("set_cover", "SOL 1\nbest", "SOL 1best", "get lost between `1` and `best`?"),
+    ("set_cover", "VAR 3\nx1", "VAR 3x1", "get lost between `3` and `x1`?"),
+    ("set_cover", "9 -6", "9-6", "get lost between `9` and `-6`?"),
+    ("set_cover", "lin 4", "lin4", "get lost between `lin` and `4`?"),
+    ("set_cover", "asm }", "asm}", "get lost between `asm` and `}`?"),
+    ("set_cover", "a G 1", "a G1", "get lost between `G` and `1`?"),
+    ("set_cover", "range 7", "range7", "get lost between `range` and `7`?"),
+    ("set_cover", "min 3", "min3", "get lost between `min` and `3`?"),
+    ("set_cover", "1.0\nVAR", "1.0VAR", "get lost between `1.0` and `VAR`?"),
+    (
+        "set_cover",
+        "} 13\nleaf1 G 7 OBJ",
+        "} 13}{",
+        "is a part of the text lost between `13` and `}{`?",
+    ),
+    ("set_cover", "0 1 1 1\nb", "0 1 1OBJ", "is a part of the text lost between `1` and `OBJ`?"),
+    ("set_cover", "0 1 1 1\nb", "0x3", "is a part of the text lost between `0` and `x3`?"),
+    # a mixed number
+    ("diet", "0 3/5 1 7/10", "0 1 3/5 1 7/10", "is `1 3/5` a mixed number? Then write 8/5"),
+    ("set_cover", "9 -6 3 0", "9 -6 1/3 3 0", "is `-6 1/3` a mixed number? Then write -19/3"),
+    ("set_cover", "3 1 4 10 3 5 1 }", "3 1 4 10 3 5 1 1/2 }", "is `1 1/2` a mixed number?"),
+    ("diet", "protein G 8", "protein G 8 1/2", "is `8 1/2` a mixed number? Then write 17/2"),
+    # a mail
+    ("set_cover", "9 -6", "9 -=\n6", "mail breaks a long line with `=` at its end, as line 23"),
+    ("set_cover", "a G 1", "a=\n_b G 1", "mail breaks a long line with `=` at its end, as line 8"),
+    ("set_cover", "x1 x2", "x1 x=\n2", "mail breaks a long line with `=` at its end, as line 4"),
+    ("set_cover", "a G 1", "a a=3Db G 1", "mail writes `=3D` for `=`: was the file sent"),
+    ("set_cover", "9 -6 ", "9 -6=20\n", "mail writes `=20` for a space: was the file sent"),
+    # two versions that were put into one
+    (
+        "set_cover",
+        "DER 5\n",
+        "DER 5\n<<<<<<< HEAD\n",
+        "line 21 looks like a mark of a merge conflict",
+    ),
+    ("set_cover", "SOL 1\n", "=======\nSOL 1\n", "line 18 looks like a mark of a merge conflict"),
+    # what another program printed
+    (
+        "set_cover",
+        "leaf1 G",
+        "Warning: node limit reached\nleaf1 G",
+        "is this line what another program printed, and no part of the certificate?",
+    ),
+    ("set_cover", "SOL 1\n", "Removed 3 rows and 4 columns\nSOL 1\n", "another program printed"),
+    ("set_cover", "leaf1 G", "<pre>\nleaf1 G", "is `<pre>` a tag of HTML?"),
+    ("set_cover", "-1\n", "-1\n</pre>\n", "is `</pre>` a tag of HTML?"),
+    # a line that is there twice
+    ("set_cover", "l1 G 0 1 0 1\n", 2 * "l1 G 0 1 0 1\n", "line 12 repeats line 11: was it"),
+    ("set_cover", "DER 5\n", 2 * "DER 5\n", "line 21 repeats line 20: was it written twice?"),
+    (
+        "set_cover",
+        "down L 0 1 0 1 { asm } 13\n",
+        2 * "down L 0 1 0 1 { asm } 13\n",
+        "line 22 repeats line 21: was it written twice?",
+    ),
     # another format, or something in front of the text
     ("diet", "% a diet", "# a diet", "a comment begins with `%`"),
     ("diet", "VER 1.0", "ver 1.0", "keywords are in capitals: is `VER` meant?"),
@@ -917,10 +977,30 @@ STRANGE = [
 ]
 # What an explanation says of a text: the words of the command, the text, what has to be in the page, and what must not.
 FRONT = "VER 1.0 VAR 1 x INT 1 0 OBJ min 1 0 1 CON 1 0 c G 1 1 0 1 RTP infeas SOL "
+TWO_LASTS = (
+    "VER 1.0 VAR 1 x INT 0 OBJ min 0 CON 2 0 a G 1 1 0 1 b L 0 1 0 1 RTP infeas SOL 0 DER 3 "
+    "d G 1 1 0 1 {{ lin 1 0 1 }} {} e G 1 1 0 1 {{ lin 1 2 1 }} {} f G 1 0 {{ lin 2 3 1 1 -1 }} -1"
+)
 ASSUMED = " ".join(f"a{i} L 0 0 {{ asm }} -1" for i in range(4)) + " b G 1 0 { asm } -1 "
 # 0.2 as a number of floating point
 FIFTH = "3602879701896397/18014398509481984"
 TRUE = [
+    # last references that count derivations from 0, or have two digits exchanged
+    (
+        [],
+        TWO_LASTS.format(1, 2),
+        ["1 is not above 2: do last references count derivations from 0? Then add 2 to each: 3"],
+        ["digits exchanged"],
+    ),
+    (
+        [],
+        "VER 1.0 VAR 1 x INT 0 OBJ min 0 CON 2 0 a G 1 1 0 1 b L 0 1 0 1 RTP infeas SOL 0 DER 20\n"
+        + "d G 1 1 0 1 { lin 1 0 1 } 12\n"
+        + "".join(f"e{i} G 0 0 {{ lin 0 }} -1\n" for i in range(18))
+        + "f G 1 0 { lin 2 2 1 1 -1 } -1\n",
+        ["are digits exchanged? The last derivation that names it is 21, and 12 is written"],
+        ["do last references count"],
+    ),
     # a constraint rests on an assumption that isn't one of the first four
     (
         [],
@@ -1651,6 +1731,28 @@ TRUE = [
 ]
 # Helps of other texts, which aren't true of this one: the model has to say so.
 UNTRUE = [
+    *[
+        (FRONT + "1 s 1 0 0 DER 1 d G 1=\n0", sentence)
+        for sentence in (
+            "line 2 repeats line 1: was it written twice?",
+            "line 1 looks like a mark of a merge conflict: were two versions of the file put into one?",
+            "mail breaks a long line with `=` at its end, as line 2: was the file sent as the text of a mail?",
+            "mail writes `=3D` for `=`: was the file sent as the text of a mail?",
+            "mail writes `=20` for a space: was the file sent as the text of a mail?",
+            "is this line what another program printed, and no part of the certificate?",
+            "is `1=` a tag of HTML? A certificate is plain text",
+            "is `G 1=` a mixed number? Then write 1",
+            "did a space or a line break get lost between `1` and `=`?",
+            "is a part of the text lost between `1` and `=`?",
+        )
+    ],
+    *[
+        (TWO_LASTS.format(1, 4), sentence)
+        for sentence in (
+            "1 is not above 2: do last references count derivations from 0? Then add 2 to each: 3 here",
+            "are digits exchanged? The last derivation that names it is 3, and 1 is written",
+        )
+    ],
     (
         FRONT + "1 s 1 0 0 DER 0",
         "the solution lists no value, so each variable is 0: is its count right?",

@@ -113,6 +113,13 @@ def is_repeated(facts):
     return facts.refused == 10 and int(facts.token.bytes) in facts.vector
 
 
+def is_prose(facts):
+    """Whether the rest of the line has words of a language, and no sense or brace."""
+    line = facts.text[facts.token.at :].split(b"\n")[0].split()
+    words = [word for word in line if re.fullmatch(rb"[(\"']?[A-Za-z]{2,}[-.,:;!)\"']?", word)]
+    return len(words) > 1 and not {b"E", b"L", b"G", b"{", b"}"} & set(line)
+
+
 KEYWORD = token_is("|".join(KEYWORDS))
 NUMBERLIKE = token_is(r"[-+]?[0-9.].*")
 ROUNDED = (
@@ -211,6 +218,13 @@ HINTS = {
         token_is("OBJ"), lambda facts: facts.role.section == "SOL"
     ),
     "this is the keyword of a section: is a count in front of it too large, or is something missing there?": KEYWORD,
+    # what came into the text on the way
+    "mail writes `=3D` for `=`: was the file sent as the text of a mail?": token_is(".*=3D.*"),
+    "mail writes `=20` for a space: was the file sent as the text of a mail?": both(
+        token_is(".*=20"),
+        lambda facts: facts.text[facts.token.at + len(facts.token.bytes) :][:1] in (b"\r", b"\n"),
+    ),
+    "is this line what another program printed, and no part of the certificate?": is_prose,
     # bytes that are in no token
     "write `L` for this sign": token_is("\xe2\x89\xa4"),
     "write `G` for this sign": token_is("\xe2\x89\xa5"),

@@ -9,6 +9,7 @@ import re
 from collections import Counter
 from fractions import Fraction
 from math import gcd
+from types import SimpleNamespace
 
 from page_facts import (
     EMPTY,
@@ -25,9 +26,11 @@ from page_facts import (
     SIGNS,
     algebra,
     constraint_shown,
+    count_of,
     difference,
     measured,
     place_of,
+    roles,
     rounded,
     rules,
     same,
@@ -1524,6 +1527,166 @@ def spelled(page, word: str):
     same("what is wanted", facts.role.wanted, wanted_role)
     token = facts.token.bytes.decode("latin-1").strip("\"'`()[]<>=,;:")
     true(re.fullmatch(others, token, re.I), f"{token} is no spelling of it")
+
+
+# ---- faults of the text: lines and tokens that were changed on the way
+
+
+def lines_to_fault(facts):
+    """The lines up to that of the token at fault, or of the derivation."""
+    token = facts.token if facts.is_text_fault() else facts.names["CON", facts.number()]
+    return facts.text.split(b"\n")[: place_of(facts.text, token.at)[0]]
+
+
+def last_where(facts, test):
+    """The last line up to the fault of which this is true, with the one before it."""
+    lines = [b"", *lines_to_fault(facts)]
+    return max(at for at in range(1, len(lines)) if test(lines[at], lines[at - 1]))
+
+
+def is_repeated_line(line, before):
+    return line == before and len(line.split()) > 1 and not line.lstrip().startswith(b"%")
+
+
+@form(r"  = help: line (\d+) repeats line (\d+): was it written twice\?")
+def repeated_line(page, line, before):
+    facts = page.facts
+    same("the lines", (line, before), (last_where(facts, is_repeated_line), line - 1))
+    is_near = line + 1 >= len(lines_to_fault(facts))
+    is_keyword = facts.token.bytes.decode("latin-1") in KEYWORDS
+    is_more = facts.refused == 18 or (facts.refused == 2 and not is_keyword)
+    true(not facts.is_text_fault() or is_near or is_more, "the fault is far below")
+
+
+@form(
+    r"  = help: line (\d+) looks like a mark of a merge conflict: were two versions of the file put into one\?"
+)
+def conflict(page, line):
+    mark = re.compile(rb"(<{7}|>{7}|\|{7}|={7})([ \r].*)?", re.S)
+    lines = enumerate(lines_to_fault(page.facts), 1)
+    same("the first mark", line, next(at for at, text in lines if mark.fullmatch(text)))
+
+
+@form(
+    r"  = help: mail breaks a long line with `=` at its end, as line (\d+): was the file sent as the text of a mail\?"
+)
+def broken_by_mail(page, line):
+    facts = page.facts
+    same("the line", line, last_where(facts, lambda text, _: re.search(rb"=\r?$", text)))
+    is_near = line + 1 >= len(lines_to_fault(facts))
+    is_at_int = (facts.role.section, facts.role.wanted) == ("INT", "keyword")
+    true(is_near or is_at_int, "it is far above")
+
+
+@form(r"  = help: is `(.+)` a tag of HTML\? A certificate is plain text")
+def tag(page, shown_tag: str):
+    facts = page.facts
+    true(shown_tag in map(shown_name, (facts.token.bytes, facts.name.bytes)), "it is not there")
+    true(re.search(r"</?[A-Za-z]", shown_tag), "it is no tag")
+
+
+@form(rf"  = help: is `(\S+) (\S+)` a mixed number\? Then write ({NUMBER})")
+def mixed_number(page, whole: str, part: str, value):
+    facts = page.facts
+    tokens = [facts.text[: facts.token.at].split()[-1], facts.token.bytes]
+    same("the tokens", [whole.encode(), part.encode()], tokens)
+    size, sign = Fraction(part), -1 if int(whole) < 0 else 1
+    true(0 < size < 1, "the fraction is 1 or more")
+    same("the value", value, int(whole) + sign * size)
+
+
+WORDS_OF = {
+    "version": ("1.0",),
+    "direction": ("min", "max"),
+    "sense": tuple("ELG"),
+    "claim": ("infeas", "range"),
+    "reason": ("asm", "lin", "rnd", "uns", "sol"),
+}
+
+
+def split_token(facts):
+    """The front of a token that is what is wanted there, the rest, and the token after it."""
+    token, role = facts.token.bytes, facts.role
+    words = (role.section,) if role.wanted == "keyword" else WORDS_OF.get(role.wanted)
+    pattern = "|".join(map(re.escape, words)) if words else r"[-+]?\d+(?:/\d+)?"
+    front = re.match(pattern.encode(), token)[0]
+    true(is_token(facts, front.decode()), "the front is not what is wanted")
+    behind = facts.text[facts.token.at + len(token) :].split()[:1] or [b""]
+    return front, token[len(front) :], behind[0]
+
+
+def continues(facts, front, rest, after):
+    """Whether the rest of a token may be the next token."""
+    walk = roles()
+    role = next(walk)
+    begin = re.match(rb"[\t-\r ]*(?:%[^\n]*(?:\n|$)[\t-\r ]*)*", facts.text).end()
+    for found in re.compile(rb"[^\t-\r ]+").finditer(facts.text, begin, facts.token.at):
+        role = walk.send(found[0])
+    counts = dict(facts.counts)
+    if role.wanted == "count":
+        counts[role.section] = count_of(front)
+    role = walk.send(front)
+    if role.wanted == "name":
+        is_begun = {"CON": is_sense(after), "DER": is_sense(after), "SOL": after.isdigit()}
+        return rest[:1] not in (b"{", b"}") and is_begun.get(role.section, True)
+    if role.wanted in ("open brace", "close brace"):
+        return rest == (b"{" if role.wanted == "open brace" else b"}")
+    return is_token(SimpleNamespace(role=role, counts=counts), rest.decode("latin-1"))
+
+
+def is_sense(token):
+    return token in (b"E", b"L", b"G")
+
+
+@form(r"  = help: did a space or a line break get lost between `(.+)` and `(.+)`\?")
+def lost_space(page, before: str, behind: str):
+    front, rest, after = split_token(page.facts)
+    same("the parts", (before, behind), (shown_name(front), shown_name(rest)))
+    true(continues(page.facts, front, rest, after), "the rest is not what is wanted next")
+
+
+@form(r"  = help: is a part of the text lost between `(.+)` and `(.+)`\?")
+def lost_part(page, before: str, behind: str):
+    front, rest, after = split_token(page.facts)
+    same("the parts", (before, behind), (shown_name(front), shown_name(rest)))
+    is_begin = rest.decode("latin-1").upper() in KEYWORDS or rest[:1] in (b"{", b"}")
+    true(is_begin or is_sense(after) or after == b"{", "no line begins with the rest")
+    true(not continues(page.facts, front, rest, after), "nothing more is lost than a space")
+
+
+# ---- last references
+
+
+def last_of_dropped(facts):
+    """The last reference of the constraint that was dropped, and the last derivation that names it."""
+    index = int(facts.details["index"])
+    return int(facts.lasts[index].bytes), facts.last_use(index)
+
+
+@form(
+    r"  = help: (\d+) is not above (\d+): do last references count derivations from 0\? Then add (\d+) to each: (\d+) here"
+)
+def lasts_from_zero(page, stated, own, given, meant):
+    facts = page.facts
+    last, user = last_of_dropped(facts)
+    same(
+        "the numbers",
+        (stated, own, given, meant),
+        (last, int(facts.details["index"]), facts.given, last + facts.given),
+    )
+    true(stated <= own, "it is above it")
+    true(meant >= user, "that is too small, too")
+    for index, token in facts.lasts.items():
+        is_number = index - facts.given < count_of(token.bytes) < facts.counts["DER"]
+        true(token.bytes == b"-1" or is_number, "one isn't the number of a later derivation")
+
+
+@form(
+    r"  = help: are digits exchanged\? The last derivation that names it is (\d+), and (\d+) is written"
+)
+def exchanged_digits(page, user, stated):
+    same("the numbers", (stated, user), last_of_dropped(page.facts))
+    true(stated != user and sorted(str(stated)) == sorted(str(user)), "the digits are other ones")
 
 
 @form(

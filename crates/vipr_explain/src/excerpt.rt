@@ -146,18 +146,18 @@ fn column_behind(bytes: &[u8]) -> u64 {
     (before as u64).saturating_add(1)
 }
 
-// The bytes of a text from an offset on.
-fn from(text: &[u8], offset: u64) -> &[u8] {
+/// The bytes of a text from an offset on.
+pub(crate) fn from(text: &[u8], offset: u64) -> &[u8] {
     &text[offset.min(text.len() as u64) as usize..]
 }
 
-// The first bytes: so many, if there are.
-fn first(bytes: &[u8], count: u64) -> &[u8] {
+/// The first bytes: so many, if there are.
+pub(crate) fn first(bytes: &[u8], count: u64) -> &[u8] {
     &bytes[..count.min(bytes.len() as u64) as usize]
 }
 
-// What is before the end of the line.
-fn line_of(bytes: &[u8]) -> &[u8] {
+/// What is before the end of the line.
+pub(crate) fn line_of(bytes: &[u8]) -> &[u8] {
     for at in 0..bytes.len() {
         if !is_in_line(bytes[at]) {
             return &bytes[..at];

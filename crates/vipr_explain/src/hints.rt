@@ -1,6 +1,8 @@
 //! Likely mistakes behind a fault of a text, and what to write instead: by the cause, by what is
 //! wanted, what the token looks like, and its bytes. The first hint that fits is printed.
 
+use crate::glued::{ask_about_mixed, ask_about_space};
+use crate::lines::ask_about_lines;
 use crate::meant::ask_whether_meant;
 use crate::page::Page;
 use crate::stranger::StrangeBytes;
@@ -17,6 +19,10 @@ use vipr_frac::Frac;
 pub(crate) fn write_hint(page: &mut Page, cause: u8, fault: &TextFault<'_>) {
     let progress = &fault.found.progress;
     let items = progress.items;
+    // What isn't of the certificate's program is first of all.
+    if ask_about_lines(page, cause, fault) {
+        return;
+    }
     // A keyword that was read as a name is first: the fault is in front of it, whatever the cause.
     if let Some((counted, name)) = keyword_as_name(fault) {
         write!(page, "`{name}` was read as a name: is the count ");
@@ -33,7 +39,9 @@ pub(crate) fn write_hint(page: &mut Page, cause: u8, fault: &TextFault<'_>) {
     let found = keyword_of(fault.word).unwrap_or("");
     let is_begun = !matches!(progress.section, Section::Version);
     if !matches!(cause, TRUNCATED | TOKEN_TOO_LONG)
-        && ask_whether_meant(page, progress, fault.word)
+        && (ask_about_mixed(page, fault)
+            || ask_about_space(page, fault)
+            || ask_whether_meant(page, progress, fault.word))
     {
         return;
     }

@@ -65,8 +65,8 @@ fn bare(word: &[u8]) -> &[u8] {
     &rest[..rest.len().saturating_sub(end)]
 }
 
-// Whether a token has the form that is wanted. A name may be any token.
-fn is_accepted(progress: &TextProgress, token: &[u8]) -> bool {
+/// Whether a token has the form that is wanted. A name may be any token.
+pub(crate) fn is_accepted(progress: &TextProgress, token: &[u8]) -> bool {
     let is_natural = !token.is_empty() && are_all(token, DIGITS);
     match progress.wanted {
         Keyword => is_word(token, progress.section.keyword()),

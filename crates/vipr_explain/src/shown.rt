@@ -2,6 +2,7 @@
 
 use crate::algebra::{Algebra, ShownName};
 use crate::excerpt::{Excerpt, part_of};
+use crate::lasts::ask_about_last;
 use crate::marks::{ItemPart, ItemPlace, ItemSort, Marks, Sought};
 use crate::page::Page;
 use crate::text::Subject;
@@ -76,6 +77,9 @@ pub(crate) fn write_last_use(page: &mut Page, known: &PlacedItems<'_>, index: u3
     if let Some(place) = known.part(index) {
         let last = known.marks.user;
         place.write(page, file, format_args!("write {last} or -1 here"));
+        if let Some(place) = known.marks.place(index) {
+            ask_about_last(page, known, place, last);
+        }
         write!(page, "  = help: or is a constraint other than ");
         write!(page, "[{index}] meant?\n");
     }

@@ -9,6 +9,7 @@ use crate::changes::{Change, Changes, Replay, changes_of};
 use crate::differences::{Difference, row_differences, write_differences};
 use crate::doubts::Doubts;
 use crate::faults::{RowFault, row_faults, write_faults};
+use crate::lines::write_repeated_line;
 use crate::marks::{ItemSort, Marks, Sought};
 use crate::near::{NearSearch, is_turned, search_to};
 use crate::page::Page;
@@ -208,6 +209,7 @@ impl<'a> RefusedStep<'a> {
             }
         }
         let problem = &self.known.problem;
+        write_repeated_line(page, self.known.text, self.known.marks.place(index));
         advice.doubts.write_order(page, self.known.text);
         write_facts(page, self, &own.reason, fault);
         changes.write(page, &self.known, &own.reason);

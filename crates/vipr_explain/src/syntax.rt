@@ -16,7 +16,7 @@ pub(crate) struct FaultToken {
     pub(crate) progress: TextProgress,
     /// The name of the item that the token is in, empty before that is read.
     name: Span,
-    word: Span,
+    pub(crate) word: Span,
     /// The token before that one.
     before: Span,
     /// Whether a variable has the name `INT`.
