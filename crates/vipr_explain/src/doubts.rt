@@ -294,17 +294,27 @@ fn counts_from_zero(refused: Refused<'_>, change: Option<Change>) -> bool {
 
 // Whether a change of a multiplier is one of its sign.
 fn is_sign(change: Option<Change>, entries: &[(u32, Frac)]) -> bool {
-    let Some(Change::Entry(position, _, multiplier)) = change else {
-        return false;
-    };
-    let turned = multiplier.neg();
-    for (at, entry) in entries.iter().enumerate() {
-        let (_, stated) = *entry;
-        if at == position && stated == turned {
-            return true;
-        }
+    match change {
+        Some(change) => turns_sign(change, entries),
+        None => false,
     }
-    false
+}
+
+// Whether a change gives the entry at its position the other sign.
+fn turns_sign(change: Change, entries: &[(u32, Frac)]) -> bool {
+    match change {
+        Change::Entry(position, _, multiplier) => {
+            let turned = multiplier.neg();
+            let (above, below) = (turned.numer(), turned.denom());
+            for (at, entry) in entries.iter().enumerate() {
+                if at == position && entry.1.numer() == above && entry.1.denom() == below {
+                    return true;
+                }
+            }
+            false
+        }
+        _ => false,
+    }
 }
 
 // Whether a constraint in the place of an entry rests on an assumption that no entry rests on.

@@ -7,8 +7,8 @@ use vipr_frac::Frac;
 /// The least denominator of a number that may be a rounded one.
 const LEAST_DENOMINATOR: i128 = 100;
 
-/// The greatest denominator of a fraction that may be meant by one.
-const MOST_DENOMINATOR: i128 = 64;
+/// A fraction that may be meant by one has a smaller denominator than this.
+const BEYOND_SIMPLE: i32 = 65;
 
 /// The denominator from which on a power of two is one of floating point.
 const LEAST_OF_FLOAT: i128 = 0x10_0000;
@@ -22,8 +22,8 @@ pub(crate) fn simple_near(number: Frac) -> Option<Frac> {
     if number.denom() < LEAST_DENOMINATOR {
         return None;
     }
-    for denominator in 1..=MOST_DENOMINATOR {
-        let near = nearest_of(number, denominator)?;
+    for denominator in 1..BEYOND_SIMPLE {
+        let near = nearest_of(number, i128::from(denominator))?;
         if is_near(number, near)? {
             return Some(near);
         }
@@ -33,7 +33,7 @@ pub(crate) fn simple_near(number: Frac) -> Option<Frac> {
 
 /// Whether a fraction is likely to be meant by a number that is rounded.
 pub(crate) fn is_rounded(present: Frac, meant: Frac) -> bool {
-    meant.denom() <= MOST_DENOMINATOR && simple_near(present) == Some(meant)
+    meant.denom() < i128::from(BEYOND_SIMPLE) && simple_near(present) == Some(meant)
 }
 
 // The fraction with this denominator that is nearest to a number, if it fits.
