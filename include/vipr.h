@@ -13,7 +13,7 @@
 #include <stddef.h>
 #include <stdint.h>
 
-#define VIPR_VERSION "1.1.0"
+#define VIPR_VERSION "1.2.0"
 #define VIPR_VERSION_MAJOR 1
 #define VIPR_VERSION_MINOR 0
 

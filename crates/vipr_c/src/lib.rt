@@ -188,10 +188,10 @@ pub extern "C" fn vipr_cause_name(cause: u32, name: &mut [u8]) -> usize
 /// has.
 #[unsafe(no_mangle)]
 pub extern "C" fn vipr_version(version: &mut [u8]) -> usize
-    ensures word { version.new ≡ ended version.old (codes "1.1.0") }
-    ensures count { result ≡ length (codes "1.1.0") }
+    ensures word { version.new ≡ ended version.old (codes "1.2.0") }
+    ensures count { result ≡ length (codes "1.2.0") }
 {
-    end(version, "1.1.0".as_bytes())
+    end(version, "1.2.0".as_bytes())
 }
 
 /// Writes the SHA-256 of the text, in 64 hex digits of lower case, to `digest` in the form of

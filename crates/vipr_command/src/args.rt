@@ -231,7 +231,7 @@ fn no_commands<'a>(alloc: Global) -> Command<'a>
 {
     Command::new(alloc, "vipr")
         .about("Checks VIPR 1.0 certificates")
-        .version("1.1.0")
+        .version("1.2.0")
         .subcommand_required(true)
 }
 
