@@ -44,7 +44,7 @@ PROGRAM = program(sys.argv[1:])
 MEMORY = b"", b"fault memory\n", 3
 READ = b"", b"fault read\n", 3
 ROOM = 64 << 20
-STACK, STACK_OF_LONG = 64 << 10, 80 << 10
+STACK = 64 << 10
 # families whose sets of assumptions the rules ask for, each anew
 GROWS = {"growing"}
 CHECKS = Checks("hostile", "runs")
@@ -494,18 +494,17 @@ def streams_that_do_not_wait(commands):
 
 
 def little_stack(commands):
-    """Texts of each family in 64 kB of stack, and in 80 kB if they are explained at length."""
+    """Texts of each family in 64 kB of stack."""
 
     def one(task):
         CHECKS.count += 1
         family, command = task
-        size = STACK_OF_LONG if "--long" in command else STACK
         got = run(
             [PROGRAM, *command.split()],
             text_of(family, 20_000),
-            preexec_fn=lambda: resource.setrlimit(resource.RLIMIT_STACK, (size, size)),
+            preexec_fn=lambda: resource.setrlimit(resource.RLIMIT_STACK, (STACK, STACK)),
         )
-        expect(f"{command} of {family.__name__} in {size} bytes of stack", got.returncode, 0)
+        expect(f"{command} of {family.__name__} in {STACK} bytes of stack", got.returncode, 0)
 
     every = families.FAMILIES + families.HOSTILE + families.KEPT
     each(one, itertools.product(every, commands))
