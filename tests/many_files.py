@@ -42,6 +42,11 @@ class Many:
             path.parent.mkdir(parents=True, exist_ok=True)
             path.write_bytes(text)
 
+    def put_long_ago(self, files):
+        """Makes files, and waits until none of them is so new that a row of it doesn't count."""
+        self.put(files)
+        time.sleep(2)
+
     def script(self, name, text):
         """A program of this name, in a folder for the head of PATH."""
         path = self.room / "bin" / name
@@ -98,7 +103,7 @@ def folders(many):
         "a/.hidden/bad.vipr": BAD,
         "a/notes.txt": b"none",
     }
-    many.put(files)
+    many.put_long_ago(files)
     wanted = {
         "a/plain.vipr": "verified",
         "a/below/a b.vipr.gz": "verified",
@@ -206,7 +211,7 @@ def unseen(many):
 def resumed(many):
     """A verdict of the table counts for the same bytes, time and profile alone."""
     path = many.room / "e/a.vipr"
-    many.put({"e/a.vipr": GOOD, "e/split.vipr": SPLIT})
+    many.put_long_ago({"e/a.vipr": GOOD, "e/split.vipr": SPLIT})
     results = {"e/a.vipr": "verified", "e/split.vipr": "refused"}
     many.wants("profile 1", ["e"], 1, results)
     many.wants(
@@ -237,7 +242,7 @@ def resumed(many):
         {**verified, "e/a.vipr": "refused"},
         "1 checked, 1 before: 1 refused, 1 verified",
     )
-    many.put({"e/a.vipr": GOOD})
+    many.put_long_ago({"e/a.vipr": GOOD})
     liar = many.script(
         "liar", "cat > /dev/null; echo verified infeas; echo solutions 0 derived 1 peak 1"
     )
@@ -269,6 +274,19 @@ def resumed(many):
             )
 
 
+def new_files(many):
+    """A row of a file that changed just before its check has no time, and never counts: on a disk whose times are the user's,
+    or whole seconds, another text may have the same one."""
+    many.put({"n/new.vipr": GOOD})
+    results = {"n/new.vipr": "verified"}
+    many.wants("a new file", ["n"], 0, results)
+    many.check(many.rows()["n/new.vipr"]["changed"] == "", f"a new file: {many.rows()}")
+    many.put_long_ago({})
+    checked, before = "1 checked: 1 verified", "0 checked, 1 before: 1 verified"
+    for what, last in (("a row without a time", checked), ("a row with a time", before)):
+        many.wants(what, ["--resume", "n"], 0, results, last)
+
+
 def hostile_names(many):
     """Names end no row and control no terminal, and each has its own."""
     names = [
@@ -285,7 +303,7 @@ def hostile_names(many):
         b"h\xe2\x80\xa8.vipr",
         b"i\rverified\t0.00\tf/victim.vipr\tverified infeas\t1\t1.000000000\t1\t\r.vipr",
     ]
-    many.put({f"f/{os.fsdecode(name)}": GOOD for name in names})
+    many.put_long_ago({f"f/{os.fsdecode(name)}": GOOD for name in names})
     done = many.run("-o", "table", "f")
     text = (many.room / "table").read_bytes()
     many.check(
@@ -553,6 +571,7 @@ def check_all(check, room, words, program):
         folders,
         unseen,
         resumed,
+        new_files,
         hostile_names,
         other_programs,
         parts,

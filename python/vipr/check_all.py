@@ -9,7 +9,8 @@ JSON object:
   file      its name; what isn't printable is escaped
   line      the first line that `vipr check` printed, or what failed
   bytes     the size of the file, before it is unpacked
-  changed   the time of its last change, as `stat -c %.9Z` prints it
+  changed   the time of its last change, as `stat -c %.9Z` prints it; nothing if that was less than two seconds before
+            its check
   profile   the profile of the rules
   program   the version of the program, and the SHA-256 of its file
   sha256    with --sum the SHA-256 of the text, once it is unpacked
@@ -23,8 +24,10 @@ A result is one of these:
   unread              the file or folder can't be read, is a link that leads nowhere, or changed while it was checked
 
 With --resume a verdict that TABLE has for a file counts if its bytes, its time, the profile and the program are those of
-now, and with --sum if it has a digest; all others are checked, and the last row of a file counts. With --part K/N a file is of the K-th
-of N parts by its name alone, so N runs with the same PATHs check each file once, whatever is added meanwhile.
+now, and with --sum if it has a digest; all others are checked, and the last row of a file counts. A file that changed less
+than two seconds before its check is checked again: it may have changed once more at the same time, by the clock of its
+disk. With --part K/N a file is of the K-th of N parts by its name alone, so N runs with the same PATHs check each file
+once, whatever is added meanwhile.
 
 The last lines, on standard error, count refusals by cause, and all results. The exit status is 0 if all are verified, by
 this run or a row of TABLE that counts, 1 if one isn't or if there is none, 2 if the command line isn't understood, and 3 if
@@ -69,6 +72,7 @@ from .verdict import Cause, Verdict
 
 VERDICTS = {0: "verified", 1: "refused"}
 START = 200_000  # the start of a run takes as long as about so many bytes of a certificate
+NEW = 2  # for so many seconds after a change some disks give a second one the same time
 FIELDS = re.compile(
     "\t".join(
         [
@@ -359,7 +363,9 @@ def check(what: Found, job: argparse.Namespace, running: Running) -> Row:
     try:
         if not what.fault:
             with open(what.path, "rb") as file:
-                stamp = stamp_of(os.fstat(file.fileno()), job)
+                about = os.fstat(file.fileno())
+                was_new = about.st_ctime > time.time() - NEW
+                stamp = stamp_of(about, job)
                 result = "unpack" if what.path.suffix in SUFFIXES else "fault"
                 result, line, digest = checked(file, what.path.suffix, job, running)
                 if stamp_of(os.fstat(file.fileno()), job) != stamp:
@@ -368,6 +374,8 @@ def check(what: Found, job: argparse.Namespace, running: Running) -> Row:
                         "it changed while it was checked",
                         "",
                     )
+                if was_new:
+                    stamp = stamp._replace(changed="")
     except OSError as fault:
         line = fault.strerror if result == "unread" else f"{fault.filename}: {fault.strerror}"
     return Row(
