@@ -1,12 +1,14 @@
 #!/usr/bin/env python3
-"""Writes a certificate that no tour of burma14, a problem of TSPLIB with 14 cities, is shorter than 3323.
+"""Writes a certificate that no tour of burma14, a problem of TSPLIB with 14 cities, is shorter than
+3323.
 
 usage: burma14.py
 
-A variable for each pair of cities says whether the tour goes from one to the other. Each city has two neighbours, and
-a tour crosses the border of each of three sets of cities at least twice. These are some of the constraints of a tour, and
-enough: one sum of them with the multipliers below, dual values of the linear relaxation, is the bound. The tour that
-attains it is listed. Only the multipliers of the bounds x >= 0 are worked out here, from what is missing to the objective.
+A variable for each pair of cities says whether the tour goes from one to the other. Each city has
+two neighbours, and a tour crosses the border of each of three sets of cities at least twice. These
+are some of the constraints of a tour, and enough: one sum of them with the multipliers below, dual
+values of the linear relaxation, is the bound. The tour that attains it is listed. Only the
+multipliers of the bounds x >= 0 are worked out here, from what is missing to the objective.
 """
 from fractions import Fraction
 from itertools import combinations
@@ -59,7 +61,8 @@ def vector(indices, values=None):
 
 
 def constraints():
-    """Each constraint: its name, sense, right-hand side and variables, and its multiplier, None for x >= 0."""
+    """Each constraint: its name, sense, right-hand side and variables, and its multiplier, None for
+    x >= 0."""
     for city, quarters in enumerate(CITY_QUARTERS, 1):
         yield f"city{city}", "E", 2, [k for k, pair in enumerate(PAIRS) if city in pair], Fraction(
             quarters, 4

@@ -4,13 +4,16 @@
 usage: cost_by_size.py [--program PATH] [--against NAME=COMMAND].. [--sizes MB ..] [--runs N] [--room MB] [--seconds S]
                        [--page [--about TEXT]] [--picture]
 
-A text is made while it is read, and comes through a pipe, so no file of that size is needed. It is of a family of families.py:
-`chain`, one derivation held at a time; `fractions`, sums of a hundred rows; and `held`, all derivations held to the end. Each
-round runs every program once on each text: `check`, and what --against names, which reads standard input. Of the rounds the
-least processor time counts, and the greatest peak of memory; a text of more than 64 MB is read once. A program gets no text of a
-family for which it may need more memory than --room (4,000 MB without it), or more time than --seconds (60). Prints MB of text,
-seconds and MB of memory. --page measures bench/gmp_check.cpp, too, and writes a part of docs/BENCHMARKS.md with its picture; --about
-gives what this part says of the programs of --against. --picture measures nothing, and draws the page's table anew.
+A text is made while it is read, and comes through a pipe, so no file of that size is needed. It is
+of a family of families.py: `chain`, one derivation held at a time; `fractions`, sums of a hundred
+rows; and `held`, all derivations held to the end. Each round runs every program once on each text:
+`check`, and what --against names, which reads standard input. Of the rounds the least processor
+time counts, and the greatest peak of memory; a text of more than 64 MB is read once. A program gets
+no text of a family for which it may need more memory than --room (4,000 MB without it), or more
+time than --seconds (60). Prints MB of text, seconds and MB of memory. --page measures
+bench/gmp_check.cpp, too, and writes a part of docs/BENCHMARKS.md with its picture; --about gives
+what this part says of the programs of --against. --picture measures nothing, and draws the page's
+table anew.
 """
 import argparse
 import datetime
@@ -181,7 +184,8 @@ def line(start, end, color, dash="none"):
 
 
 def picture(page):
-    """The page's table as an SVG: time and memory against the size of the text, a color for a program and a dash for a family."""
+    """The page's table as an SVG: time and memory against the size of the text, a color for a
+    program and a dash for a family."""
     rows = rows_of(page)
     if not rows:
         return ""

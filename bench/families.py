@@ -14,7 +14,8 @@ usage: families.py FOLDER [BYTES]     one file a family, of about 4,000,000 byte
   held       derivations that are all held to the end
   solutions  many listed solutions with few entries each
 
-Those of HOSTILE are made to cost more than their length, where a program does each thing on its own:
+Those of HOSTILE are made to cost more than their length, where a program does each thing on its
+own:
 
   objective  constraints whose row is that of the objective, each written as `OBJ`
   handed_on  one set of assumptions handed on along a chain that is held to the end
@@ -22,7 +23,8 @@ Those of HOSTILE are made to cost more than their length, where a program does e
   one_sum    one sum over many assumptions
   integers   short solutions of a problem with many integer variables
 
-Those of PRODUCTS have a product of large factors in a short text, which a program may work off factor by factor:
+Those of PRODUCTS have a product of large factors in a short text, which a program may work off
+factor by factor:
 
   objective_tested       constraints written `OBJ`, and solutions to test them with
   columns_and_objective  short constraints and solutions, and a few constraints written `OBJ`
@@ -45,7 +47,8 @@ Those of PRODUCTS have a product of large factors in a short text, which a progr
   first_gone_held        splits that take the same assumption out of a union of many parts, kept to the end
   unions_split           splits whose branches both rest on a union of many parts, each dropped at once
 
-Those of STEPS have a product of large factors that has no shorter way, so each of its steps is to be short:
+Those of STEPS have a product of large factors that has no shorter way, so each of its steps is to
+be short:
 
   split_on_rows  two assumptions with rows of integer variables, split on again and again
   wide_divisors  sums of fractions of 127 bits whose denominators have a large common divisor
@@ -71,7 +74,8 @@ Those of SETS have large sets of assumptions; these four, and some of PRODUCTS:
   gone_of_1000      splits that each take one assumption out of a set of 1,000
   large_and_spread  sums of large sets that differ in two assumptions, each with a set of every 256th assumption
 
-Those of SPACED have sums of two sets each, halves of some assumptions that stand some derivations apart:
+Those of SPACED have sums of two sets each, halves of some assumptions that stand some derivations
+apart:
 
   spaced_by_4   sums of halves of the assumptions, which are 4 apart
   spaced_by_8   sums of halves of the assumptions, which are 8 apart
@@ -108,7 +112,8 @@ def problem(variables, integers, constraints, claim="infeas", objective=None):
 
 
 def proof(derivations, solutions=(), count=None):
-    """The sections after the claim. The count of the derivations is asked for if they are no list."""
+    """The sections after the claim. The count of the derivations is asked for if they are no
+    list."""
     yield f"SOL {len(solutions)}"
     yield from solutions
     yield f"DER {len(derivations) if count is None else count}"
@@ -472,7 +477,8 @@ def wide_divisors(size):
 
 
 def gathered(count, start=0):
-    """Assumptions, and sums of two by two of them, as they stand from the index on; the last one rests on all."""
+    """Assumptions, and sums of two by two of them, as they stand from the index on; the last one
+    rests on all."""
     steps, level = ["a G 0 0 { asm } -1"] * count, list(range(start, start + count))
     while len(level) > 1:
         pairs = [level[k : k + 2] for k in range(0, len(level), 2)]
@@ -548,7 +554,8 @@ def own_in_front(size):
     yield from proof(steps + [f"s G 0 0 {lin([(first + k, 1) for k in range(count)])} -1"])
 
 
-# `0 >= 1`, and `0 >= 0` that rests on it: one branch of each split that takes an assumption `0 <= 0` out of the other
+# `0 >= 1`, and `0 >= 0` that rests on it: one branch of each split that takes an assumption `0 <=
+# 0` out of the other
 OTHER_BRANCH = ["g G 1 0 { asm } -1", "q G 0 0 { lin 1 0 1 } -1"]
 
 
@@ -561,7 +568,8 @@ def without(index, assumption, last=-1):
 
 
 def one_set(steps, count):
-    """Adds assumptions and their sum. Gives the index of the first assumption and that of the sum."""
+    """Adds assumptions and their sum. Gives the index of the first assumption and that of the
+    sum."""
     first = len(steps)
     steps += ["a L 0 0 { asm } -1"] * count
     steps.append(sum_of(range(first, first + count), -1))
@@ -569,8 +577,8 @@ def one_set(steps, count):
 
 
 def parts(steps, count):
-    """Adds a set, and splits that take its last assumption out, one by one, down to 1,100. Gives the first assumption
-    and the indices of all these sets.
+    """Adds a set, and splits that take its last assumption out, one by one, down to 1,100. Gives
+    the first assumption and the indices of all these sets.
     """
     first, top = one_set(steps, count)
     tops = [top]
@@ -581,8 +589,8 @@ def parts(steps, count):
 
 
 def union_of_parts(steps, count):
-    """Adds parts of a set and sums two by two of them, each joined to a second large set first. Gives the first
-    assumption and the index of the last sum.
+    """Adds parts of a set and sums two by two of them, each joined to a second large set first.
+    Gives the first assumption and the index of the last sum.
     """
     first, level = parts(steps, count)
     _, other = one_set(steps, 1100)

@@ -3,9 +3,10 @@
 
 usage: long_chain.py [N]      N derivations, at least 2; 2000 without it
 
-Jobs follow one another: job k starts at least duration k hours after job k - 1, the first at hour 0 or later, and the
-last must start an hour before all the durations before it are over. Each derivation but the last says when a job can
-start at the earliest, from the derivation before it. The last one sets the deadline against that.
+Jobs follow one another: job k starts at least duration k hours after job k - 1, the first at hour 0
+or later, and the last must start an hour before all the durations before it are over. Each
+derivation but the last says when a job can start at the earliest, from the derivation before it.
+The last one sets the deadline against that.
 """
 import sys
 from fractions import Fraction

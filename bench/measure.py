@@ -1,16 +1,19 @@
 #!/usr/bin/env python3
 """Times the program over the families of families.py, in one interleaved run.
 
-usage: measure.py [--program PATH] [--bytes N] [--runs N] [--against NAME=COMMAND].. [--growth] [--hostile] [--page] [--picture] [--python]
+usage: measure.py [--program PATH] [--bytes N] [--runs N] [--against NAME=COMMAND].. [--growth]
+                  [--hostile] [--page] [--picture] [--python]
 
-Each round runs every program once on every family: `check`, `show` and `tighten` where the program has it, `wc -w` and
-`cat` on the same file, and what --against names, whose words get the file's path after them. All runs are on one core. Of
-the rounds the least processor time counts, and the greatest peak of memory. Prints MB/s, and memory in MB. --growth
-measures texts of 1, 2 and 4 times the size: how time and memory grow. --hostile takes the families that are made to cost
-more than their length. --page measures all of it, and bench/gmp_check.cpp beside it, for which it needs g++ and GMP with its
-header gmpxx.h, and writes docs/BENCHMARKS.md with its picture. --picture measures nothing, and draws the page's table anew. --python
-measures the Python commands, now and at an earlier commit, on texts of half the size, and writes their part of the page; --page
-does, too. The part on cost against size is written by cost_by_size.py, and stays.
+Each round runs every program once on every family: `check`, `show` and `tighten` where the program
+has it, `wc -w` and `cat` on the same file, and what --against names, whose words get the file's
+path after them. All runs are on one core. Of the rounds the least processor time counts, and the
+greatest peak of memory. Prints MB/s, and memory in MB. --growth measures texts of 1, 2 and 4 times
+the size: how time and memory grow. --hostile takes the families that are made to cost more than
+their length. --page measures all of it, and bench/gmp_check.cpp beside it, for which it needs g++
+and GMP with its header gmpxx.h, and writes docs/BENCHMARKS.md with its picture. --picture measures
+nothing, and draws the page's table anew. --python measures the Python commands, now and at an
+earlier commit, on texts of half the size, and writes their part of the page; --page does, too. The
+part on cost against size is written by cost_by_size.py, and stays.
 """
 import argparse
 import datetime
@@ -29,11 +32,14 @@ import models
 TOP = Path(__file__).resolve().parent.parent
 GNU_TIME = shutil.which("time")
 DOCS = TOP / "docs"
-# a row of the page's table of two checkers: the family, MB in a second of each, and how many times the time the other takes
+# a row of the page's table of two checkers: the family, MB in a second of each, and how many times
+# the time the other takes
 BESIDE = re.compile(r"^\| (\w+) \| (\d+), [\d.]+ \| (\d+), [\d.]+ \| ([\d.]+) \| [\d.]+ \|$", re.M)
-# the commands of the package that read whole proofs, and the families of texts that they are measured on
+# the commands of the package that read whole proofs, and the families of texts that they are
+# measured on
 TOOLS, TOOL_FAMILIES = ("stats", "picture", "html"), ("chain", "cuts", "tree", "wide")
-# the model that vipr-compare-mps is measured on, and the commit whose package is measured beside today's
+# the model that vipr-compare-mps is measured on, and the commit whose package is measured beside
+# today's
 COLUMNS, EACH, BEFORE = 100_000, 10, "98e48f7d"
 PYTHON_HEAD = "## Python commands\n"
 PYTHON_PART = re.compile(f"{PYTHON_HEAD}.*", re.S)
@@ -95,7 +101,8 @@ def table(programs, paths, found):
 
 
 def picture(page):
-    """The page's table of two checkers, drawn: a pair of bars for each family, and how many times the time the second takes."""
+    """The page's table of two checkers, drawn: a pair of bars for each family, and how many times
+    the time the second takes."""
     rows = [
         (name, int(ours), int(theirs), times) for name, ours, theirs, times in BESIDE.findall(page)
     ]
@@ -147,7 +154,8 @@ def growth(check, runs, size, which):
 
 
 def beside(paths, found):
-    """Rows of a table that sets gmp_check beside `check`, and the geometric means of its last two columns."""
+    """Rows of a table that sets gmp_check beside `check`, and the geometric means of its last two
+    columns."""
     rows = [
         "| family | check: MB/s, MB | gmp_check: MB/s, MB | time | memory |",
         "|---|---|---|---|---|",
@@ -241,7 +249,8 @@ def unpack_before(folder):
 
 
 def python_part(size, runs):
-    """The part of the page on the Python commands: processor time and memory for each MB of text."""
+    """The part of the page on the Python commands: processor time and memory for each MB of
+    text."""
     with tempfile.TemporaryDirectory() as folder, tempfile.TemporaryDirectory() as old:
         families.make(
             folder,
@@ -276,7 +285,8 @@ def python_part(size, runs):
 
 
 def for_each_megabyte(programs, paths, found, starts):
-    """The rows of the table: seconds and MB for each MB of text, beside what a program takes to start."""
+    """The rows of the table: seconds and MB for each MB of text, beside what a program takes to
+    start."""
     titles = [
         "before" if name.endswith(" before") else f"vipr-{name}: s/MB, MB/MB" for name in programs
     ]
@@ -295,7 +305,8 @@ def for_each_megabyte(programs, paths, found, starts):
 
 
 def compared(packages, folder, runs):
-    """The rows of the table of vipr-compare-mps: seconds and MB of one large model, now and before."""
+    """The rows of the table of vipr-compare-mps: seconds and MB of one large model, now and
+    before."""
     model, certificate = Path(folder, "model.mps"), Path(folder, "model.vipr")
     models.write(model, certificate, COLUMNS, COLUMNS // 2, EACH)
     programs = {
@@ -320,7 +331,8 @@ def built(folder):
 
 
 def page(given, programs):
-    """Measures all of it, and writes the page and its picture. The part that cost_by_size.py writes stays."""
+    """Measures all of it, and writes the page and its picture. The part that cost_by_size.py writes
+    stays."""
     sizes = SIZES_PART.search((DOCS / "BENCHMARKS.md").read_text(encoding="utf-8"))
     with tempfile.TemporaryDirectory() as folder, tempfile.TemporaryDirectory() as build:
         other = built(build)

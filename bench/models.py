@@ -1,4 +1,5 @@
-"""Writes a large model of random entries twice, as an MPS file and as the problem of a certificate: for vipr-compare-mps.
+"""Writes a large model of random entries twice, as an MPS file and as the problem of a certificate:
+for vipr-compare-mps.
 
 usage: models.py MODEL.mps CERT COLUMNS ROWS EACH     EACH is how many entries a column has
 """
@@ -8,7 +9,8 @@ from pathlib import Path
 
 
 def write(model, certificate, columns, rows, each):
-    """Writes both files: minimize a sum of the columns, which are at least 0, and so is each row."""
+    """Writes both files: minimize a sum of the columns, which are at least 0, and so is each
+    row."""
     dice = random.Random(4)
     entries = [[] for _ in range(rows)]
     with open(model, "w", encoding="ascii") as file:

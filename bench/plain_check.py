@@ -1,11 +1,13 @@
 #!/usr/bin/env python3
-"""A plain model of `vipr check`: the rules of docs/FORMAT.md over Python's whole numbers, with no care for speed.
+"""A plain model of `vipr check`: the rules of docs/FORMAT.md over Python's whole numbers, with no
+care for speed.
 
 usage: plain_check.py [--explain] [--profile 1|2] [FILE ..]
 
-Prints for each file (standard input without one) what `vipr check` is to print, as a second opinion on certificates
-written by hand and on the proved program. It shares no code with it and proves nothing. With --explain it prints what
-`vipr explain` is to print: the same lines, and then the goal, or the cause's name and what shows the fault.
+Prints for each file (standard input without one) what `vipr check` is to print, as a second opinion
+on certificates written by hand and on the proved program. It shares no code with it and proves
+nothing. With --explain it prints what `vipr explain` is to print: the same lines, and then the
+goal, or the cause's name and what shows the fault.
 """
 import re
 import sys
@@ -155,7 +157,8 @@ class Tokens:
 
 
 def readable(name):
-    """A name as it is printed: printable ASCII but the backslash, and whole characters past ASCII, as they are."""
+    """A name as it is printed: printable ASCII but the backslash, and whole characters past ASCII,
+    as they are."""
     shown = ""
     while name:
         for size in 2, 3, 4:

@@ -1,5 +1,6 @@
 #!/usr/bin/env python3
-"""A plain model of `vipr show`: the canonical text of docs/FORMAT.md, section 7, of what plain_check.py reads.
+"""A plain model of `vipr show`: the canonical text of docs/FORMAT.md, section 7, of what
+plain_check.py reads.
 
 usage: plain_show.py [FILE ..]
 

@@ -3,14 +3,14 @@
 
 usage: plain_tighten.py [--profile 1|2] [FILE ..]
 
-Prints for each file (standard input without one) what `vipr tighten` is to write, and on standard error its line of
-counts, or the refusal. The text is read and checked by plain_check.py, and written by plain_show.py. It shares no code
-with the program and proves nothing.
+Prints for each file (standard input without one) what `vipr tighten` is to write, and on standard
+error its line of counts, or the refusal. The text is read and checked by plain_check.py, and
+written by plain_show.py. It shares no code with the program and proves nothing.
 
-A derivation refers to the constraints that its reason names, but for entries with multiplier 0. Needed are the goal,
-where it is derived, and the derived constraints that a needed one refers to. They keep their order, and get new numbers
-without gaps. Entries with multiplier 0 are taken out. A last reference is the largest number that refers, and -1 for
-the goal.
+A derivation refers to the constraints that its reason names, but for entries with multiplier 0.
+Needed are the goal, where it is derived, and the derived constraints that a needed one refers to.
+They keep their order, and get new numbers without gaps. Entries with multiplier 0 are taken out. A
+last reference is the largest number that refers, and -1 for the goal.
 """
 import sys
 

@@ -3,8 +3,9 @@
 
 usage: adapter.py VERIFIED REFUSED COMMAND ..
 
-The status is 0 if a line that COMMAND prints has the regular expression VERIFIED, else 1 if one has REFUSED, and
-else 2, so that `run.py --refused 1` takes a checker that breaks off for one that crashed.
+The status is 0 if a line that COMMAND prints has the regular expression VERIFIED, else 1 if one has
+REFUSED, and else 2, so that `run.py --refused 1` takes a checker that breaks off for one that
+crashed.
 """
 import re
 import subprocess

@@ -1,4 +1,5 @@
-"""What a tightener leaves as it is: the problem and the claim of a certificate, and how many derivations it has."""
+"""What a tightener leaves as it is: the problem and the claim of a certificate, and how many
+derivations it has."""
 from __future__ import annotations
 
 import re
@@ -13,7 +14,8 @@ getattr(sys, "set_int_max_str_digits", int)(0)
 
 
 class Outline(NamedTuple):
-    """The problem and the claim as values, so that two spellings of them are the same, and the number of derivations."""
+    """The problem and the claim as values, so that two spellings of them are the same, and the
+    number of derivations."""
 
     problem: Tuple[object, ...]
     claim: Tuple[object, ...]

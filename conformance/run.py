@@ -1,14 +1,16 @@
 #!/usr/bin/env python3
-"""Runs a checker of VIPR 1.0 certificates on the cases of this folder, and shows where it disagrees.
+"""Runs a checker of VIPR 1.0 certificates on the cases of this folder, and shows where it
+disagrees.
 
 usage: run.py [OPTION ..] -- COMMAND ..
 
-COMMAND runs once for each case, with the case's path in place of {}; without {} it gets the case on standard
-input. Exit status 0 means that it verified the certificate, and any other one that it refused it. A run that a
-signal ends, or that takes too long, counts as a crash. With --batch it runs once, with all paths in place of
-{}, and prints a line for each. With --tighten it writes another certificate, to standard output or to the file
-that stands for {out}. README.md beside this script has examples. The exit status is 0 if the checker agrees on
-all cases, 1 if it doesn't, and 2 if the command line is wrong or COMMAND can't be run.
+COMMAND runs once for each case, with the case's path in place of {}; without {} it gets the case on
+standard input. Exit status 0 means that it verified the certificate, and any other one that it
+refused it. A run that a signal ends, or that takes too long, counts as a crash. With --batch it
+runs once, with all paths in place of {}, and prints a line for each. With --tighten it writes
+another certificate, to standard output or to the file that stands for {out}. README.md beside this
+script has examples. The exit status is 0 if the checker agrees on all cases, 1 if it doesn't, and 2
+if the command line is wrong or COMMAND can't be run.
 """
 from __future__ import annotations
 
@@ -232,7 +234,8 @@ def batch(chosen: List[Case], options: argparse.Namespace) -> Iterator[Result]:
 
 
 def each(chosen: List[Case], options: argparse.Namespace) -> Iterator[Result]:
-    """Runs the command on each case, so many at a time, and shows on a terminal how many are done."""
+    """Runs the command on each case, so many at a time, and shows on a terminal how many are
+    done."""
     one = tightened if options.tighten else checked
     is_shown = sys.stderr.isatty()
     with ThreadPoolExecutor(max(options.jobs, 1)) as pool:

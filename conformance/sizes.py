@@ -1,10 +1,11 @@
 #!/usr/bin/env python3
-"""Writes the cases of this folder that are longer than 4 kB: the folder sizes/, and those that test how long a token may be.
+"""Writes the cases of this folder that are longer than 4 kB: the folder sizes/, and those that test
+how long a token may be.
 
 usage: sizes.py
 
-What each of them has to answer follows from how it is made: one item among very many decides, mostly the last one.
-The same texts are written each time.
+What each of them has to answer follows from how it is made: one item among very many decides,
+mostly the last one. The same texts are written each time.
 """
 import random
 from pathlib import Path
@@ -199,7 +200,8 @@ def many_assumptions():
 
 
 def apart(distance):
-    """A join takes away one of two assumptions whose indices differ by the distance, and the claim rests on the other."""
+    """A join takes away one of two assumptions whose indices differ by the distance, and the claim
+    rests on the other."""
     first, far, down = 1, 1 + distance, 2 + distance
     derivations = ["h G 2 1 0 1 { asm } -1"] * distance + [
         "h G 5 1 0 1 { asm } -1",
@@ -213,7 +215,8 @@ def apart(distance):
 
 
 def discharged(count, left):
-    """A sum rests on so many assumptions x >= 1, and joins take them away one by one, but for one of them."""
+    """A sum rests on so many assumptions x >= 1, and joins take them away one by one, but for one
+    of them."""
     low, absurd = count + 1, count + 2
     derivations = ["h G 1 1 0 1 { asm } -1"] * count + ["h L 0 1 0 1 { asm } -1"]
     # 2x >= 1 contradicts x <= 0, so the other branch is all that there is
@@ -232,7 +235,8 @@ def discharged(count, left):
 
 
 def trees():
-    """Trees of branches on some variables, whose leaves each rest on the assumptions of their path."""
+    """Trees of branches on some variables, whose leaves each rest on the assumptions of their
+    path."""
     yield "tree-of-branches", tree(LEVELS)
     yield "tree-with-a-wrong-leaf", tree(LEVELS - 3, wrong=LEVELS // 2)
 
@@ -256,7 +260,8 @@ def tree(levels, wrong=None):
             turned = [side != (level == wrong and not any(path)) for level, side in enumerate(path)]
             entries = [(bound, "1/2")]
             for level, side in enumerate(turned):
-                # x >= 0 minus x <= 0, or x >= 1 minus x <= 1, is 0 >= 0 and rests on what is assumed
+                # x >= 0 minus x <= 0, or x >= 1 minus x <= 1, is 0 >= 0 and rests on what is
+                # assumed
                 entries += [
                     (2 * level + side, -1 if side else 1),
                     (first + 2 * level + side, 1 if side else -1),

@@ -1,4 +1,5 @@
-"""Makes a man page of each command, and its completions for bash, zsh and fish, from its parser and the text of its module.
+"""Makes a man page of each command, and its completions for bash, zsh and fish, from its parser and
+the text of its module.
 
 usage: python3 build_manual.py FOLDER     writes them below FOLDER, as /usr has them; the wheel has them, too
 """

@@ -1,4 +1,5 @@
-"""Builds the package for pip (PEP 517) with the standard library alone: `pip install ./python` needs no network."""
+"""Builds the package for pip (PEP 517) with the standard library alone: `pip install ./python`
+needs no network."""
 import base64
 import hashlib
 import io
@@ -61,7 +62,8 @@ def write_info(folder):
 
 
 def write_wheel(folder, tag, built):
-    """Writes a wheel of the package and of files that were built for one platform, by their names in it, and gives its name."""
+    """Writes a wheel of the package and of files that were built for one platform, by their names
+    in it, and gives its name."""
     files = {path.relative_to(TOP).as_posix(): path.read_bytes() for path in sources()} | built
     files |= {
         f"{NAME}.data/data/{path}": text.encode() for path, text in build_manual.files().items()

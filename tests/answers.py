@@ -1,12 +1,15 @@
 #!/usr/bin/env python3
-"""What the built program answers on small certificates, however they reach it, and on command lines.
+"""What the built program answers on small certificates, however they reach it, and on command
+lines.
 
 usage: tests/answers.py [PROGRAM]     crates/vipr/out/vipr without it
 
-Of each folder of conformance/ one text for each cause is checked and explained: from a file, from standard input as a
-whole, and from a pipe in pieces of a few bytes, of which each is read before the next is written. Then texts are shown and
-tightened, to standard output and to files, and the words of command lines are tried. Looked at is all that is printed on
-both outputs, the exit status, and the files that are written. Streams that fail are tried by tests/hostile.py and by the tests in crates/vipr.
+Of each folder of conformance/ one text for each cause is checked and explained: from a file, from
+standard input as a whole, and from a pipe in pieces of a few bytes, of which each is read before
+the next is written. Then texts are shown and tightened, to standard output and to files, and the
+words of command lines are tried. Looked at is all that is printed on both outputs, the exit status,
+and the files that are written. Streams that fail are tried by tests/hostile.py and by the tests in
+crates/vipr.
 
 Prints each fault, and last `answers: N checks, F failed`; the exit status is 1 where one failed.
 """
@@ -50,7 +53,8 @@ CANONICAL = [
     "lenient_canonical",
 ]
 
-# The name of a derivation, and how it is printed: as it is where its bytes can be seen, and escaped elsewhere.
+# The name of a derivation, and how it is printed: as it is where its bytes can be seen, and escaped
+# elsewhere.
 NAMES = [
     (b"Az_0.-9", "Az_0.-9"),
     (b'say"hi"', 'say"hi"'),
@@ -214,7 +218,8 @@ def edited(name, old, new):
 
 
 def explained_texts():
-    """The texts, with what `explain` prints of each by the first profile, and by the second where that differs."""
+    """The texts, with what `explain` prints of each by the first profile, and by the second where
+    that differs."""
     seen = set()
     for first, second in zip(cases(1), cases(2)):
         kind = first.rule, *first.lines[0].split()[:2], *second.lines[0].split()[:2]
@@ -284,7 +289,8 @@ def explains_long(what, text, lines):
 
 
 def compact(text):
-    """The compact text of a canonical one: OBJ for the rows of constraints and derivations that are the objective's."""
+    """The compact text of a canonical one: OBJ for the rows of constraints and derivations that are
+    the objective's."""
     lines = text.split(b"\n")
     start = next(at for at, line in enumerate(lines) if line in (b"OBJ min", b"OBJ max")) + 1
     objective, given = lines[start], int(lines[start + 1].split()[1])
@@ -313,7 +319,8 @@ def shows(what, text, wanted):
 
 
 def shown_texts():
-    """The texts that are shown, with the answers. Canonical ones are shown as they are, proofs and others."""
+    """The texts that are shown, with the answers. Canonical ones are shown as they are, proofs and
+    others."""
     for name in CANONICAL:
         yield name, certificate(name), (certificate(name), b"", 0)
     yield "lenient", certificate("lenient"), (certificate("lenient_canonical"), b"", 0)
@@ -340,7 +347,8 @@ def cut_anywhere():
 
 
 def chain(length, drops):
-    """A chain of derivations, each of which refers to the one before, and is dropped there or kept to the end."""
+    """A chain of derivations, each of which refers to the one before, and is dropped there or kept
+    to the end."""
     lines = [
         "VER 1.0\nVAR 1\nx\nINT 0\nOBJ min\n0\nCON 2 0\na G 1 1 0 1\nb L 0 1 0 1\nRTP infeas\nSOL 0",
         f"DER {length}",
@@ -387,7 +395,8 @@ def tightened_texts():
 
 
 def tightens(text, becomes, said, options):
-    """To standard output and to a file, a new one, a longer one, and the one that is read; and it is a proof."""
+    """To standard output and to a file, a new one, a longer one, and the one that is read; and it
+    is a proof."""
     said = said.encode()
     what = f"{text!r:.200}"
     from_both(what, (becomes, said, 0), text, "tighten", *options)
@@ -416,7 +425,8 @@ def tightens(text, becomes, said, options):
 
 
 def files_stay():
-    """Where a certificate is refused or can't be read no file is written to, nor created; or it can't be created."""
+    """Where a certificate is refused or can't be read no file is written to, nor created; or it
+    can't be created."""
     refused, early = (b"", b"refused 32 at DER 6\n", 1), edited("both_branches", "} 6\nf", "} 5\nf")
     from_both("an early last reference", refused, early, "tighten")
     for options in [], ["--profile=1"]:
@@ -562,7 +572,8 @@ def all_options():
 
 
 def done(task):
-    """Does a task in a process of its own, and gives how many checks it made, and how many failed."""
+    """Does a task in a process of its own, and gives how many checks it made, and how many
+    failed."""
     CHECKS.count = CHECKS.failed = 0
     task[0](*task[1:])
     return CHECKS.count, CHECKS.failed

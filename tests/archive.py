@@ -1,21 +1,25 @@
 #!/usr/bin/env python3
-"""Tries what `make` does with names, makes the archive of `make dist`, and uses it as someone does who has no kit.
+"""Tries what `make` does with names, makes the archive of `make dist`, and uses it as someone does
+who has no kit.
 
 usage: tests/archive.py [ROOT]     ROOT is a folder with a Debian system, as debootstrap makes it, for root alone
 
-In a copy of the Makefile and of what it installs, with a stand-in for the program and the library, names with spaces,
-quotes, and what a shell or make would run, reach the program and the folders as they are: nothing in a name is run, and
-nothing but what was installed is removed. What others put there or changed stays. The library isn't installed in a folder that
-pkg-config can't name. Another program or library than the one that was proved is neither used, nor installed, nor packed.
+In a copy of the Makefile and of what it installs, with a stand-in for the program and the library,
+names with spaces, quotes, and what a shell or make would run, reach the program and the folders as
+they are: nothing in a name is run, and nothing but what was installed is removed. What others put
+there or changed stays. The library isn't installed in a folder that pkg-config can't name. Another
+program or library than the one that was proved is neither used, nor installed, nor packed.
 
-The archive is unpacked in an empty folder, or in ROOT and used there by chroot. Nothing but the system's own folders is on
-the path. Its sums are right; `vipr check` verifies an example, the man page is laid out if `man` is there, the callers in C
-(if there is a compiler) and Python answer as the program does, and the Python package's commands run, and have their man
-pages and completions. If dpkg-buildpackage
-and debhelper are there, it makes packages, and lintian, if it is there, finds no error in them. If debootstrap can make a new
-system, they are installed in it, and after a purge it has the files that it had before. The archive made a second
-time has the same bytes, and so has the wheel, which is installed into an environment of its own, and the archive of the
-conformance cases, whose script runs the program on some. What isn't tried is named. It needs what `make lib` builds.
+The archive is unpacked in an empty folder, or in ROOT and used there by chroot. Nothing but the
+system's own folders is on the path. Its sums are right; `vipr check` verifies an example, the man
+page is laid out if `man` is there, the callers in C (if there is a compiler) and Python answer as
+the program does, and the Python package's commands run, and have their man pages and completions.
+If dpkg-buildpackage and debhelper are there, it makes packages, and lintian, if it is there, finds
+no error in them. If debootstrap can make a new system, they are installed in it, and after a purge
+it has the files that it had before. The archive made a second time has the same bytes, and so has
+the wheel, which is installed into an environment of its own, and the archive of the conformance
+cases, whose script runs the program on some. What isn't tried is named. It needs what `make lib`
+builds.
 
 Prints each fault, and last `archive: N checks, F failed`; the exit status is 1 if one failed.
 """
@@ -59,8 +63,8 @@ left_out = []
 
 
 def laid_out(folder):
-    """A copy of what the Makefile needs in a folder, with a stand-in for the program, which prints its words, and for the
-    library; and a function that runs make there."""
+    """A copy of what the Makefile needs in a folder, with a stand-in for the program, which prints
+    its words, and for the library; and a function that runs make there."""
     version = "crates/vipr_command/src/args.rt"
     for name in (
         "Makefile",
@@ -235,7 +239,8 @@ def others(folder):
 
 
 def unproved(folder):
-    """Neither another program nor another library is used, installed or packed, whatever is there in place of their sums."""
+    """Neither another program nor another library is used, installed or packed, whatever is there
+    in place of their sums."""
     copy = folder / "copy"
     copy.mkdir()
     make = laid_out(copy)
@@ -317,7 +322,8 @@ def made(folder):
 
 
 def is_unproved():
-    """Whether the program or the library that is packed here says that it was built without a proof."""
+    """Whether the program or the library that is packed here says that it was built without a
+    proof."""
     library = TOP / f"crates/vipr_c/out/libvipr.so.{VERSION}"
     return said_version(TOP / "crates/vipr/out/vipr")[1] or UNPROVED in dist.version_of(library)
 
@@ -391,7 +397,8 @@ def use(place):
 
 
 def tried_in_python(place):
-    """The commands of python3-vipr are those of the package, and each runs from where it is unpacked."""
+    """The commands of python3-vipr are those of the package, and each runs from where it is
+    unpacked."""
     status, out, fault = place.run(
         "mkdir -p ../unpacked && for package in ../python3-vipr_*.deb ../vipr_*.deb; do dpkg-deb -x $package ../unpacked; done"
     )
@@ -426,7 +433,8 @@ def tried_in_python(place):
 
 
 def tried_wheel(folder):
-    """The wheel in an environment of its own: nothing else of `vipr` is on its path, and no network is asked."""
+    """The wheel in an environment of its own: nothing else of `vipr` is on its path, and no network
+    is asked."""
     wheel = next(folder.glob("*.whl"))
     made = subprocess.run(
         [sys.executable, "-m", "venv", folder / "venv"], capture_output=True, text=True, check=False

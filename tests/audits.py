@@ -1,8 +1,10 @@
-"""Tries `vipr-audit`, for tests/python.py: what it says of the model and the certificate below, and of changes of both.
+"""Tries `vipr-audit`, for tests/python.py: what it says of the model and the certificate below, and
+of changes of both.
 
-A line of AUDITS says what is changed, the pieces of the model and of the certificate and what is in their place, the options,
-the exit status, the first line on the problem, and the line on the optimum. The certificate of `first.vipr` proves that x is at
-least 1/3 if 3 x is at least 1; each change of it is verified, but for those that say so.
+A line of AUDITS says what is changed, the pieces of the model and of the certificate and what is in
+their place, the options, the exit status, the first line on the problem, and the line on the
+optimum. The certificate of `first.vipr` proves that x is at least 1/3 if 3 x is at least 1; each
+change of it is verified, but for those that say so.
 """
 import gzip
 import hashlib
@@ -39,7 +41,8 @@ best 1 0 1/3
 DER 1
 bound G 1/3 OBJ { lin 1 0 1/3 } -1
 """
-# the command in a process in which another file that has the library's name in its path lies before the library
+# the command in a process in which another file that has the library's name in its path lies before
+# the library
 BESIDE_ANOTHER = """
 import mmap, sys
 from vipr import audit, library
@@ -80,7 +83,8 @@ EMPTY = {
     "SOL 1\nbest 1 0 1/3": "SOL 0",
     "bound G 1/3 OBJ { lin 1 0 1/3 } -1": "none G 1 0 { lin 2 0 1 1 -1 } -1",
 }
-# 1 <= 2 x <= 1 with an integral x: that it is at most 1/4 or at least 3/4 is a disjunction by profile 2 alone
+# 1 <= 2 x <= 1 with an integral x: that it is at most 1/4 or at least 3/4 is a disjunction by
+# profile 2 alone
 SPLIT_MODEL = {
     **INTEGER,
     " G  low\n": " G  low\n L  high\n",
@@ -353,7 +357,8 @@ def audits(check, room, words):
 
 
 def digests(check, room, words):
-    """The digests are those of the files that were named, and of a packed one that of its text, too."""
+    """The digests are those of the files that were named, and of a packed one that of its text,
+    too."""
     texts = [(TOP / f"examples/plan.{end}").read_bytes() for end in ("mps", "vipr")]
     for suffix, pack in (("", bytes), (".gz", gzip.compress)):
         paths = [room / f"packed.{end}{suffix}" for end in ("mps", "vipr")]
@@ -376,7 +381,8 @@ def digests(check, room, words):
 
 
 def called_library(check, room):
-    """The digest of the program is that of the library that was called, whatever else has its name in a path."""
+    """The digest of the program is that of the library that was called, whatever else has its name
+    in a path."""
     other = room / "libvipr-environment" / "python3"
     other.parent.mkdir()
     with other.open("wb") as file:

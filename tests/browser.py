@@ -3,11 +3,12 @@
 
 usage: tests/browser.py
 
-Of each example the page's data are those of the certificate, read once more: names, constraints, what each names and what
-names it, and what the goal needs. A page loads nothing, and names with markup stay names. In Chromium and Firefox, without a
-window, if they are there: a row for each constraint, folding, the search, links and the way back, a refused certificate with its
-refusal and links in it (if the library for C is built here), names that would run a script, and a proof of 100,000
-derivations, of which only the rows that are seen are in the page's tree.
+Of each example the page's data are those of the certificate, read once more: names, constraints,
+what each names and what names it, and what the goal needs. A page loads nothing, and names with
+markup stay names. In Chromium and Firefox, without a window, if they are there: a row for each
+constraint, folding, the search, links and the way back, a refused certificate with its refusal and
+links in it (if the library for C is built here), names that would run a script, and a proof of
+100,000 derivations, of which only the rows that are seen are in the page's tree.
 
 Prints each fault, and last `browser: N checks, F failed`; the exit status is 1 if one failed.
 """
@@ -107,8 +108,8 @@ FOLDED = (
 
 
 def told(page):
-    """What a page's script says of each constraint, its rows, and what its buttons fold: in node, if it is here, and else in a
-    browser."""
+    """What a page's script says of each constraint, its rows, and what its buttons fold: in node,
+    if it is here, and else in a browser."""
     if shutil.which("node"):
         script = re.findall(r"<script>(.*?)</script>", page, re.S)[0].partition(
             "\nfunction choose("
@@ -128,7 +129,8 @@ def told(page):
 
 
 def parent_of(row, rows):
-    """The index of the constraint in whose row a row of the proof is folded, None at the outside."""
+    """The index of the constraint in whose row a row of the proof is folded, None at the
+    outside."""
     return rows[row["parent"]]["index"] if row["parent"] >= 0 else None
 
 
@@ -227,7 +229,8 @@ class Answers(http.server.BaseHTTPRequestHandler):
 
 
 def browsed(page, uses):
-    """What a page answers, in each browser that is here, to what is done there. It is opened as a file, and posts its answers."""
+    """What a page answers, in each browser that is here, to what is done there. It is opened as a
+    file, and posts its answers."""
     for name, program in BROWSERS.items():
         with tempfile.TemporaryDirectory(
             prefix="vipr-browser-", ignore_cleanup_errors=True

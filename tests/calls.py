@@ -3,16 +3,17 @@
 
 usage: tests/calls.py [--write] [PROGRAM]     crates/vipr/out/vipr without it
 
-Each command is run over small and larger texts, verified ones and refused ones. `tighten` writes to a new file, to one
-that is there and through links, also relative ones, and in place; also if a call that gives the file its owner, its name
-or a place on the disk fails; and as root, to a file of another owner. What strace shows of a run, from the moment at which
-the program itself begins, has to be in the list; and the files that are opened, renamed or removed are the one that is
-named, OUT, its folder, and one that the run makes itself. The same runs, under a filter that kills a run at any call that
-isn't in the list, end by themselves.
+Each command is run over small and larger texts, verified ones and refused ones. `tighten` writes to
+a new file, to one that is there and through links, also relative ones, and in place; also if a call
+that gives the file its owner, its name or a place on the disk fails; and as root, to a file of
+another owner. What strace shows of a run, from the moment at which the program itself begins, has
+to be in the list; and the files that are opened, renamed or removed are the one that is named, OUT,
+its folder, and one that the run makes itself. The same runs, under a filter that kills a run at any
+call that isn't in the list, end by themselves.
 
---write writes the list. Prints each call that isn't in it, and last `calls: N runs, F failed`. Without strace, or if
-it may not trace, nothing is run, and without a C compiler no filter is made; a line says so. The exit status is 1 if a
-run failed.
+--write writes the list. Prints each call that isn't in it, and last `calls: N runs, F failed`.
+Without strace, or if it may not trace, nothing is run, and without a C compiler no filter is made;
+a line says so. The exit status is 1 if a run failed.
 """
 import os
 import re
@@ -64,7 +65,8 @@ int main(int count, char **words)
 
 
 def filter_of(calls, name):
-    """A program that runs another one, which is killed at any other call; None if it can't be made or is of no use here."""
+    """A program that runs another one, which is killed at any other call; None if it can't be made
+    or is of no use here."""
     compiler, path = shutil.which("cc"), Path(ROOM, f"{name}.c")
     path.write_text(FILTER % ", ".join(f"SYS_{call}" for call in sorted(calls)))
     if not compiler or run([compiler, "-o", path.with_suffix(""), path]).returncode:
@@ -104,7 +106,8 @@ def touched(calls):
 
 
 def runs():
-    """Words and a text for each run, the files that it may open, whether OUT is named, and options of strace."""
+    """Words and a text for each run, the files that it may open, whether OUT is named, and options
+    of strace."""
     small, refused = TOP / "examples/cutoff_loose.vipr", TOP / "examples/overflow.vipr"
     large = Path(ROOM, "large.vipr")
     large.write_bytes(text_of(families.tree, 2_000_000))

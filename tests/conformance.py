@@ -3,12 +3,13 @@
 
 usage: tests/conformance.py [PROGRAM]     crates/vipr/out/vipr without it
 
-Each file has a line in conformance/cases.tsv, and each line a file and what schema.json asks for. Sentences are as
-those of README.md and name nothing that their reader lacks, cases that say the same have one verdict, and the
-certificates of docs/TUTORIAL.md are among them. conformance/run.py runs the program on all cases: by both profiles it
-agrees with each verdict, with each line of `explain`, and with each text that `tighten` writes. So do the plain models
-of bench/, which are called without a process for each case. bench/gmp_check.cpp agrees on the format, and on the
-choices but for the limits and one spelling. If g++ or GMP isn't there, it is left out, and a line says so.
+Each file has a line in conformance/cases.tsv, and each line a file and what schema.json asks for.
+Sentences are as those of README.md and name nothing that their reader lacks, cases that say the
+same have one verdict, and the certificates of docs/TUTORIAL.md are among them. conformance/run.py
+runs the program on all cases: by both profiles it agrees with each verdict, with each line of
+`explain`, and with each text that `tighten` writes. So do the plain models of bench/, which are
+called without a process for each case. bench/gmp_check.cpp agrees on the format, and on the choices
+but for the limits and one spelling. If g++ or GMP isn't there, it is left out, and a line says so.
 
 Prints each fault, and last `conformance: N checks, F failed`; the exit status is 1 if one failed.
 """
@@ -29,7 +30,8 @@ import sizes
 
 FOLDER, TUTORIAL = TOP / "conformance", TOP / "docs/TUTORIAL.md"
 RUN = [sys.executable, FOLDER / "run.py"]
-# how many cases there are at least, and how many bytes a case by hand and the folder sizes/ may have
+# how many cases there are at least, and how many bytes a case by hand and the folder sizes/ may
+# have
 LEAST, LARGEST, LARGEST_FOLDER = 2200, 4096, 2_000_000
 # what a sentence may not name: files, pages, numbers of causes, another case
 FOREIGN = re.compile(r"\.vipr|\.md\b|\bcause \d|\bcase\b|\bprevious\b")

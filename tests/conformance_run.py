@@ -3,12 +3,14 @@
 
 usage: tests/conformance_run.py [PROGRAM]     crates/vipr/out/vipr without it
 
-Checkers that always accept, crash, hang, print too little or aren't there, and tighteners that write another problem,
-claim, more derivations or no certificate, show what it says. Options choose the cases that they name. The forms of a
-run are tried: a case for each run, all at once, on standard input, and by adapter.py. On a terminal it counts the cases.
-The scripts that a user runs pass mypy; without mypy that is left out.
+Checkers that always accept, crash, hang, print too little or aren't there, and tighteners that
+write another problem, claim, more derivations or no certificate, show what it says. Options choose
+the cases that they name. The forms of a run are tried: a case for each run, all at once, on
+standard input, and by adapter.py. On a terminal it counts the cases. The scripts that a user runs
+pass mypy; without mypy that is left out.
 
-Prints each fault, and last `conformance_run: N checks, F failed`; the exit status is 1 if one failed.
+Prints each fault, and last `conformance_run: N checks, F failed`; the exit status is 1 if one
+failed.
 """
 import os
 import pty

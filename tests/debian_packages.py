@@ -10,7 +10,8 @@ from texts import TOP, run
 
 # seconds until a new system is there
 LONG = 900
-# what the system itself writes: lists and caches of packages, logs, and the folder that the packages are in
+# what the system itself writes: lists and caches of packages, logs, and the folder that the
+# packages are in
 ITS_OWN = re.compile(
     r"(?:var/(?:lib/(?:dpkg|apt)|cache|log)|etc/ld\.so\.cache|tmp|proc|sys|dev)(?:/|$)"
 )
@@ -34,7 +35,8 @@ def codename():
 
 
 def new_system(root):
-    """Whether a new Debian system with Python could be made in a folder: for root alone, and by a network."""
+    """Whether a new Debian system with Python could be made in a folder: for root alone, and by a
+    network."""
     if os.geteuid() or not shutil.which("debootstrap"):
         return False
     words = ["debootstrap", "--variant=minbase", "--include=python3", codename(), root]
@@ -52,7 +54,8 @@ def files_in(root):
 
 
 def installed_and_purged(checks, folder):
-    """The packages in a folder are installed in a new system, root runs their commands, and after a purge all is as before."""
+    """The packages in a folder are installed in a new system, root runs their commands, and after a
+    purge all is as before."""
     with tempfile.TemporaryDirectory(prefix="vipr-debian-") as name:
         root = Path(name)
         if not new_system(root):

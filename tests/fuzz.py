@@ -1,20 +1,24 @@
 #!/usr/bin/env python3
-"""Damaged texts for every command: what is printed is what plain models say, and each run ends verified or refused.
+"""Damaged texts for every command: what is printed is what plain models say, and each run ends
+verified or refused.
 
 usage: tests/fuzz.py [--models N] [--runs N] [--seed S] [PROGRAM]     1,000 texts, 20,000 runs, seed 1 and
                                                                       crates/vipr/out/vipr without them
 
-First the examples and copies of them with tokens replaced are given to each command, by both profiles. Standard output,
-standard error and exit status must be those of the plain models of bench/, byte for byte.
+First the examples and copies of them with tokens replaced are given to each command, by both
+profiles. Standard output, standard error and exit status must be those of the plain models of
+bench/, byte for byte.
 
-Then more texts, without a model. They are the examples and short ones of the families of bench/families.py, with tokens
-replaced, bytes changed, and parts cut out, doubled or moved. Each is given to a command, from a file or from standard
-input, by one of the profiles; `tighten` writes to standard output, to another file, or to the file that it reads. A run
-fails if it ends by a signal or with another status, if standard error has anything but a line of LINES, if both outputs
+Then more texts, without a model. They are the examples and short ones of the families of
+bench/families.py, with tokens replaced, bytes changed, and parts cut out, doubled or moved. Each is
+given to a command, from a file or from standard input, by one of the profiles; `tighten` writes to
+standard output, to another file, or to the file that it reads. A run fails if it ends by a signal
+or with another status, if standard error has anything but a line of LINES, if both outputs
 contradict the status, or if a file isn't what it was and not a whole text that is verified.
 
-Prints each text or run that fails with its number, what the models answered, and last `fuzz: N texts and M runs, F failed,
-S seconds of processor time`. The exit status is 1 if one failed. A number and the seed make its text again.
+Prints each text or run that fails with its number, what the models answered, and last `fuzz: N
+texts and M runs, F failed, S seconds of processor time`. The exit status is 1 if one failed. A
+number and the seed make its text again.
 """
 import argparse
 import multiprocessing
@@ -33,7 +37,8 @@ from plain_show import shown
 from plain_tighten import tightened
 import families
 
-# for each command its model: what goes to standard output, what to standard error, and the exit status
+# for each command its model: what goes to standard output, what to standard error, and the exit
+# status
 MODELS = {
     "check": lambda text, profile: of_verdict(verdict(text, profile)),
     "explain": lambda text, profile: of_verdict(explained(text, profile)),
@@ -67,7 +72,8 @@ def of_verdict(lines):
 
 
 def against_models(number):
-    """Of a text what differs from the models, and how often each command and status came. The first texts are the examples."""
+    """Of a text what differs from the models, and how often each command and status came. The first
+    texts are the examples."""
     chance = random.Random(f"{GIVEN.seed} model {number}")
     text = WHOLE[number] if number < len(WHOLE) else damaged(chance.choice(SHORT), chance)
     found, counts = [], Counter()

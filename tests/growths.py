@@ -3,17 +3,18 @@
 
 usage: tests/growths.py [CRATE..]     all libraries with tests, without a name; `rt ci` and `rt test` build them
 
-The tests of the libraries, those of crates/vipr_tests, call what they have to offer. Each is run with its first
-growth refused, its second, and so on up to a run that meets no refusal. It then passes, or ends at an answer that is
-want of memory: no call may give another answer for a refused growth, end by a signal of its own, or go on as if it had
-room.
-A test with more than MOST growths makes them in loops: its first and last ones are refused, and some between, evenly
-spaced. A test named `spent_..` calls again where a call ended at want of memory, and tells that both calls after it
-answered `Spent`: one of its runs at least has to tell so. The growths of the program are refused by tests/hostile.py.
+The tests of the libraries, those of crates/vipr_tests, call what they have to offer. Each is run
+with its first growth refused, its second, and so on up to a run that meets no refusal. It then
+passes, or ends at an answer that is want of memory: no call may give another answer for a refused
+growth, end by a signal of its own, or go on as if it had room. A test with more than MOST growths
+makes them in loops: its first and last ones are refused, and some between, evenly spaced. A test
+named `spent_..` calls again where a call ended at want of memory, and tells that both calls after
+it answered `Spent`: one of its runs at least has to tell so. The growths of the program are refused
+by tests/hostile.py.
 
-Prints each run that ends otherwise, how many runs each crate has, and last `growths: N runs, F failed`. Without a C
-compiler nothing is run, and a line says so. The exit status is 1 where a run failed, where a library's tests aren't
-built, or where none was there to run.
+Prints each run that ends otherwise, how many runs each crate has, and last `growths: N runs, F
+failed`. Without a C compiler nothing is run, and a line says so. The exit status is 1 where a run
+failed, where a library's tests aren't built, or where none was there to run.
 """
 import os
 import re
@@ -34,8 +35,8 @@ PROGRAM = "vipr"
 ELSEWHERE = re.compile(r"tests::bytes::")
 # how many growths of a test are refused at most
 MOST = 400
-# what a failed test says of a call whose growth was refused; a vector that is written to fails a write then, and so does OUT
-# if it is one
+# what a failed test says of a call whose growth was refused; a vector that is written to fails a
+# write then, and so does OUT if it is one
 WANT = re.compile(
     r"\b(AllocError|AllocFailed|Memory|OutOfMemory|out of memory|fault memory|memory: Write)\b"
     r'|left: "fault write after 0\\n"'
@@ -77,7 +78,8 @@ class Tests:
         return done.returncode, done.stdout + done.stderr, int(counted[0]) if counted else None
 
     def refuse_each(self, pool, name):
-        """The number of runs of a test with a growth refused, up to one that meets none, and those that failed."""
+        """The number of runs of a test with a growth refused, up to one that meets none, and those
+        that failed."""
         status, said, growths = self.run(name)
         if status or growths is None:
             return 1, [f"{name} without a refusal: status {status}: {said:.300}"]

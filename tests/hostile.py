@@ -1,24 +1,30 @@
 #!/usr/bin/env python3
-"""Hostile use of the built program: each growth, read and write refused in turn, and texts at the limits.
+"""Hostile use of the built program: each growth, read and write refused in turn, and texts at the
+limits.
 
 usage: tests/hostile.py [PROGRAM]     crates/vipr/out/vipr without it
 
 Each command that the program has is run over the examples. What a run may answer then:
-- where a growth is refused, `fault memory` with status 3 and nothing on the output, or what the run without it answers;
-- where a read fails, `fault read`, or that answer where it was decided before; and no read follows the failed one;
-- where a write fails, `fault write after N` with exactly the first N bytes on the output; and no write follows;
-- the same of OUT, for which each byte is written once: one that is new isn't there then, and any other is what it was;
+- where a growth is refused, `fault memory` with status 3 and nothing on the output, or what the run
+  without it answers;
+- where a read fails, `fault read`, or that answer where it was decided before; and no read follows
+  the failed one;
+- where a write fails, `fault write after N` with exactly the first N bytes on the output; and no
+  write follows;
+- the same of OUT, for which each byte is written once: one that is new isn't there then, and any
+  other is what it was;
 - with any of the three streams closed, past a limit on the length of files, and where a stream doesn't wait, the same.
 Beginnings of the examples, whole and a byte at a time, are answered as the plain model under bench/ does it; texts at
 the format's limits have the answer that the rules give, within a small limit of memory. Each family of bench/families.py
 has the plain model's answer, and a text of four times the size asks for at most five times the bytes, all that is asked
 for in a run counted. A solution or a derivation that is refused may have a long name.
 
-The library of refused calls, tests/refuse.c, begins the program once for many runs: each run is a process of its own from
-the place on where the program's code begins.
+The library of refused calls, tests/refuse.c, begins the program once for many runs: each run is a
+process of its own from the place on where the program's code begins.
 
-Prints each run that answers something else, and last `hostile: N runs, F failed, S seconds of processor time`. Without
-a C compiler the runs with refused calls are left out, and a line says so. The exit status is 1 where a run failed.
+Prints each run that answers something else, and last `hostile: N runs, F failed, S seconds of
+processor time`. Without a C compiler the runs with refused calls are left out, and a line says so.
+The exit status is 1 where a run failed.
 """
 import fcntl
 import hashlib
@@ -52,13 +58,15 @@ expect = CHECKS.expect
 
 
 class Answer(tuple):
-    """What is on the output, what on standard error, and the status; with the calls that were counted."""
+    """What is on the output, what on standard error, and the status; with the calls that were
+    counted."""
 
     calls = (0, 0, 0, 0, 0, 0)
 
 
 class Server:
-    """The program with the library of refused calls, begun once, which runs as often as it is asked."""
+    """The program with the library of refused calls, begun once, which runs as often as it is
+    asked."""
 
     PLAN = (
         "REFUSE_GROWTH",
@@ -171,7 +179,8 @@ def each(action, items):
 
 
 def growths_refused(name, words, text, output=None, others=()):
-    """The nth growth refused, for each n up to a run that meets none. Others are answers that there may be then, too."""
+    """The nth growth refused, for each n up to a run that meets none. Others are answers that there
+    may be then, too."""
     whole = answer(words, text, {})
 
     def one(n):
@@ -189,7 +198,8 @@ def growths_refused(name, words, text, output=None, others=()):
 
 
 def reads_fail(name, words, text, last=0):
-    """The nth read of one byte fails, for each n; the answer changes once, where the text decides it."""
+    """The nth read of one byte fails, for each n; the answer changes once, where the text decides
+    it."""
     whole = answer(words, text, {"READ_AT_MOST": 1})
     expect(f"{name} a byte at a time", whole, answer(words, text))
     enough = whole.calls[1]
@@ -224,7 +234,8 @@ def writes_fail(name, words, text):
 
 
 def known_texts():
-    """Texts whose answers are known, and how many reads of a byte decide them: each read fails, and each write."""
+    """Texts whose answers are known, and how many reads of a byte decide them: each read fails, and
+    each write."""
     proof, loose, tight = (
         (TOP / f"examples/{name}.vipr").read_bytes()
         for name in ("infeasible", "cutoff_loose", "cutoff_tight")
@@ -265,7 +276,8 @@ def known_texts():
 
 
 def reads_of_a_byte(commands):
-    """A text of over 200,000 bytes, a byte a read: as many reads as it has bytes, and one that gives none."""
+    """A text of over 200,000 bytes, a byte a read: as many reads as it has bytes, and one that
+    gives none."""
     text = b"%" + b"c" * 200_000 + b"\n" + (TOP / "examples/infeasible.vipr").read_bytes()
     for command in commands:
         got = answer([command], text, {"READ_AT_MOST": 1})
@@ -288,8 +300,8 @@ def with_refused_calls(commands, examples):
 
 
 def at_length(examples):
-    """`explain --long`: without memory for its page there are the lines of `explain` alone, and a line says that a read
-    failed behind what is refused."""
+    """`explain --long`: without memory for its page there are the lines of `explain` alone, and a
+    line says that a read failed behind what is refused."""
     words = ["explain", "--long"]
     for path, text in examples:
         short = answer(["explain"], text)
@@ -315,7 +327,8 @@ def at_length(examples):
 
 
 def writes_to_out(path, text):
-    """Each write of a byte to OUT fails, takes nothing or is interrupted: OUT is new, there before, or FILE itself."""
+    """Each write of a byte to OUT fails, takes nothing or is interrupted: OUT is new, there before,
+    or FILE itself."""
     printed, said, _ = answer(["tighten"], text)
 
     def one(task):
@@ -419,7 +432,8 @@ def closed(*numbers):
 
 
 def streams_closed(commands):
-    """Each set of the three streams is closed, and a text comes from a file or from standard input."""
+    """Each set of the three streams is closed, and a text comes from a file or from standard
+    input."""
     texts = [
         TOP / "examples/cutoff_loose.vipr",
         TOP / "examples/false_claims/gap.vipr",
@@ -445,7 +459,8 @@ def streams_closed(commands):
 
 
 def limit_of_files(command, most):
-    """A limit on the length of files: the signal ends a run, or the write fails where the caller ignores it."""
+    """A limit on the length of files: the signal ends a run, or the write fails where the caller
+    ignores it."""
     path = TOP / "examples/long_chain.vipr"
     printed = answer([command, str(path)])[0]
     for ignores in (False, True):
@@ -470,7 +485,8 @@ def limit_of_files(command, most):
 
 
 def streams_that_do_not_wait(commands):
-    """An input without a byte, and an output without room, that give an error in place of waiting."""
+    """An input without a byte, and an output without room, that give an error in place of
+    waiting."""
     for command in commands:
         CHECKS.count += 1
         read, write = os.pipe2(os.O_NONBLOCK)
@@ -536,7 +552,8 @@ def beginnings(examples):
 
 
 def limits():
-    """Counts over an empty rest, and numbers, indices and tokens at and past their limits, in little memory."""
+    """Counts over an empty rest, and numbers, indices and tokens at and past their limits, in
+    little memory."""
 
     def one(case):
         wanted = lines("\n".join(case.lines[: 1 + (case.verdict == "verified")]))
@@ -572,7 +589,8 @@ def what_is_asked_for():
 
 
 def families_are_answered():
-    """Each family's text, with sums over many assumptions among them, has the plain model's answer."""
+    """Each family's text, with sums over many assumptions among them, has the plain model's
+    answer."""
 
     def one(family):
         text = "".join(f"{line}\n" for line in family(12_000)).encode()

@@ -1,10 +1,11 @@
 #!/usr/bin/env python3
-"""Checks how the repository is built, from its text alone: what no prover checks and each reader relies on.
-The layout of its files is checked if the toolchain is there.
+"""Checks how the repository is built, from its text alone: what no prover checks and each reader
+relies on. The layout of its files is checked if the toolchain is there.
 
 usage: tests/house.py
 
-Prints the place of each fault, and last `house: N checks, F failed`; the exit status is 1 if one failed.
+Prints the place of each fault, and last `house: N checks, F failed`; the exit status is 1 if one
+failed.
 """
 import collections
 import os
@@ -76,7 +77,8 @@ BY_ITSELF = "vipr_spec/specs/Short.antt"
 
 
 def names_twice():
-    """One word, one meaning: a name is defined in one spec file, but for the one that is to be read by itself."""
+    """One word, one meaning: a name is defined in one spec file, but for the one that is to be read
+    by itself."""
     places = collections.defaultdict(list)
     for crate, part, path in files(("specs",), (".antt",)):
         if path == os.path.join(CRATES, BY_ITSELF):
@@ -116,12 +118,14 @@ def types_twice():
             )
 
 
-# the types that hold bytes that grow: a text, the buffer before a sink, what was read of a file, a page
+# the types that hold bytes that grow: a text, the buffer before a sink, what was read of a file, a
+# page
 GROWING = {"Growing", "SinkBuffer", "ReadText", "Page"}
 
 
 def growing_types():
-    """Bytes that grow are a `Growing` or a `Vec<u8>`, which is a sink: the types of GROWING alone have such a field."""
+    """Bytes that grow are a `Growing` or a `Vec<u8>`, which is a sink: the types of GROWING alone
+    have such a field."""
     found = {}
     for crate, part, path in files(("src",), (".rt",)):
         text = "" if is_test(path) else read(path)
@@ -154,7 +158,8 @@ def plain_words():
 
 
 def comments_stand_alone():
-    """No doc comment begins with "The same": an index of functions shows it without the one before."""
+    """No doc comment begins with "The same": an index of functions shows it without the one
+    before."""
     for crate, part, path in files(("src",), (".rt",)):
         lines = read(path).split("\n")
         for n, line in enumerate(lines, 1):
@@ -172,7 +177,8 @@ JOINED_WORD = re.compile(r"\b[A-Z][a-z0-9]+(?:[A-Z][a-z0-9]*)+\b")
 
 
 def comments_name_no_definitions():
-    """No comment of src has the name of a definition of specs/ in place of a word, as a rename by a script leaves it."""
+    """No comment of src has the name of a definition of specs/ in place of a word, as a rename by a
+    script leaves it."""
     definitions = {
         head[3]
         for _, _, path in files(("specs",), (".antt",))
@@ -246,7 +252,8 @@ def unused_imports():
 
 
 def heads(lines):
-    """Of each lemma and each definition of a file its line, its name, and the lines that state and prove it."""
+    """Of each lemma and each definition of a file its line, its name, and the lines that state and
+    prove it."""
     n, in_module = 0, False
     while n < len(lines):
         head = head_of(lines[n])
@@ -299,7 +306,8 @@ CALL = re.compile(
 
 
 def dead_calls():
-    """Each public call is made by a crate that isn't of tests, or is for callers, as OFFERED says."""
+    """Each public call is made by a crate that isn't of tests, or is for callers, as OFFERED
+    says."""
     texts = {
         (crate, path): re.sub(r"//.*", "", USE.sub("", read(path)))
         for crate, part, path in files(("src",), (".rt",))
@@ -322,7 +330,8 @@ WRITTEN = {"STATEMENT.md"}
 
 
 def laws_are_named():
-    """Each law of `vipr_spec` is named by a page of docs/ that is written by hand, and its file with it."""
+    """Each law of `vipr_spec` is named by a page of docs/ that is written by hand, and its file
+    with it."""
     docs = os.path.join(ROOT, "docs")
     named = []
     for page in sorted(os.listdir(docs)):
@@ -339,7 +348,8 @@ def laws_are_named():
                 yield "%s: no page names %s" % (shown(path), name)
 
 
-# spec files that prove what their own definitions need: divisibility, lowest terms, and that a value fits a word
+# spec files that prove what their own definitions need: divisibility, lowest terms, and that a
+# value fits a word
 PROVING_SPECS = {"Lowest.antt", "GcdLaws.antt", "Words.antt"}
 
 
@@ -355,7 +365,8 @@ def proofs_in_specs():
 
 
 def long_lines():
-    """Lines of src and specs have at most 100 columns, but for tests, long strings, and what rt fmt joins."""
+    """Lines of src and specs have at most 100 columns, but for tests, long strings, and what rt fmt
+    joins."""
     for crate, part, path in files(("src", "specs"), (".rt", ".antt")):
         if is_test(path):
             continue
@@ -386,7 +397,8 @@ def crates_have_rows():
 
 
 def counts_of_lines_agree():
-    """Pages say rightly how many lines one has to believe: those of part 1 of the statement, and of files of rocq/."""
+    """Pages say rightly how many lines one has to believe: those of part 1 of the statement, and of
+    files of rocq/."""
     row = re.search(
         r"^\| \[1\. .*?\) \|.*?\| \d+ \| (\d+) \|",
         read(os.path.join(ROOT, "docs/STATEMENT.md")),
@@ -435,7 +447,8 @@ def snake(name):
 
 
 def causes_agree():
-    """The causes have the same numbers and names in docs/FORMAT.md, in specs/Causes.antt and in code."""
+    """The causes have the same numbers and names in docs/FORMAT.md, in specs/Causes.antt and in
+    code."""
     page = {
         int(n): (name, text)
         for n, name, text in re.findall(
@@ -514,7 +527,8 @@ def git(*words):
 
 
 def named_files_are_there():
-    """Each file of the repository that a page names in code quotes is there, in the folder or crate that it names."""
+    """Each file of the repository that a page names in code quotes is there, in the folder or crate
+    that it names."""
     listed = (git("ls-files") or "").split("\n")
     if not any(listed):
         print(
@@ -564,7 +578,8 @@ def pages():
 
 
 def links_of(page, text):
-    """The relative links of a page: each as it is written, the path that it leads to, and its heading."""
+    """The relative links of a page: each as it is written, the path that it leads to, and its
+    heading."""
     for target in re.findall(r"\]\(([^)\s]+)\)", text):
         if not re.match("[a-z]+:", target):
             name, _, heading = target.partition("#")
@@ -583,7 +598,8 @@ def headings_of(text):
 
 
 def links_lead():
-    """Each relative link of a page leads to a file or a folder of the repository, and to a heading there."""
+    """Each relative link of a page leads to a file or a folder of the repository, and to a heading
+    there."""
     texts = dict(pages())
     headings = {page: set(headings_of(text)) for page, text in texts.items()}
     for page, text in texts.items():
@@ -595,7 +611,8 @@ def links_lead():
 
 
 def installed():
-    """The files of PAGES of the Makefile, which `make install` installs, without those that the Debian package leaves out."""
+    """The files of PAGES of the Makefile, which `make install` installs, without those that the
+    Debian package leaves out."""
     words = ["make", "-s", "-C", ROOT, "--eval", "pages-of-install: ; @echo $(PAGES)"]
     said = subprocess.run(
         [*words, "pages-of-install"], capture_output=True, text=True, check=True
@@ -606,7 +623,8 @@ def installed():
 
 
 def installed_links_lead():
-    """Each relative link of an installed page leads to an installed file, or to a folder of some."""
+    """Each relative link of an installed page leads to an installed file, or to a folder of
+    some."""
     there = installed()
     folders = {str(folder) for path in there for folder in pathlib.Path(path).parents}
     for page, text in pages():
@@ -616,7 +634,8 @@ def installed_links_lead():
 
 
 def formatted():
-    """Sources, specs and proofs are in the layout of `rt fmt`, without which `rt ci` fails after its proofs."""
+    """Sources, specs and proofs are in the layout of `rt fmt`, without which `rt ci` fails after
+    its proofs."""
     rt = shutil.which(os.environ.get("RT", "rt"))
     rattle = rt and os.path.join(os.path.dirname(os.path.realpath(rt)), "rattle")
     if rattle and os.path.exists(rattle):

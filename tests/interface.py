@@ -3,9 +3,10 @@
 
 usage: tests/interface.py [PROGRAM]     crates/vipr/out/vipr without it
 
-The bash completion is tried, also in a terminal, the man page is laid out if `groff` is there, its examples and
-those of the help are run, and the program is installed into a folder and removed again. Each link of an installed page
-is followed there. tests/written.py compares man page and completions with the help.
+The bash completion is tried, also in a terminal, the man page is laid out if `groff` is there, its
+examples and those of the help are run, and the program is installed into a folder and removed
+again. Each link of an installed page is followed there. tests/written.py compares man page and
+completions with the help.
 
 Prints each fault, and last `interface: N checks, F failed`; the exit status is 1 if one failed.
 """
@@ -69,7 +70,8 @@ TYPED = [
 
 
 def typed():
-    """The lines of TYPED in a bash with a terminal, in a folder with such names: each has the words that are wanted."""
+    """The lines of TYPED in a bash with a terminal, in a folder with such names: each has the words
+    that are wanted."""
     with tempfile.TemporaryDirectory() as name:
         (Path(name) / "folder").mkdir()
         for file in ("plain.vipr", "two words.vipr", "folder/inner.vipr"):
@@ -148,7 +150,8 @@ def examples():
 
 
 def helped(names):
-    """What stands behind `Example:` in a command's help can be run, and is an example of that command."""
+    """What stands behind `Example:` in a command's help can be run, and is an example of that
+    command."""
     with tempfile.TemporaryDirectory() as folder:
         plan = Path(folder, "plan.vipr")
         shutil.copy(TOP / "examples/infeasible.vipr", plan)
@@ -227,7 +230,8 @@ def installation():
 
 
 def links(folder):
-    """Each page that the man page names is installed, and so is what the links of installed pages name."""
+    """Each page that the man page names is installed, and so is what the links of installed pages
+    name."""
     for name in re.findall(r"[\w/]+\.md", MAN.read_text()):
         check((folder / name).is_file(), f"the man page names {name}, which is not installed")
     for page in sorted(folder.rglob("*.md")):
@@ -256,7 +260,8 @@ def make(*words):
 
 
 def first_commands():
-    """A program that is newer than its sources isn't built again, and a toolchain that is missing is named in two lines."""
+    """A program that is newer than its sources isn't built again, and a toolchain that is missing
+    is named in two lines."""
     with tempfile.TemporaryDirectory() as name:
         program = Path(name) / "vipr"
         shutil.copy(PROGRAM, program)

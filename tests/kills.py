@@ -3,13 +3,15 @@
 
 usage: tests/kills.py [PROGRAM [MOMENTS]]     crates/vipr/out/vipr and 100 without them
 
-OUT is new, there before, FILE itself, or a link to a file. Whenever the run is killed, OUT is the old text, the whole new
-one, or isn't there if it was new, and has the permissions that it had; nothing else in the folder has changed but a file
-beside OUT; and the next run that writes into the folder leaves that. If OUT was there, the file beside it is for its owner
-alone until it is whole, and then may have OUT's permissions.
+OUT is new, there before, FILE itself, or a link to a file. Whenever the run is killed, OUT is the
+old text, the whole new one, or isn't there if it was new, and has the permissions that it had;
+nothing else in the folder has changed but a file beside OUT; and the next run that writes into the
+folder leaves that. If OUT was there, the file beside it is for its owner alone until it is whole,
+and then may have OUT's permissions.
 
-Prints each run after which it isn't so, and last `kills: N runs, F failed`. Without strace, or if it may not trace, runs
-are killed at random moments alone, and a line says so. The exit status is 1 if a run failed.
+Prints each run after which it isn't so, and last `kills: N runs, F failed`. Without strace, or if
+it may not trace, runs are killed at random moments alone, and a line says so. The exit status is 1
+if a run failed.
 """
 import random
 import shutil
@@ -111,7 +113,8 @@ def permissions(path):
 
 
 def may_be_read(path, whole):
-    """Whether others than its owner may read a file beside OUT that isn't whole, or others than those who may read OUT."""
+    """Whether others than its owner may read a file beside OUT that isn't whole, or others than
+    those who may read OUT."""
     is_private = permissions(path) == 0o600
     return not is_private and (permissions(path) != PERMISSIONS or path.read_bytes() != whole)
 
@@ -127,7 +130,8 @@ def tight(text):
 
 
 def calls_of(kind):
-    """The names of the system calls of a run, those of the loader too; none if they can't be seen."""
+    """The names of the system calls of a run, those of the loader too; none if they can't be
+    seen."""
     return [line.split("(")[0] for line in traced(Room(kind, SMALL).words())[1]]
 
 

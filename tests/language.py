@@ -1,19 +1,22 @@
 #!/usr/bin/env python3
-"""Measures the language of the pages, the man page, the program's help and the doc comments: how long their sentences
-are, and which turns of phrase they use.
+"""Measures the language of the pages, the man page, the program's help and the doc comments: how
+long their sentences are, and which turns of phrase they use.
 
 usage: tests/language.py [--figures] [PAGE..]     without a page: all pages of PAGES, man/vipr.1 and crates/*/src
 
-A sentence ends with `.`, `!` or `?`, or with its paragraph, list item or cell of a table. A piece of code, and the text
-of a link, count as the words that a reader sees; code in backquotes counts as one word. Blocks of code, and what a script
-writes between two `<!-- .. -->` marks, aren't looked at.
+A sentence ends with `.`, `!` or `?`, or with its paragraph, list item or cell of a table. A piece
+of code, and the text of a link, count as the words that a reader sees; code in backquotes counts as
+one word. Blocks of code, and what a script writes between two `<!-- .. -->` marks, aren't looked
+at.
 
-Each sentence has at most MOST words, and the median of a page's running text, without tables and headings, is at most
-MEDIAN. On the pages that lead a reader, and on all pages together, at most SHARE of 100 sentences have more than LONG
-words. None has a turn of TURNS. No word of OWN is on the pages that lead a reader: docs/FORMAT.md translates it. In doc comments (`///`, `//!`), and in the help's words in crates/vipr_command, the same
-sentences and turns are refused. The documentation of a public item doesn't begin with `The same`: it is read alone.
-Prints the place of each fault, and last `language: N checks, F failed`; the exit status is 1 if one failed.
---figures prints the number of sentences, the median and the longest of each page.
+Each sentence has at most MOST words, and the median of a page's running text, without tables and
+headings, is at most MEDIAN. On the pages that lead a reader, and on all pages together, at most
+SHARE of 100 sentences have more than LONG words. None has a turn of TURNS. No word of OWN is on the
+pages that lead a reader: docs/FORMAT.md translates it. In doc comments (`///`, `//!`), and in the
+help's words in crates/vipr_command, the same sentences and turns are refused. The documentation of
+a public item doesn't begin with `The same`: it is read alone. Prints the place of each fault, and
+last `language: N checks, F failed`; the exit status is 1 if one failed. --figures prints the number
+of sentences, the median and the longest of each page.
 """
 import re
 import statistics
@@ -66,7 +69,8 @@ OWN = re.compile(
 # a turn, and what to write in its place
 TURNS = {
     r"(?<!`)\b(?:tells?|told)\b(?!`)": "reports, shows",
-    # `says where`, and the place of a test, a token, bytes or what a reader goes through, are no conditions
+    # `says where`, and the place of a test, a token, bytes or what a reader goes through, are no
+    # conditions
     r"(?<!says )(?<!depend on )(?<!, and )(?<!but for )(?<!`, )\bwhere\b"
     r"(?! (?:bytes|the (?:test|run|reader|scanner)|a (?:token|certificate)|to write|`|\{))": "if",
     r"\bstands? (?!alone)": "is",
@@ -80,8 +84,8 @@ TURNS = {
 
 
 def prose(text):
-    """The pieces of a page's text, each with its line and whether it is running text, as paragraphs and list items are;
-    cells of tables and headings are none."""
+    """The pieces of a page's text, each with its line and whether it is running text, as paragraphs
+    and list items are; cells of tables and headings are none."""
     text = re.sub(r"^```.*?^```", lambda m: "\n" * m[0].count("\n"), text, flags=re.M | re.S)
     text = re.sub(
         r"<!-- [^>]*written by.*?<!-- end[^>]*-->",
@@ -137,7 +141,8 @@ def faults_of(sentence, place):
 
 
 def measured(page):
-    """The lengths of a page's sentences in running text and of all, the number of checks, and its faults."""
+    """The lengths of a page's sentences in running text and of all, the number of checks, and its
+    faults."""
     lengths, every, faults, count = [], [], [], 0
     for line, running, piece in prose((TOP / page).read_text()):
         for sentence in sentences(piece):
@@ -160,7 +165,8 @@ def share(lengths):
 
 
 def manual():
-    """The sentences of the man page: its lines of text, without requests and what they set in bold or italics."""
+    """The sentences of the man page: its lines of text, without requests and what they set in bold
+    or italics."""
     for number, line in enumerate((TOP / MAN).read_text().split("\n"), 1):
         text = line.removeprefix(".B ")
         if text and not text.startswith(".") and not text.startswith("$"):
@@ -168,7 +174,8 @@ def manual():
 
 
 def documented():
-    """The doc comments of crates/*/src: the file, the line, the words, and whether they are a public item's."""
+    """The doc comments of crates/*/src: the file, the line, the words, and whether they are a
+    public item's."""
     for path in sorted((TOP / "crates").glob("*/src/**/*.rt")):
         text = path.read_text()
         for found in re.finditer(r"(?:^ *//[/!][^\n]*\n)+", text, re.M):

@@ -1,10 +1,12 @@
 #!/usr/bin/env python3
-"""What the built program answers on texts that are large in one respect, and on files beside others of a similar name.
+"""What the built program answers on texts that are large in one respect, and on files beside others
+of a similar name.
 
 usage: tests/large.py [PROGRAM]     crates/vipr/out/vipr without it
 
-Small texts don't show a limit that isn't the format's: so many variables, derivations, entries or bytes, behind which a
-text is cut off or memory is said to be wanted. Every answer is known beforehand. A sparse file takes no room on a disk.
+Small texts don't show a limit that isn't the format's: so many variables, derivations, entries or
+bytes, behind which a text is cut off or memory is said to be wanted. Every answer is known
+beforehand. A sparse file takes no room on a disk.
 
 Prints each fault, and last `large: N runs, F failed`; the exit status is 1 if one failed.
 """
@@ -50,8 +52,8 @@ def verdict(lines):
 
 
 def many(variables, needless, used, is_tight):
-    """A proof of so many derivations that nothing needs and so many that one sum needs, over that many variables, and its
-    figures. Each is held to the end, or only as long as it is needed."""
+    """A proof of so many derivations that nothing needs and so many that one sum needs, over that
+    many variables, and its figures. Each is held to the end, or only as long as it is needed."""
     first = 2 + needless
     total = first + used
     split, below, above, absurd, goal = range(total + 1, total + 6)
@@ -82,7 +84,8 @@ def many(variables, needless, used, is_tight):
 
 
 def of_many_items():
-    """A million variables, a million derivations that go, 110,000 that stay and that one sum names."""
+    """A million variables, a million derivations that go, 110,000 that stay and that one sum
+    names."""
     variables, needless, used = 1_100_000, 1_000_000, 110_000
     text, derived = many(variables, needless, used, False)
     tight, kept = many(variables, 0, used, True)
@@ -113,7 +116,8 @@ def entries(multiplier=1, last="0 1", index=0):
 
 
 def refusals():
-    """For each cause of a derivation the derivations of a text over wide rows, and the refused one's index."""
+    """For each cause of a derivation the derivations of a text over wide rows, and the refused
+    one's index."""
     half = row("1/3")
     yield 31, f'd G 0 {row()} {{ lin {entries(last="9 1")} }} -1', 2
     yield 32, f'd G 1 {row()} {{ lin 1 0 1 }} 3\ne G 1 {row()} {{ lin 1 2 1 }} -1\nf G 0 0 {{ lin {entries(last="2 1")} }} -1', 4
@@ -153,7 +157,8 @@ def of_a_long_sum():
 
 
 def of_many_bytes(room):
-    """A comment of five gigabytes in front of a proof, as FILE and, with a token behind the end, from a pipe."""
+    """A comment of five gigabytes in front of a proof, as FILE and, with a token behind the end,
+    from a pipe."""
     proof = (TOP / "examples/infeasible.vipr").read_bytes()
     path, end = room / "sparse", room / "end"
     with path.open("wb") as file:
@@ -176,8 +181,9 @@ def of_many_bytes(room):
 
 
 def of_a_refused_front(room):
-    """`explain --long` stops reading when the front is refused, and its page is that of `--sum`, which reads to the end. A
-    fault behind an eighth of the first mebibyte is looked for in the whole text."""
+    """`explain --long` stops reading when the front is refused, and its page is that of `--sum`,
+    which reads to the end. A fault behind an eighth of the first mebibyte is looked for in the
+    whole text."""
     with open("/dev/zero", "rb") as zero:
         got = run(
             [PROGRAM, "explain", "--long"], stdin=zero, timeout=SECONDS, preexec_fn=little_memory
@@ -209,7 +215,8 @@ def of_a_refused_front(room):
 
 
 def across_an_eighth(example, length):
-    """A text whose line at fault has so many bytes before the end of what is looked at of a mebibyte, and the rest after it."""
+    """A text whose line at fault has so many bytes before the end of what is looked at of a
+    mebibyte, and the rest after it."""
     faulty = example.replace("INT 0\n", "INT zz ", 1)
     before = LOOK_BYTES // 8 - length - faulty.index("INT") - len("%\n")
     return f"%{'p' * before}\n{faulty}{MORE}"
@@ -236,7 +243,8 @@ def little_memory():
 
 
 def of_its_digest(room):
-    """The digest of a text of 300 MB as FILE, and of one of 100 MB from a pipe, is that of Python's library."""
+    """The digest of a text of 300 MB as FILE, and of one of 100 MB from a pipe, is that of Python's
+    library."""
     path = room / "summed"
     for count, words in (8_571_000, [path]), (2_857_000, []):
         text = (
@@ -283,7 +291,8 @@ def of_one_name(room):
 
 
 def of_long_names(room):
-    """OUT of 40 MB, of a thousand names of 40 kB, new and FILE itself; and 300 MB to standard output."""
+    """OUT of 40 MB, of a thousand names of 40 kB, new and FILE itself; and 300 MB to standard
+    output."""
     text, kept = many(1, 0, 1000, True)
     text = text.replace(b"\nf", b"\n" + b"f" * 40_000)
     path, out = room / "named", room / "out"
@@ -313,7 +322,8 @@ def of_long_names(room):
 
 
 def beside_beginnings(room, proof, other):
-    """FILE, and OUT, beside a file of each of its name's beginnings: names that programs give to copies, and names at random."""
+    """FILE, and OUT, beside a file of each of its name's beginnings: names that programs give to
+    copies, and names at random."""
     dice = random.Random(16)
     names = [
         f"plan.vipr{end}"

@@ -1,11 +1,12 @@
 """Wrong versions of bench/plain_check.py by hand: the mistakes that checkers of this kind make.
 
-lax_rules.txt has them. Each begins with `##` and its words, and then has pieces of the model: lines with `-`, and those with
-`+` that are written for them. A piece may begin within a line. A line with `@` has values, for each of which there is a
-version with the value in place of each `@`; `kinds` are the kinds of numbers of made_wrong.py.
+lax_rules.txt has them. Each begins with `##` and its words, and then has pieces of the model: lines
+with `-`, and those with `+` that are written for them. A piece may begin within a line. A line with
+`@` has values, for each of which there is a version with the value in place of each `@`; `kinds`
+are the kinds of numbers of made_wrong.py.
 
-excused.txt names the versions, of these and of made_wrong.py, that no case of the format can tell, below `##` and the reason.
-A line of it is a name, or the beginning of names that ends with a `*`.
+excused.txt names the versions, of these and of made_wrong.py, that no case of the format can tell,
+below `##` and the reason. A line of it is a name, or the beginning of names that ends with a `*`.
 """
 import ast
 import re
@@ -27,7 +28,8 @@ def across(bits, left, right):
 
 
 def rules():
-    """The words of each wrong rule, and its pieces: what stands in the model, and what is written for it."""
+    """The words of each wrong rule, and its pieces: what stands in the model, and what is written
+    for it."""
     for block in re.split(r"^## ", RULES.read_text(), flags=re.M)[1:]:
         words, *lines = block.rstrip("\n").split("\n")
         values = [""]

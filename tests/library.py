@@ -1,5 +1,6 @@
 #!/usr/bin/env python3
-"""Builds and installs the library for C, links programs to it, and compares what they say with what `vipr check` does.
+"""Builds and installs the library for C, links programs to it, and compares what they say with what
+`vipr check` does.
 
 usage: tests/library.py [PROGRAM]     crates/vipr/out/vipr without it
 
@@ -42,7 +43,8 @@ def compiler(language):
 
 
 def hand_back(top):
-    """Puts the library that was built in a copy where `make lib` has it: later scripts needn't prove it once more."""
+    """Puts the library that was built in a copy where `make lib` has it: later scripts needn't
+    prove it once more."""
     for file in (top / "crates/vipr_c/out").glob("libvipr.*"):
         if top != TOP:
             shutil.copy2(file, TOP / file.relative_to(top))
@@ -134,7 +136,8 @@ def build(words, places=None):
 
 
 def look_at_symbols(prefix):
-    """Each call of the shared library has the version of its first release, which is its soname's number."""
+    """Each call of the shared library has the version of its first release, which is its soname's
+    number."""
     if shutil.which("nm"):
         said = run(["nm", "-D", "--defined-only", prefix / "lib/libvipr.so"]).stdout.decode()
         versions = set(re.findall(r"@@?(\w+)$", said, re.M))
@@ -197,7 +200,8 @@ def by_cmake(prefix, room):
 
 
 def callers(prefix, room):
-    """The callers of examples/, built where their compilers are there: what each is called, and its command."""
+    """The callers of examples/, built where their compilers are there: what each is called, and its
+    command."""
     header, lib = f"-I{prefix}/include", prefix / "lib"
     strict = ["-Wall", "-Wextra", "-Werror", "-O1", header]
     missing = [language for language in COMPILERS if not compiler(language)]
@@ -281,7 +285,8 @@ def look_at_callers(prefix, room):
 
 
 def texts(room):
-    """The files to check, and whether each is whole: each example, its beginnings of some lengths, and a text of 20 MB."""
+    """The files to check, and whether each is whole: each example, its beginnings of some lengths,
+    and a text of 20 MB."""
     large = room / "large.vipr"
     large.write_text(
         "VER 1.0 VAR 1 x INT 0 OBJ min 0 CON 1 0 a G 1 1 0 1 RTP range -inf inf SOL 0 DER 720000\n"
@@ -322,7 +327,8 @@ def answer(lines):
 
 
 def calls(path, whole):
-    """The calls on a file: their words, and what each has to give: the status, the text and the numbers."""
+    """The calls on a file: their words, and what each has to give: the status, the text and the
+    numbers."""
     said = run([PROGRAM, "explain", path])
     yield ["verified", 1, 0], (said.returncode, b"", [])
     yield ["check", 1, 0], (said.returncode, b"", ["answer", *answer(said.stdout)])
@@ -374,7 +380,8 @@ def ended(room, word):
 
 
 def compare(words, rows):
-    """Makes the calls of the rows in one process, and compares what it writes: a row has a call's words and its answer."""
+    """Makes the calls of the rows in one process, and compares what it writes: a row has a call's
+    words and its answer."""
     of_rows = [word for row, _ in rows for word in row]
     said = run([*words, *of_rows], timeout=LONG)
     at = 0

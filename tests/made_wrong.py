@@ -1,9 +1,11 @@
 """Wrong versions of bench/plain_check.py that are made by rule from its syntax tree.
 
-Each comparison is turned and made more or less strict, each condition is left out, each constant is moved, each loop loses its
-first or last round or all past a number of them, each operation is exchanged for another, each statement is left out, a
-choice always takes the same side, and each number is computed and compared as floating point, with a tolerance,
-to some decimal places or in a machine's words. Functions that only print are left alone, and so are numbers of causes and what tests vipr's limits.
+Each comparison is turned and made more or less strict, each condition is left out, each constant is
+moved, each loop loses its first or last round or all past a number of them, each operation is
+exchanged for another, each statement is left out, a choice always takes the same side, and each
+number is computed and compared as floating point, with a tolerance, to some decimal places or in a
+machine's words. Functions that only print are left alone, and so are numbers of causes and what
+tests vipr's limits.
 """
 import ast
 import operator
@@ -13,10 +15,11 @@ from functools import partial
 from pathlib import Path
 
 SOURCE = Path(__file__).resolve().parent.parent / "bench/plain_check.py"
-# what a wrong version is called, the lines of the source that it changes (None if each case reaches them), whether it may be
-# wrong past some number of things, and what makes it
+# what a wrong version is called, the lines of the source that it changes (None if each case reaches
+# them), whether it may be wrong past some number of things, and what makes it
 Version = namedtuple("Version", "name lines is_of_size make")
-# functions and variables that make no difference to the verdict, and what tests the limits of numbers, which are vipr's choice
+# functions and variables that make no difference to the verdict, and what tests the limits of
+# numbers, which are vipr's choice
 PRINTING = {
     "readable", "written", "claim", "hold", "verdict", "explained", "main", "name_ahead", "refuse", "solution"
 }  # fmt: skip
@@ -215,7 +218,8 @@ def children(node):
 
 
 def is_left_alone(node, function):
-    """Whether no rule applies to a node, nor to what is below: it makes no difference to the verdict, or only by a limit."""
+    """Whether no rule applies to a node, nor to what is below: it makes no difference to the
+    verdict, or only by a limit."""
     if isinstance(node, ast.FunctionDef):
         return node.name in PRINTING | LIMITS
     code = ast.unparse(node)
@@ -232,7 +236,8 @@ def is_left_alone(node, function):
 
 
 def places(node, function=""):
-    """Each node that may be exchanged: its function, itself, what puts another one in its place, and what may be put there."""
+    """Each node that may be exchanged: its function, itself, what puts another one in its place,
+    and what may be put there."""
     for child, put in children(node):
         if is_left_alone(child, function):
             continue
@@ -273,7 +278,8 @@ def made(tree, node, put, other):
 
 
 def versions():
-    """The wrong versions, each with a name of its own: the function, what stands there, and what is written for it."""
+    """The wrong versions, each with a name of its own: the function, what stands there, and what is
+    written for it."""
     tree, seen = ast.parse(SOURCE.read_text()), Counter()
     for function, node, put, other in list(places(tree)):
         placed = node.iter if isinstance(node, ast.comprehension) else node

@@ -1,4 +1,5 @@
-"""Tries `vipr-check-all`, for tests/python.py: what it says of files that are seen, unseen, changed, cut, or have hostile names."""
+"""Tries `vipr-check-all`, for tests/python.py: what it says of files that are seen, unseen,
+changed, cut, or have hostile names."""
 import ctypes
 import gzip
 import hashlib
@@ -275,8 +276,8 @@ def resumed(many):
 
 
 def new_files(many):
-    """A row of a file that changed just before its check has no time, and never counts: on a disk whose times are the user's,
-    or whole seconds, another text may have the same one."""
+    """A row of a file that changed just before its check has no time, and never counts: on a disk
+    whose times are the user's, or whole seconds, another text may have the same one."""
     many.put({"n/new.vipr": GOOD})
     results = {"n/new.vipr": "verified"}
     many.wants("a new file", ["n"], 0, results)
@@ -342,7 +343,8 @@ def hostile_names(many):
 
 
 def other_programs(many):
-    """Nothing but the checker's own lines is a verdict; runs and unpackers are ended at their limits."""
+    """Nothing but the checker's own lines is a verdict; runs and unpackers are ended at their
+    limits."""
     many.put({"g/good.vipr": GOOD, "h/good.vipr.zst": GOOD, "g/split.vipr": SPLIT})
     plain, packed = ["g/good.vipr"], ["h/good.vipr.zst"]
     fault, unpack, late = (
@@ -409,7 +411,8 @@ def other_programs(many):
 
 
 def parts(many):
-    """Each file is of one part, whatever is added between the runs, and a part without files is no fault."""
+    """Each file is of one part, whatever is added between the runs, and a part without files is no
+    fault."""
     names = [f"i/{at}.vipr" for at in range(40)]
     many.put(dict.fromkeys(names, GOOD))
     seen = []
@@ -512,7 +515,8 @@ def is_there(number):
 
 
 def take_signals():
-    """Ends at each signal, even if this script was started by nohup or by a shell in the background."""
+    """Ends at each signal, even if this script was started by nohup or by a shell in the
+    background."""
     for number in (signal.SIGTERM, signal.SIGHUP, signal.SIGINT):
         signal.signal(number, signal.SIG_DFL)
 

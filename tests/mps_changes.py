@@ -1,7 +1,7 @@
-"""Changes of examples/plan.mps or examples/plan.vipr, and what `vipr-compare-mps` prints of the two then, but for its line
-`cause ..`. Each is: what is changed, in which of the two, the piece and what is in its place, the lines, and the options.
-None is the whole text; a line feed and BND are replaced everywhere. tests/python.py counts the constraints of
-the certificate anew."""
+"""Changes of examples/plan.mps or examples/plan.vipr, and what `vipr-compare-mps` prints of the two
+then, but for its line `cause ..`. Each is: what is changed, in which of the two, the piece and what
+is in its place, the lines, and the options. None is the whole text; a line feed and BND are
+replaced everywhere. tests/python.py counts the constraints of the certificate anew."""
 
 CHANGES = [
     ("as it is", "file", "", "", ["problem range 281/4 281/4"], {}),

@@ -1,8 +1,10 @@
-"""Random models of 100 to 300 rows and columns, as an MPS file and as a certificate that differ in exactly one place.
+"""Random models of 100 to 300 rows and columns, as an MPS file and as a certificate that differ in
+exactly one place.
 
-A model has rows of 100 entries and more, two rows of type N whose names tell nothing, and a column `*y`. A difference is a side
-of a row, an entry, a coefficient of the objective, an integer column, a bound, the other row of type N as the objective, or `FR`
-after `UP`. Each is anywhere, or as far behind as it can be. tests/python.py tries whether vipr-compare-mps finds the place.
+A model has rows of 100 entries and more, two rows of type N whose names tell nothing, and a column
+`*y`. A difference is a side of a row, an entry, a coefficient of the objective, an integer column,
+a bound, the other row of type N as the objective, or `FR` after `UP`. Each is anywhere, or as far
+behind as it can be. tests/python.py tries whether vipr-compare-mps finds the place.
 """
 import copy
 from collections import namedtuple
@@ -11,7 +13,8 @@ from fractions import Fraction
 
 LONG, SHORT = 100, 4  # entries of each eighth row, and of the others
 OBJECTIVES = ["obj", "cost", "COST", "profit", "z"]
-# what differs: the file's model, the certificate's, and what has to be found: in the first line, and in a later one
+# what differs: the file's model, the certificate's, and what has to be found: in the first line,
+# and in a later one
 Difference = namedtuple("Difference", "file certificate line shown")
 # the lower and the upper bound of a column
 BOUNDS = [(0, None), (0, 20), (-9, 30), (None, 30), (3, 9)]
@@ -19,8 +22,9 @@ BOUNDS = [(0, None), (0, 20), (-9, 30), (None, 30), (3, 9)]
 
 @dataclass
 class Model:
-    """A direction and two objectives, of which the first one counts; of each row its coefficients and its sides; of each column
-    whether it is integer, and its bounds. None is an infinite side. `free` is the column that has FR after its other bounds.
+    """A direction and two objectives, of which the first one counts; of each row its coefficients
+    and its sides; of each column whether it is integer, and its bounds. None is an infinite side.
+    `free` is the column that has FR after its other bounds.
     """
 
     maximizes: bool
@@ -79,7 +83,8 @@ def decimal(value):
 
 
 class File:
-    """The text of an MPS file, and at which lines its rows and the last words on its columns are."""
+    """The text of an MPS file, and at which lines its rows and the last words on its columns
+    are."""
 
     def __init__(self, model, dice):
         self.dice, self.lines, self.rows, self.columns = dice, [], [], []
@@ -164,7 +169,8 @@ def kind(sides):
 
 
 class Certificate:
-    """The text of a certificate of a model, and at which places its variables and constraints are, in an order of its own."""
+    """The text of a certificate of a model, and at which places its variables and constraints are,
+    in an order of its own."""
 
     def __init__(self, model, dice):
         self.variables = model.variables
@@ -237,7 +243,8 @@ def asks_more(one, other):
 
 
 def differing(model, what, dice, is_last):
-    """A copy of a model in which one thing of a kind is another one, and where: a row or a column."""
+    """A copy of a model in which one thing of a kind is another one, and where: a row or a
+    column."""
     other, at = copy.deepcopy(model), None
 
     def column(columns):
@@ -305,7 +312,8 @@ def difference(model, what, dice, is_last):
 
 
 def weaker_or_not(what, at, sides, lines, certificate):
-    """Where sides of a file and of a certificate differ: at the constraint that asks more, or at the file's line that does."""
+    """Where sides of a file and of a certificate differ: at the constraint that asks more, or at
+    the file's line that does."""
     sense = asks_more(sides[1], sides[0])
     if sense:
         return f"207 at CON {certificate.constraint(what, at, sense)}", "cause NotInFile"

@@ -3,22 +3,23 @@
 
 usage: tests/output.py [PROGRAM]     crates/vipr/out/vipr without it
 
-- Each set of the descriptors 0 to 2 is closed at the start: a closed stream fails as a closed stream does, and no file
-  that the program opens is one of them.
-- `tighten --out OUT`, OUT new, there before and FILE itself too: with a file size limit, a full device and calls that
-  fail it ends with the old text, the whole new one, or isn't there, and no file beside it is there. It keeps its
-  permissions and owner, and a link stays a link. Streams and devices are written in place, and a mount point is left.
-- While a run reads FILE or waits in a system call, the file beside OUT is moved, removed or replaced, and another OUT
-  comes, or a link: no file but the run's own is given away, renamed or removed. Files whose names are like those of its
-  own files stay.
+- Each set of the descriptors 0 to 2 is closed at the start: a closed stream fails as a closed
+  stream does, and no file that the program opens is one of them.
+- `tighten --out OUT`, OUT new, there before and FILE itself too: with a file size limit, a full
+  device and calls that fail it ends with the old text, the whole new one, or isn't there, and no
+  file beside it is there. It keeps its permissions and owner, and a link stays a link. Streams and
+  devices are written in place, and a mount point is left.
+- While a run reads FILE or waits in a system call, the file beside OUT is moved, removed or
+  replaced, and another OUT comes, or a link: no file but the run's own is given away, renamed or
+  removed. Files whose names are like those of its own files stay.
 - A file that is written in place is locked: another run leaves it.
 - Each line on standard error is one write.
 
 tests/kills.py kills runs, and tests/races.py changes names at random moments.
 
-Prints each run that answers something else, and last `output: N runs, F failed`. What the machine doesn't have (a
-small file system of its own, a user without rights, bindfs, strace) is skipped, and a line says so. The exit status is 1
-if a run failed.
+Prints each run that answers something else, and last `output: N runs, F failed`. What the machine
+doesn't have (a small file system of its own, a user without rights, bindfs, strace) is skipped, and
+a line says so. The exit status is 1 if a run failed.
 """
 import contextlib
 import fcntl
@@ -90,7 +91,8 @@ def closer(closed):
 
 
 def closed_streams():
-    """Each set of 0 to 2 closed, for each command, over FILE and standard input, and OUT absent, new, there or FILE."""
+    """Each set of 0 to 2 closed, for each command, over FILE and standard input, and OUT absent,
+    new, there or FILE."""
     sets = [streams for count in range(4) for streams in itertools.combinations(range(3), count)]
     for command, closed, named, text in itertools.product(
         ("check", "explain", "show", "tighten", "--help", "nothing"),
@@ -149,7 +151,8 @@ def memory_limit(size):
 
 
 def limited():
-    """A limit of the size of files, of each length up to the text's: a failed write, and OUT as it was."""
+    """A limit of the size of files, of each length up to the text's: a failed write, and OUT as it
+    was."""
     for size in range(0, len(TIGHT) + 2):
         for kind in ("file", "there", "link", "new"):
             folder, file = fresh()
@@ -251,7 +254,8 @@ def mount(point, *options):
 
 
 def full_device():
-    """A file system that has no room for the new text beside the old one: OUT is as before, or has the first N bytes."""
+    """A file system that has no room for the new text beside the old one: OUT is as before, or has
+    the first N bytes."""
     folder, text = Path(tempfile.mkdtemp(dir=WORK)), many(40_000)
     tight = run(["tighten"], text)[0]
     with mount(
@@ -338,7 +342,8 @@ def modes():
 
 
 def access_list():
-    """A new file has no access control list, and the group has what the list's mask was; a text that is copied keeps it."""
+    """A new file has no access control list, and the group has what the list's mask was; a text
+    that is copied keeps it."""
     folder, file = fresh()
     name, no_one = "system.posix_acl_access", 0xFFFFFFFF
     # the owner rw, user 1234 rw, the group nothing, the mask rw, others nothing
@@ -370,7 +375,8 @@ def access_list():
 
 
 def without_rights():
-    """A user who may write OUT, and not its folder or not give it its owner, writes in place; or may not write at all."""
+    """A user who may write OUT, and not its folder or not give it its owner, writes in place; or
+    may not write at all."""
 
     def user():
         os.setgroups([])
@@ -487,7 +493,8 @@ def relative():
 
 
 def like_its_own():
-    """A file whose name is that of a new file of a run, or is like one, is as any other: as FILE, as OUT and beside them."""
+    """A file whose name is that of a new file of a run, or is like one, is as any other: as FILE,
+    as OUT and beside them."""
     is_traced = texts.may_trace()
     for middle in "keep", "my-notes", "0123456789abcdef":
         name = f".vipr-tighten-{middle}.tmp"
@@ -565,8 +572,8 @@ def in_place():
 
 
 def locked(printed):
-    """A file that is written in place, and that another run or program has locked, is left as it is; a lock isn't asked for
-    elsewhere."""
+    """A file that is written in place, and that another run or program has locked, is left as it
+    is; a lock isn't asked for elsewhere."""
     printed.write_bytes(b"held")
     with printed.open("ab") as stream:
         fcntl.flock(stream, fcntl.LOCK_EX)
@@ -589,7 +596,8 @@ def locked(printed):
 
 
 def open_files(folder, printed):
-    """A name that leads to an open file leads to that, by however many links, and the file isn't replaced."""
+    """A name that leads to an open file leads to that, by however many links, and the file isn't
+    replaced."""
     links = [folder / "near", folder / "far", folder / "relative", folder / "by_number"]
     links[0].symlink_to("/dev/stdout")
     links[1].symlink_to("near")
@@ -658,8 +666,8 @@ def mounted():
 
 
 def refusing_disk():
-    """On a disk that refuses to change permissions OUT is written in place, and replaced if the new file has its permissions
-    anyway. On one that only says that it changes them, OUT stays as it is.
+    """On a disk that refuses to change permissions OUT is written in place, and replaced if the new
+    file has its permissions anyway. On one that only says that it changes them, OUT stays as it is.
     """
     if not shutil.which("bindfs"):
         CHECKS.skip("bindfs", "no disk that refuses permissions is tried")
@@ -710,8 +718,9 @@ LIMIT = 50
 
 
 class Way(NamedTuple):
-    """What makes a run end with this status: its text (none if FILE is a folder), what is done before it begins, and which
-    call of a name fails (-1 is the last one), for these kinds of OUT."""
+    """What makes a run end with this status: its text (none if FILE is a folder), what is done
+    before it begins, and which call of a name fails (-1 is the last one), for these kinds of
+    OUT."""
 
     status: int
     text: bytes = LOOSE
@@ -721,7 +730,8 @@ class Way(NamedTuple):
     outs: tuple = OUTS
 
 
-# how a run ends; what OUT is then if it is new, a regular file, written in place, or `> OUT`; and what makes it end so
+# how a run ends; what OUT is then if it is new, a regular file, written in place, or `> OUT`; and
+# what makes it end so
 ENDS = (
     ("status 0", (NEW, NEW, NEW, NEW), [Way(0)]),
     (
@@ -761,7 +771,8 @@ ENDS = (
 
 
 def ends():
-    """What OUT is after each end of a run is what the page has in its table, which has no other row."""
+    """What OUT is after each end of a run is what the page has in its table, which has no other
+    row."""
     page = (TOP / "docs/SECURITY.md").read_text(encoding="utf-8")
     table = page[page.index("| The run ends with |") :].split("\n\n")[0].split("\n")[2:]
     rows = [f'| {end} | {" | ".join(cells)} |' for end, cells, _ in ENDS]
@@ -819,8 +830,8 @@ def count_of(call, kind):
 
 
 def each_call_to_a_stream_fails():
-    """Each call of a run that writes in place or to standard output fails in turn, from FILE's opening on. What OUT has is what
-    it had, or the bytes that the fault counts."""
+    """Each call of a run that writes in place or to standard output fails in turn, from FILE's
+    opening on. What OUT has is what it had, or the bytes that the fault counts."""
     for kind in "in place", ">":
         lines_of, first = calls_to(kind)
         names_of_calls = [line.split("(")[0] for line in lines_of]
@@ -891,7 +902,8 @@ def traced(words, *settings, stdout=subprocess.PIPE):
 
 
 def calls():
-    """The file is closed before the line is written; a call that fails is a failed write, and OUT as it was."""
+    """The file is closed before the line is written; a call that fails is a failed write, and OUT
+    as it was."""
     folder, file = fresh()
     if not texts.may_trace():
         CHECKS.skip("strace that may trace", "the calls of a run are left out")
@@ -1031,8 +1043,8 @@ def call_at(file, word):
 
 
 def failing_rights():
-    """A file whose owner or permissions the new one may not have is written in place, and is left if they can't be given
-    else."""
+    """A file whose owner or permissions the new one may not have is written in place, and is left
+    if they can't be given else."""
     folder, file = fresh()
     out = folder / "out"
     errors = *REFUSED, "EACCES", "EIO", "ENOSPC", "EDQUOT", "EROFS", "EINVAL"
@@ -1088,8 +1100,9 @@ def failing_rights():
 
 
 def each_call_fails():
-    """Each call of a run fails in turn, from FILE's opening on. OUT keeps its old text, and the answer is a fault; or it has
-    the whole new one and the same permissions, and the answer is no fault unless the call came after the name.
+    """Each call of a run fails in turn, from FILE's opening on. OUT keeps its old text, and the
+    answer is a fault; or it has the whole new one and the same permissions, and the answer is no
+    fault unless the call came after the name.
     """
     for kind in "new", "there", "FILE":
         folder, file, out = room_of(kind)
@@ -1132,7 +1145,8 @@ def one_call_fails(kind, inject, may_leave, is_named):
 
 
 def during(words, call, folder, size, act, options=()):
-    """A run that waits in a system call while something is done to the file beside OUT, once that has its size."""
+    """A run that waits in a system call while something is done to the file beside OUT, once that
+    has its size."""
     CHECKS.count += 1
     with subprocess.Popen(
         [
@@ -1161,7 +1175,8 @@ def during(words, call, folder, size, act, options=()):
 
 
 def swapped():
-    """Another file gets the name of the one beside OUT: it keeps its owner, and is neither renamed nor removed."""
+    """Another file gets the name of the one beside OUT: it keeps its owner, and is neither renamed
+    nor removed."""
     failed = b"", b"fault write after %d\n" % len(TIGHT), 3
 
     def put(path):
@@ -1218,7 +1233,8 @@ def swapped():
 
 
 def moved_behind_a_link(failed):
-    """OUT is a link. Its file is moved, the link is set to that file's new name, and another file gets the old name."""
+    """OUT is a link. Its file is moved, the link is set to that file's new name, and another file
+    gets the old name."""
     folder, file = fresh()
     link, old, moved = (folder / name for name in ("link", "old", "moved"))
     old.write_bytes(b"before")
@@ -1239,7 +1255,8 @@ def moved_behind_a_link(failed):
 
 
 def unseen():
-    """No second names on the disk, and OUT's place can't be looked at: the new file isn't put there."""
+    """No second names on the disk, and OUT's place can't be looked at: the new file isn't put
+    there."""
     folder, file = fresh()
     out, no_links = folder / "out", ("-e", "inject=link:error=EPERM")
     words = ["tighten", file, "--out", out]
@@ -1256,7 +1273,8 @@ def unseen():
 
 
 def not_removed():
-    """The name of the new file beside a new OUT can't be removed: it stays as a second name of OUT."""
+    """The name of the new file beside a new OUT can't be removed: it stays as a second name of
+    OUT."""
     folder, file = fresh()
     out = folder / "out"
     got, _ = traced(["tighten", file, "--out", out], "-e", "inject=unlink:error=EIO")
@@ -1269,8 +1287,8 @@ def not_removed():
 
 
 def overtaken():
-    """A file comes where none was, or another one where one was, and another run writes into the folder, while a run goes
-    on."""
+    """A file comes where none was, or another one where one was, and another run writes into the
+    folder, while a run goes on."""
     for options in (), ("-e", "inject=link:error=EPERM"):
         folder, file = fresh()
         out = folder / "out"
@@ -1340,7 +1358,8 @@ def overtaken():
 
 
 def pieces(change):
-    """A text in pieces, between which something is done. The first piece was read once the second one is written."""
+    """A text in pieces, between which something is done. The first piece was read once the second
+    one is written."""
     yield LOOSE[:60]
     yield LOOSE[60:61]
     change()
@@ -1348,7 +1367,8 @@ def pieces(change):
 
 
 def same_inode():
-    """OUT is a link that leads to a file of another file system, with the same inode, once the certificate is read."""
+    """OUT is a link that leads to a file of another file system, with the same inode, once the
+    certificate is read."""
     link, one, two = fresh()[0] / "link", *(Path(tempfile.mkdtemp(dir=WORK)) for _ in range(2))
     own = "-t", "tmpfs", "-o", "size=1m", "tmpfs"
     with mount(one, *own) as is_made, mount(two, *own) as is_other_made:
@@ -1373,7 +1393,8 @@ def same_inode():
 
 
 def changed_while_it_reads():
-    """OUT becomes another thing while the certificate is read: the run fails, and leaves what is there."""
+    """OUT becomes another thing while the certificate is read: the run fails, and leaves what is
+    there."""
     puts = {
         "a link": lambda out: out.symlink_to("mine"),
         "a file": lambda out: out.write_bytes(b"theirs"),

@@ -1,4 +1,5 @@
-"""Tries packed files, for tests/python.py: every command says of the same ones that they can't be unpacked."""
+"""Tries packed files, for tests/python.py: every command says of the same ones that they can't be
+unpacked."""
 
 import bz2
 import gzip
@@ -76,8 +77,8 @@ def packed_files(check, room, words, program, has_library):
 
 
 def closed_streams(check, words, program):
-    """A command without standard output ends as one that can't write, and never with the status of a verdict. A full standard
-    error changes no status."""
+    """A command without standard output ends as one that can't write, and never with the status of
+    a verdict. A full standard error changes no status."""
     certificate = TOP / "examples/plan.vipr"
     arguments = {
         "audit": [TOP / "examples/plan.mps", certificate],

@@ -4,32 +4,40 @@
 usage: tests/pages.py [PROGRAM]     crates/vipr/out/vipr without it; with it no block marked `sh` is run
 
 In README.md, CONTRIBUTING.md and the pages of docs/ and examples/ it looks at
-- blocks marked `console`: each line `$ COMMAND` is run as a reader would, in one shell for all blocks of a section, at the top
-  of the repository, with the built program as `vipr` on the path. The lines below it are what is printed on standard output
-  and standard error, in the order in which they come; after a command whose last line is `$ echo $?` stands its status.
-  The home folder is empty, TMPDIR isn't set, and a variable that isn't set ends the shell. The commands of
-  docs/TUTORIAL.md are run in a folder with a link to the examples and the files of its blocks marked `vipr as NAME`;
-- blocks marked with a file's name, as `vipr examples/infeasible.vipr`: they are that file, or a part of it, line by line;
-- tables below a line `Changes of [..](..):`, with the columns `In place of`, `Write` and `Printed` last: each row changes
-  one piece of the file that the line names, and `check` prints the last column as its first line;
-- the tables of examples/README.md: each file has a row, with the verdict that `check` prints, and behind it what `explain`
-  prints, or its model under bench/ where the program hasn't that command; a file that a script makes is what it makes;
+- blocks marked `console`: each line `$ COMMAND` is run as a reader would, in one shell for all
+  blocks of a section, at the top of the repository, with the built program as `vipr` on the path.
+  The lines below it are what is printed on standard output and standard error, in the order in
+  which they come; after a command whose last line is `$ echo $?` stands its status. The home folder
+  is empty, TMPDIR isn't set, and a variable that isn't set ends the shell. The commands of
+  docs/TUTORIAL.md are run in a folder with a link to the examples and the files of its blocks
+  marked `vipr as NAME`;
+- blocks marked with a file's name, as `vipr examples/infeasible.vipr`: they are that file, or a
+  part of it, line by line;
+- tables below a line `Changes of [..](..):`, with the columns `In place of`, `Write` and `Printed`
+  last: each row changes one piece of the file that the line names, and `check` prints the last
+  column as its first line;
+- the tables of examples/README.md: each file has a row, with the verdict that `check` prints, and
+  behind it what `explain` prints, or its model under bench/ where the program hasn't that command;
+  a file that a script makes is what it makes;
 - the pictures of docs/BENCHMARKS.md, which are drawn from its tables.
 
-In the sources it looks at blocks in doc comments that are marked with a file's name: they are a part of that file, at
-whatever indentation. Each call of DOCUMENTED has one.
+In the sources it looks at blocks in doc comments that are marked with a file's name: they are a
+part of that file, at whatever indentation. Each call of DOCUMENTED has one.
 
-Commands whose output isn't shown (a clone, an installation) stand in blocks marked `sh`. Each program's name in them is
-known: `make` with a target that there is, or a program of KNOWN. Those of the pages of RUN are run as they stand there, in
-this order, in a folder as a reader has it: the name URL is this repository, and the home folder is empty. Those of
-README.md begin where a reader begins, the others at the top of the clone that README's first command made. What was proved
-and built here stands in the clone, so that nothing is proved twice. What the pages speak of is there: a folder
-`certificates` with the examples, `certificate.vipr`, and `check.sh`, which is the page's own. After each block
-it looks for what that is to leave: the verdict that was printed, the files installed and removed again, the statuses of
-many files. `make test` and the scripts that it runs aren't run, as they are being run.
+Commands whose output isn't shown (a clone, an installation) stand in blocks marked `sh`. Each
+program's name in them is known: `make` with a target that there is, or a program of KNOWN. Those of
+the pages of RUN are run as they stand there, in this order, in a folder as a reader has it: the
+name URL is this repository, and the home folder is empty. Those of README.md begin where a reader
+begins, the others at the top of the clone that README's first command made. What was proved and
+built here stands in the clone, so that nothing is proved twice. What the pages speak of is there: a
+folder `certificates` with the examples, `certificate.vipr`, and `check.sh`, which is the page's
+own. After each block it looks for what that is to leave: the verdict that was printed, the files
+installed and removed again, the statuses of many files. `make test` and the scripts that it runs
+aren't run, as they are being run.
 
-A command that needs a program that isn't installed here, as `parallel`, is left out, and a line says so. For programs that act
-outside a reader's folder, as `sbatch`, there are scripts at the head of the path, so those of the machine are never run.
+A command that needs a program that isn't installed here, as `parallel`, is left out, and a line
+says so. For programs that act outside a reader's folder, as `sbatch`, there are scripts at the head
+of the path, so those of the machine are never run.
 
 Prints each fault, and last `pages: N checks, F failed`; the exit status is 1 if one failed.
 """
@@ -151,7 +159,8 @@ def check(good, page, line, what):
 
 
 def shell(words, home, place, before, flags="-uc"):
-    """The status of a reader's shell in a folder, and what it prints, with these folders before those of the path."""
+    """The status of a reader's shell in a folder, and what it prints, with these folders before
+    those of the path."""
     environment = {
         name: value for name, value in os.environ.items() if name not in ("TMPDIR", "MAKEFLAGS")
     }
@@ -178,8 +187,9 @@ def shell(words, home, place, before, flags="-uc"):
 
 
 def put_stand_ins(folder, top):
-    """Scripts in place of programs that act outside a reader's folder: those of the machine are never run. `sbatch` runs each
-    task in turn, and one that would install something fails. The commands of BESIDE are those of the repository.
+    """Scripts in place of programs that act outside a reader's folder: those of the machine are
+    never run. `sbatch` runs each task in turn, and one that would install something fails. The
+    commands of BESIDE are those of the repository.
     """
     texts = {name: 'echo "$0 is not run by a test" >&2; exit 1' for name in OUTSIDE}
     texts[
@@ -203,7 +213,8 @@ def commands_of():
 
 
 def console(page, blocks, home, place):
-    """Runs the commands of a section's blocks in one shell, with a mark in front of the output of each."""
+    """Runs the commands of a section's blocks in one shell, with a mark in front of the output of
+    each."""
     commands, wanted = [], []
     for line, text in blocks:
         needed = re.search(r"^[$>] .*?\b(parallel|xz|gzip|zstd|pv|man|fish|zsh)\b", text, re.M)
@@ -331,7 +342,8 @@ def documented():
 
 
 def examples(commands):
-    """Each example has one row, with its verdict, and with its explanation where the program gives one."""
+    """Each example has one row, with its verdict, and with its explanation where the program gives
+    one."""
     page = "examples/README.md"
     rows = {}
     folder = TOP / "examples"
@@ -417,7 +429,8 @@ class Reader:
         return shell(words, self.home, folder, [self.home / ".local/bin", self.room / "bin"], "-ec")
 
     def take_work(self):
-        """Puts what differs here from the last commit into the clone, and what was proved and built."""
+        """Puts what differs here from the last commit into the clone, and what was proved and
+        built."""
         changed = (
             self.run("git ls-files -m -o --exclude-standard", TOP)[1] if self.has_history else ""
         )
@@ -432,7 +445,8 @@ class Reader:
             shutil.copytree(out, self.clone / out.relative_to(TOP), dirs_exist_ok=True)
         kit.take_over(self.clone)
         if self.run(f"make -q {ARCHIVE}", TOP)[0] == 0:
-            # tests/library.py built it from what stands here: it is older than the clone's files, and isn't out of date
+            # tests/library.py built it from what stands here: it is older than the clone's files,
+            # and isn't out of date
             os.utime(self.clone / ARCHIVE)
 
     def lay_out_files(self):

@@ -3,19 +3,26 @@
 
 usage: tests/python.py [PROGRAM [PART ..]]     crates/vipr/out/vipr without it; a part is a function below, as `comparisons`
 
-- The package is installed from a copy of python/ into a folder, without a network, if this Python has pip; else its commands
-  are run from python/ itself, with a word.
-- The reader answers as `vipr show`: on the examples, on damaged texts, on numbers with signs, and on texts of 4 MB.
+- The package is installed from a copy of python/ into a folder, without a network, if this Python
+  has pip; else its commands are run from python/ itself, with a word.
+- The reader answers as `vipr show`: on the examples, on damaged texts, on numbers with signs, and
+  on texts of 4 MB.
 - Texts in any buffer are taken; mypy and ruff find nothing, if they are installed.
-- The calls give what the program prints, if `make lib` built the library here; else they are left out, with a word.
-- compare-mps gives the lines of tests/mps_changes.py for changes of one MPS file and one certificate; it finds each example
-  the same as an MPS file that is made of it; on random pairs it answers as a loop over all pairs of conditions does. A
-  packed file that is cut is status 3.
-- stats gives the goal of `vipr explain`, as many needed derivations as `vipr tighten` keeps, and the constraints that they name.
-- picture writes well-formed XML, with a box for each derivation, and the page's picture is as it is in docs/.
-- Each command's man page and completions say what its parser does: each flag and what it is for, and the words of a value.
-- Short texts that stand for long rows or large sets of assumptions are read within limits of memory and processor time.
-- check-all is tried by tests/many_files.py: each file has a row, what can't be seen too, and goes on after a stop.
+- The calls give what the program prints, if `make lib` built the library here; else they are left
+  out, with a word.
+- compare-mps gives the lines of tests/mps_changes.py for changes of one MPS file and one
+  certificate; it finds each example the same as an MPS file that is made of it; on random pairs it
+  answers as a loop over all pairs of conditions does. A packed file that is cut is status 3.
+- stats gives the goal of `vipr explain`, as many needed derivations as `vipr tighten` keeps, and
+  the constraints that they name.
+- picture writes well-formed XML, with a box for each derivation, and the page's picture is as it is
+  in docs/.
+- Each command's man page and completions say what its parser does: each flag and what it is for,
+  and the words of a value.
+- Short texts that stand for long rows or large sets of assumptions are read within limits of memory
+  and processor time.
+- check-all is tried by tests/many_files.py: each file has a row, what can't be seen too, and goes
+  on after a stop.
 - audit is tried by tests/audits.py: what it says of a model and a certificate, and its exit status.
 
 Prints each fault, and last `python: N checks, F failed`; the exit status is 1 if one failed.
@@ -306,7 +313,8 @@ def calls(texts):
 
 
 def inputs(room):
-    """A text in any buffer of bytes gives what its bytes give, and a string is a TypeError with a sentence."""
+    """A text in any buffer of bytes gives what its bytes give, and a string is a TypeError with a
+    sentence."""
     text = EXAMPLES[TOP / "examples/plan.vipr"]
     path = room / "plan.vipr"
     path.write_bytes(text)
@@ -392,7 +400,8 @@ def metadata(room):
 
 
 def oldest(room):
-    """The package and the example of a solver run in the oldest Python that the package is for, if it is here."""
+    """The package and the example of a solver run in the oldest Python that the package is for, if
+    it is here."""
     version = re.search(r'requires-python = ">=(.*)"', (TOP / "python/pyproject.toml").read_text())
     name = f"python{version[1]}"
     places = [shutil.which(name), *Path.home().glob(f".pyenv/versions/{version[1]}*/bin/{name}")]
@@ -429,7 +438,8 @@ proof = vipr.read(bytearray())
 
 
 def types(room):
-    """The package and a caller's code have no faults of types or style, if the tools are installed."""
+    """The package and a caller's code have no faults of types or style, if the tools are
+    installed."""
     caller = room / "caller.py"
     caller.write_text(CALLER)
     for tool, words in (
@@ -476,7 +486,8 @@ def causes():
 
 
 def changes():
-    """The changes of tests/mps_changes.py: what is changed, both texts then, the lines to be printed, and the options."""
+    """The changes of tests/mps_changes.py: what is changed, both texts then, the lines to be
+    printed, and the options."""
     base = {
         "file": (TOP / "examples/plan.mps").read_text(),
         "certificate": (TOP / "examples/plan.vipr").read_text(),
@@ -532,7 +543,8 @@ def written_mps(problem):
 
 
 def follows(wanted, conditions, whole):
-    """Whether one condition of some says as much as a condition: the definition, with no index over them."""
+    """Whether one condition of some says as much as a condition: the definition, with no index over
+    them."""
     row, sense, bound = wanted
 
     def rounded(row, sense, bound):
@@ -564,7 +576,8 @@ def halves(row, sense, bound):
 
 
 def random_pair(dice):
-    """An MPS file and a certificate of a few rows, mostly the same problem, and whether they are it by the definition."""
+    """An MPS file and a certificate of a few rows, mostly the same problem, and whether they are it
+    by the definition."""
     integers = dice.sample([0, 1], dice.randrange(3))
     rows = [
         (
@@ -635,7 +648,8 @@ def comparisons(dice):
 
 
 def one_place():
-    """Models of hundreds of rows that are the same, and that differ in one place, which has to be found."""
+    """Models of hundreds of rows that are the same, and that differ in one place, which has to be
+    found."""
     dice = random.Random(8)
     for _ in range(3):
         model = places.random_model(dice)
@@ -650,8 +664,9 @@ def one_place():
             )
 
 
-# a file of one column x: its row with right-hand side 5 (or none), what RANGES and BOUNDS have, the options; and the bounds and
-# the kind of x in a certificate that has the same problem, a piece of which makes another one
+# a file of one column x: its row with right-hand side 5 (or none), what RANGES and BOUNDS have, the
+# options; and the bounds and the kind of x in a certificate that has the same problem, a piece of
+# which makes another one
 SIDES = [
     ("E", "r 2", "FR x", {}, "", "G5 L7"),
     ("E", "r -2", "FR x", {}, "", "G3 L5"),
@@ -737,8 +752,8 @@ def sides():
 
 
 def many_rows():
-    """A file of 40 rows, of which each other one has no right-hand side, while the objective has one, and a row of type N
-    at their end."""
+    """A file of 40 rows, of which each other one has no right-hand side, while the objective has
+    one, and a row of type N at their end."""
     rows = range(40)
     model = [
         "NAME",
@@ -821,7 +836,8 @@ def one_hash(model, path, count):
 
 
 def hostile(room, words):
-    """Short texts that stand for long rows, for large sets of assumptions and for long sums: no command is slow for them."""
+    """Short texts that stand for long rows, for large sets of assumptions and for long sums: no
+    command is slow for them."""
     texts = {
         name: families.__dict__[name]
         for name in ("growing", "growing_at_the_front", "joined_sets", "objective_kept", "one_sum")
@@ -894,7 +910,8 @@ def hostile(room, words):
 
 
 def needed_alone():
-    """The constraints that a proof needs are those that `tighten` keeps references to, and without the others it is a proof."""
+    """The constraints that a proof needs are those that `tighten` keeps references to, and without
+    the others it is a proof."""
     for path, text in EXAMPLES.items():
         proof = vipr.read(text)
         if not proof or run([PROGRAM, "check"], text).returncode:
@@ -915,7 +932,8 @@ def needed_alone():
 
 
 def alive():
-    """A terminal shows how far a long run is, and nothing of a short one; no other stream shows anything."""
+    """A terminal shows how far a long run is, and nothing of a short one; no other stream shows
+    anything."""
     for is_terminal, seconds, wanted in (
         (True, 3, "reading 50 %, 3 s"),
         (True, 1, ""),
@@ -946,7 +964,8 @@ def alive():
 
 
 def shows_how_far(room):
-    """Each command that reads a whole proof or a model says on a terminal what it does, and takes the line away."""
+    """Each command that reads a whole proof or a model says on a terminal what it does, and takes
+    the line away."""
     example, model = str(TOP / "examples/plan.vipr"), str(TOP / "examples/plan.mps")
     for name, words, parts in (
         ("stats", [example], ("reading", "assumptions", "sums")),
@@ -1059,7 +1078,8 @@ def pictures(texts):
 
 
 def commands(room, words):
-    """Each command as a user has it: its help, a file that is missing, a damaged text, a name of a stranger, a large text."""
+    """Each command as a user has it: its help, a file that is missing, a damaged text, a name of a
+    stranger, a large text."""
     example = TOP / "examples/branch_and_bound.vipr"
     model = room / "model.mps.gz"
     model.write_bytes(gzip.compress(written_mps(vipr.read_problem(EXAMPLES[example]))))
@@ -1170,12 +1190,14 @@ def commands(room, words):
     packed(room, words["compare-mps"], model, example)
 
 
-# (what a command's help has, as `-o TABLE, --out TABLE`, `--profile {1,2}` or `PATH`, and what it says of it)
+# (what a command's help has, as `-o TABLE, --out TABLE`, `--profile {1,2}` or `PATH`, and what it
+# says of it)
 HELPED = re.compile(r"^  (\S.*?)(?:  +|\n +)(\S.*(?:\n   .*)*)", re.M)
 
 
 def manual(room, words):
-    """The man page and the completions of each command agree with its help, and change with its parser."""
+    """The man page and the completions of each command agree with its help, and change with its
+    parser."""
     check(
         [f"vipr-{name}" for name in NAMES] == sorted(build_manual.COMMANDS),
         f"the commands are {build_manual.COMMANDS}",
@@ -1288,7 +1310,8 @@ def packed(room, words, model, example):
 
 
 def checked(room, words):
-    """`--check` checks the proof of the same bytes by the profile that is asked for, and goes by its verdict."""
+    """`--check` checks the proof of the same bytes by the profile that is asked for, and goes by
+    its verdict."""
     split = TOP / "examples/covering_split.vipr"
     model, bad = room / "split.mps", room / "bad.vipr"
     model.write_bytes(written_mps(vipr.read_problem(EXAMPLES[split])))
@@ -1348,7 +1371,8 @@ def closed(words):
 
 
 def kept(room, words):
-    """A page or a picture never takes the place of the certificate that is read, by whatever name."""
+    """A page or a picture never takes the place of the certificate that is read, by whatever
+    name."""
     text = (TOP / "examples/plan.vipr").read_bytes()
     certificate, link, hard = (room / name for name in ("own.vipr", "link", "hard"))
     certificate.write_bytes(text)

@@ -5,15 +5,18 @@ usage: tests/races.py [PROGRAM [ROUNDS]]     crates/vipr/out/vipr and 20 without
 
 So many rounds of each kind, and in each one act, at a moment after the run has begun to read:
 - swap: the name of the new file and that of a stranger's file are exchanged;
-- link, file: OUT is exchanged with a link to a stranger's file, or with that file; where OUT is new, they come there;
-- pair: a second run writes another text to the same OUT; as root also as a user who has to write it in place.
+- link, file: OUT is exchanged with a link to a stranger's file, or with that file; where OUT is
+  new, they come there;
+- pair: a second run writes another text to the same OUT; as root also as a user who has to write it
+  in place.
 
-If a run answers 0, its text is or was under OUT: it is there at the end, or what came later was put in its place. No
-stranger's file is written, and none is gone but one that came between a look of the run and its next call, as the page on
-hostile files says. After two runs OUT is the text of one that answered 0.
+If a run answers 0, its text is or was under OUT: it is there at the end, or what came later was put
+in its place. No stranger's file is written, and none is gone but one that came between a look of
+the run and its next call, as the page on hostile files says. After two runs OUT is the text of one
+that answered 0.
 
-Prints each round after which it isn't so, how many rounds met such a moment, by what came of it, and last
-`races: N rounds, F failed`. The exit status is 1 if a round failed.
+Prints each round after which it isn't so, how many rounds met such a moment, by what came of it,
+and last `races: N rounds, F failed`. The exit status is 1 if a round failed.
 """
 import ctypes
 import os

@@ -1,17 +1,19 @@
 #!/usr/bin/env python3
-"""Uses a release as someone does who has no kit, and compares the one of this repository with the program.
+"""Uses a release as someone does who has no kit, and compares the one of this repository with the
+program.
 
 usage: tests/released.py
 
-In a copy of the Makefile and of what it installs, nothing is built, no `rt` is on the path, and release/ has a
-small archive with the program that is built here. `make check` prints a verdict and one line on the release,
-`make install` and `make install-lib` install from it, and the Python commands run. If a source, the archive or
-a file in it is another one, no program of it is run, and it is said why. What was built goes before it, and what
-was unpacked is replaced if it isn't what the archive has.
+In a copy of the Makefile and of what it installs, nothing is built, no `rt` is on the path, and
+release/ has a small archive with the program that is built here. `make check` prints a verdict and
+one line on the release, `make install` and `make install-lib` install from it, and the Python
+commands run. If a source, the archive or a file in it is another one, no program of it is run, and
+it is said why. What was built goes before it, and what was unpacked is replaced if it isn't what
+the archive has.
 
-If release/ of this repository has an archive of this version, its files have their sums, its wheel has the same
-program, it verifies an example in a copy of these sources, and its program is the one that was proved here, unless the section
-`Unreleased` of CHANGELOG.md says that the program changed.
+If release/ of this repository has an archive of this version, its files have their sums, its wheel
+has the same program, it verifies an example in a copy of these sources, and its program is the one
+that was proved here, unless the section `Unreleased` of CHANGELOG.md says that the program changed.
 
 Prints each fault, and last `released: N checks, F failed`; the exit status is 1 if one failed.
 """
@@ -44,7 +46,8 @@ check = CHECKS.check
 
 
 def run(folder, *words):
-    """What a command answers in a folder, without the kit: its status, and what it prints on both outputs."""
+    """What a command answers in a folder, without the kit: its status, and what it prints on both
+    outputs."""
     there = {"PATH": PATH, "LC_ALL": "C.UTF-8", "PYTHONPATH": "python"}
     done = subprocess.run(
         words, cwd=folder, env=there, stdin=subprocess.DEVNULL, capture_output=True, check=False
@@ -53,8 +56,8 @@ def run(folder, *words):
 
 
 def put_release(copy, files=(), **rows):
-    """Puts an archive of the program into release/ of a copy. These files of it are others than its sums say,
-    and these rows of BUILD others than those of the copy."""
+    """Puts an archive of the program into release/ of a copy. These files of it are others than its
+    sums say, and these rows of BUILD others than those of the copy."""
     sources = run(copy, "sh", "tools/proved.sh", "digest")[1].strip()
     rows = {"version": VERSION, "commit": COMMIT, "sources": sources} | rows
     library = SHARED.read_bytes() if SHARED.is_file() else b"no library"
@@ -79,7 +82,8 @@ def put_release(copy, files=(), **rows):
 
 
 def unbuilt(folder):
-    """A copy of what the Makefile needs in which nothing is built, and a function that runs make there."""
+    """A copy of what the Makefile needs in which nothing is built, and a function that runs make
+    there."""
     copy = folder / "copy"
     copy.mkdir(parents=True)
     make = laid_out(copy)
@@ -220,7 +224,8 @@ def built_first(folder):
 
 
 def digests(folder):
-    """The digest of the sources changes with what the program and the library are made from, and with nothing else."""
+    """The digest of the sources changes with what the program and the library are made from, and
+    with nothing else."""
     copy, _ = unbuilt(folder)
     crate = copy / "crates/vipr_command"
 
@@ -255,7 +260,8 @@ def digests(folder):
 
 
 def refusals(folder):
-    """tools/release.py makes no release of another version, of a tree with changes, of what isn't proved, or a large one."""
+    """tools/release.py makes no release of another version, of a tree with changes, of what isn't
+    proved, or a large one."""
     reasons = "\n".join(release.reasons_against("0.0.0"))
     for wanted in ("another version than 0.0.0", "isn't that of 0.0.0"):
         check(wanted in reasons, f"a release of 0.0.0: {reasons}")

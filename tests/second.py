@@ -1,19 +1,24 @@
 #!/usr/bin/env python3
-"""The theorem in a second prover: builds the checker of rocq/, and compares its verdicts with those of `vipr check`.
+"""The theorem in a second prover: builds the checker of rocq/, and compares its verdicts with those
+of `vipr check`.
 
 usage: tests/second.py [--texts N] [--seed S] [--wrong] [PROGRAM]
 Without them it is 2,000 texts, seed 1 and crates/vipr/out/vipr.
 
-`make rocq` proves the files of rocq/ and builds rocq/vipr-rocq. Rocq has to say of each theorem that it rests on no axiom, and
-coqchk, which reads the compiled files and checks them anew, has to find none. Meanwhile both programs are given the same texts, by both profiles: each example, and beginnings of it that end at a line; the
-cases of conformance/, as conformance/run.py finds; a text of each family of bench/families.py; and N texts that are examples with
-parts damaged, or with one number, sense or last reference changed. A text has to be verified by both, or refused by both.
-Last, vipr-rocq is run with names and words that could lead it to a wrong answer, and with an output that can't be written.
+`make rocq` proves the files of rocq/ and builds rocq/vipr-rocq. Rocq has to say of each theorem
+that it rests on no axiom, and coqchk, which reads the compiled files and checks them anew, has to
+find none. Meanwhile both programs are given the same texts, by both profiles: each example, and
+beginnings of it that end at a line; the cases of conformance/, as conformance/run.py finds; a text
+of each family of bench/families.py; and N texts that are examples with parts damaged, or with one
+number, sense or last reference changed. A text has to be verified by both, or refused by both.
+Last, vipr-rocq is run with names and words that could lead it to a wrong answer, and with an output
+that can't be written.
 
---wrong tries wrong versions of the checker's tests in place of that: the prover has to refuse each, and a line says where.
+--wrong tries wrong versions of the checker's tests in place of that: the prover has to refuse each,
+and a line says where.
 
-Prints each text on which the two differ, and last `second: N checks, F failed`. The exit status is 1 if one failed.
-Without coqc and zarith nothing is tried, and a line says so.
+Prints each text on which the two differ, and last `second: N checks, F failed`. The exit status is
+1 if one failed. Without coqc and zarith nothing is tried, and a line says so.
 """
 import argparse
 import os
@@ -36,7 +41,8 @@ CLOSED = "Closed under the global context"
 PROFILES = [], ["--profile", "2"]
 # how many files the second program is given at once
 AT_ONCE = 100
-# wrong versions of the checker's tests: what it is, and what to replace in Check.v or Read.v by what
+# wrong versions of the checker's tests: what it is, and what to replace in Check.v or Read.v by
+# what
 WRONG = {
     "sign of L in a sum": (
         "let u := snd e * sign (what (at_in t (fst e))) in",

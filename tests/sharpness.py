@@ -3,18 +3,20 @@
 
 usage: tests/sharpness.py [--found | --excused]
 
-The wrong ones are versions of bench/plain_check.py: those that made_wrong.py makes by rule, and those of lax_rules.py by
-hand. Each is given the cases that the format fixes, until one gets another verdict than the table has: short cases first,
-and of those only cases whose run by the right model reaches a line that the version changes. A run that breaks off counts
-as a refusal, and one that doesn't end as no verdict. What the second profile alone does is told by its verdicts. Versions
-that no case can tell are named in excused.txt, each with the reason, and aren't tried; with --excused they are, and none
-may be told.
+The wrong ones are versions of bench/plain_check.py: those that made_wrong.py makes by rule, and
+those of lax_rules.py by hand. Each is given the cases that the format fixes, until one gets another
+verdict than the table has: short cases first, and of those only cases whose run by the right model
+reaches a line that the version changes. A run that breaks off counts as a refusal, and one that
+doesn't end as no verdict. What the second profile alone does is told by its verdicts. Versions that
+no case can tell are named in excused.txt, each with the reason, and aren't tried; with --excused
+they are, and none may be told.
 
-Each wrong rule of wrong_rules.py is found by a verdict, or by a text, of its own folder. If choices alone find it there, no
-case of the format does anywhere: so the kinds agree with each other.
+Each wrong rule of wrong_rules.py is found by a verdict, or by a text, of its own folder. If choices
+alone find it there, no case of the format does anywhere: so the kinds agree with each other.
 
-Prints each fault, and last `sharpness: N checks, F failed` with how many wrong versions were told; the exit status is 1 if
-a check failed. With --found it also prints the case that tells each wrong version. On a terminal it counts the versions.
+Prints each fault, and last `sharpness: N checks, F failed` with how many wrong versions were told;
+the exit status is 1 if a check failed. With --found it also prints the case that tells each wrong
+version. On a terminal it counts the versions.
 """
 import os
 import resource
@@ -34,8 +36,8 @@ CHECKS = Checks("sharpness")
 Known = namedtuple("Known", "name verdicts text lines")
 # cases with more bytes are long: they are for versions that are wrong past some number of things
 LONG = 4096
-# how many seconds of the processor a wrong version may take for a case, which the right one reads in a hundredth of it, and
-# for a long one; and how much memory, in bytes
+# how many seconds of the processor a wrong version may take for a case, which the right one reads
+# in a hundredth of it, and for a long one; and how much memory, in bytes
 SECONDS, LONG_SECONDS, MOST = 1, 20, 2**30
 LEAST, LEAST_MADE = 60, 250
 # what conformance/README.md says of the versions
@@ -146,7 +148,8 @@ def told_by(place):
 
 
 def are_told(pool):
-    """Whether each wrong version is told by a case, but for those that are excused. Gives how many are told."""
+    """Whether each wrong version is told by a case, but for those that are excused. Gives how many
+    are told."""
     wants_none, all_told = "--excused" in sys.argv, 0
     found = pool.map(told_by, range(len(VERSIONS)), chunksize=4)
     for count, (version, told) in enumerate(zip(VERSIONS, found), 1):

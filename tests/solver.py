@@ -1,12 +1,15 @@
 #!/usr/bin/env python3
-"""Lets examples/solver prove random models, and compares each proof with its model and with an exhaustive search.
+"""Lets examples/solver prove random models, and compares each proof with its model and with an
+exhaustive search.
 
 usage: tests/solver.py [PROGRAM [floats]]     crates/vipr/out/vipr without it; with `floats` only by solve_floats.py
 
-200 models of a few integer columns and at most two others are minimized or maximized, with equations, ranges, free columns
-and fractional costs. Some are infeasible, and some unbounded. The search tries each integral point, and each vertex of what is
-then left for the others. The program verifies the claim that the search finds, and the certificate's problem is the model's.
-What the solver can't do it says, with nothing written. If scipy is there, solve_floats.py proves the same claims.
+200 models of a few integer columns and at most two others are minimized or maximized, with
+equations, ranges, free columns and fractional costs. Some are infeasible, and some unbounded. The
+search tries each integral point, and each vertex of what is then left for the others. The program
+verifies the claim that the search finds, and the certificate's problem is the model's. What the
+solver can't do it says, with nothing written. If scipy is there, solve_floats.py proves the same
+claims.
 
 Prints each fault, and last `solver: N checks, F failed`; the exit status is 1 if one failed.
 """
@@ -103,7 +106,8 @@ def random_model(dice):
 
 
 def exhaustive(file, far):
-    """The optimum by each integral point, where the sides that a column hasn't are so far away; None if there is none."""
+    """The optimum by each integral point, where the sides that a column hasn't are so far away;
+    None if there is none."""
     columns = list(file.columns.values())
     whole = [j for j, column in enumerate(columns) if column.is_whole]
     others = [j for j, column in enumerate(columns) if not column.is_whole]
@@ -183,7 +187,8 @@ def random_models(kind):
 
 
 def command():
-    """The command as a user has it: a proof, and a word of each thing that it can't do, with nothing printed."""
+    """The command as a user has it: a proof, and a word of each thing that it can't do, with
+    nothing printed."""
     example = TOP / "examples/plan.mps"
     out, fault, status = run([sys.executable, SCRIPT, example])
     said = run([PROGRAM, "check"], out).stdout.split(b"\n")[0]
@@ -224,7 +229,8 @@ def command():
 
 
 def stopped():
-    """Ctrl-C ends the command with a word, and with nothing printed. It is told while it waits for its model."""
+    """Ctrl-C ends the command with a word, and with nothing printed. It is told while it waits for
+    its model."""
     with tempfile.TemporaryDirectory() as folder:
         pipe = f"{folder}/model.mps"
         os.mkfifo(pipe)

@@ -1,4 +1,5 @@
-"""What the scripts of tests/ share: what they found, the program and its runs, texts of a family, and what a run takes."""
+"""What the scripts of tests/ share: what they found, the program and its runs, texts of a family,
+and what a run takes."""
 import array
 import fcntl
 import os
@@ -22,7 +23,8 @@ ENVIRONMENT = {"PATH": os.environ.get("PATH", "/usr/bin:/bin"), "LC_ALL": "C.UTF
 SECONDS = 120
 # how much of a fault is printed
 MOST = 4000
-# the tools that the test command needs, and a line by which a script says that it left something out for want of one
+# the tools that the test command needs, and a line by which a script says that it left something
+# out for want of one
 NEEDED = (
     "strace",
     "bindfs",
@@ -38,7 +40,8 @@ SKIPPED = re.compile(rf'\w+: no (?:{"|".join(NEEDED)})\b')
 
 
 class Checks:
-    """What a script found: how many checks it made, or runs, and how many failed. Prints each fault."""
+    """What a script found: how many checks it made, or runs, and how many failed. Prints each
+    fault."""
 
     def __init__(self, script, unit="checks"):
         self.script, self.unit, self.count, self.failed = script, unit, 0, 0
@@ -101,7 +104,8 @@ def run(words, text=b"", **more):
 
 
 def traced(words, *options, **more):
-    """What a run answers under strace, and its calls, a line each; none if strace isn't here or may not trace."""
+    """What a run answers under strace, and its calls, a line each; none if strace isn't here or may
+    not trace."""
     if not shutil.which("strace"):
         return Ran(b"", b"", None), []
     with tempfile.NamedTemporaryFile() as file:
@@ -126,7 +130,8 @@ def is_unread(pipe):
 
 
 def fed(words, pieces, **more):
-    """What a run answers whose standard input comes in these pieces, each once the one before was read."""
+    """What a run answers whose standard input comes in these pieces, each once the one before was
+    read."""
     read, write = os.pipe()
     with subprocess.Popen(
         words, stdin=read, stdout=subprocess.PIPE, stderr=subprocess.PIPE, **more
@@ -170,7 +175,8 @@ def spent():
 
 
 def reported(words, pattern, seconds):
-    """A number that a tool says of the program that it starts; None if it took more than the seconds."""
+    """A number that a tool says of the program that it starts; None if it took more than the
+    seconds."""
     limit = (seconds, seconds + 1)
     done = subprocess.run(
         words,
@@ -186,15 +192,18 @@ def reported(words, pattern, seconds):
 
 
 def instructions(words, seconds):
-    """How many instructions a run takes; None if it isn't verified within the seconds of processor time."""
+    """How many instructions a run takes; None if it isn't verified within the seconds of processor
+    time."""
     tool = [VALGRIND, "--tool=callgrind", "--callgrind-out-file=/dev/null"]
     return reported([*tool, *words], rb"Collected : (\d+)", seconds)
 
 
 def peak(words, seconds):
-    """The most memory that a run has at once, in bytes; None if it isn't verified within the seconds.
+    """The most memory that a run has at once, in bytes; None if it isn't verified within the
+    seconds.
 
-    GNU time starts it, since a process begins with the peak of the one that starts it, and Python's is large.
+    GNU time starts it, since a process begins with the peak of the one that starts it, and Python's
+    is large.
     """
     found = reported([GNU_TIME, "-f", "most %M KB", *words], rb"most (\d+) KB", seconds)
     return found and found * 1024

@@ -1,5 +1,6 @@
 #!/usr/bin/env python3
-"""A toolchain that proves nothing, under the name `rt`: what tests/tools.py runs the scripts that build and test with.
+"""A toolchain that proves nothing, under the name `rt`: what tests/tools.py runs the scripts that
+build and test with.
 
 It does as the file PLAN says, a word and what to do a line:
   proves CRATE HOW    `rt lib` or `rt run` of a crate: well, refused, killed, terminated, half (a line that is cut off),
@@ -161,7 +162,8 @@ def said_of_several(hows, text):
 
 
 def checked(crate, texts, flags, kept):
-    """What the check of a crate with changed files answers: the plan knows an edit by what it changes."""
+    """What the check of a crate with changed files answers: the plan knows an edit by what it
+    changes."""
     names = re.findall(r"// (\w+), changed", "".join(texts.values()))
     log(f'check of {" ".join(names)} in {crate.name}')
     hows = {name: plan().get(f"edit {name}", "goal") for name in names}

@@ -3,11 +3,11 @@
 
 usage: tests/tools.py
 
-The toolchain is tests/toolchain.py under the name `rt`, in a folder at the head of PATH, and the repository a small one: the
-scripts of this, four crates without a text, and scripts of tests/ that do nothing. Whatever fails, is killed or ends in
-half a line, the exit status is another than 0, the crate is named, there is no vipr.sha256, and nothing is checked with or
-installed from what isn't proved. Each script of tests/
-is run by tests/all.py, and a failing one says so.
+The toolchain is tests/toolchain.py under the name `rt`, in a folder at the head of PATH, and the
+repository a small one: the scripts of this, four crates without a text, and scripts of tests/ that
+do nothing. Whatever fails, is killed or ends in half a line, the exit status is another than 0, the
+crate is named, there is no vipr.sha256, and nothing is checked with or installed from what isn't
+proved. Each script of tests/ is run by tests/all.py, and a failing one says so.
 
 Prints each fault, and last `tools: N checks, F failed`; the exit status is 1 if one failed.
 """
@@ -27,7 +27,8 @@ CHECKS = Checks("tools")
 check = CHECKS.check
 CRATES = {"low": "", "vipr_c staticlib": "low", "vipr_command": "low", "vipr": "vipr_command low"}
 LEFT_OUT = shutil.ignore_patterns("crates", ".git", "dist", "out", "release", "__pycache__")
-# what tests/all.py runs, each without words: with some, a script could compare less, or write in place of comparing
+# what tests/all.py runs, each without words: with some, a script could compare less, or write in
+# place of comparing
 SCRIPTS = {
     "theorems",
     "wrong_versions",
@@ -85,8 +86,8 @@ class Place:
         self.let_scripts_end()
 
     def let_scripts_end(self, **ends):
-        """Puts a script that does nothing in place of each of the test command; those that are named
-        end so."""
+        """Puts a script that does nothing in place of each of the test command; those that are
+        named end so."""
         for name in SCRIPTS | {"tools"}:
             end = ends.get(name, "sys.exit(0)")
             script = f'import os, signal, sys\nprint("tests/{name}.py ran", sys.argv[1:])\nsys.stdout.flush()\n{end}\n'
@@ -345,8 +346,8 @@ def whole_command(place):
 
 
 def what_is_packed(place):
-    """tools/dist.py says of the archive which commit it is of, and whether a file isn't as it is there. Of what says that it is
-    unproved it names no commit and no kit."""
+    """tools/dist.py says of the archive which commit it is of, and whether a file isn't as it is
+    there. Of what says that it is unproved it names no commit and no kit."""
     place.plan()
 
     def build_of(program, library):
@@ -404,8 +405,8 @@ def what_is_packed(place):
 
 
 def failing_scripts(place):
-    """A script with a failing check, and a failing script of each kind, ends with status 1 and says how many failed. These
-    checks don't go through `Checks`, of which the first ones are."""
+    """A script with a failing check, and a failing script of each kind, ends with status 1 and says
+    how many failed. These checks don't go through `Checks`, of which the first ones are."""
     front = 'import sys\nsys.path.insert(0, "tests")\nfrom texts import Checks\nchecks = Checks("script")\n'
     for body, wanted in (
         ('checks.check(True, "")', (0, "script: 1 checks, 0 failed")),
@@ -449,7 +450,8 @@ def last(out):
 
 
 def scripts():
-    """Each script of tests/ is run by tests/all.py, or is one of OTHERS. What has no first line for a shell is a module."""
+    """Each script of tests/ is run by tests/all.py, or is one of OTHERS. What has no first line for
+    a shell is a module."""
     there = {
         path.stem for path in (TOP / "tests").glob("*.py") if path.read_text().startswith("#!")
     }

@@ -3,10 +3,11 @@
 
 usage: tests/writer.py [PROGRAM]
 
-500 knapsacks are solved by examples/python/knapsack.py, and 500 set covers by a branch and bound of this script. Each
-certificate is verified with the optimum that an enumeration finds, and names no last reference that a second look at the
-derivations doesn't find. Names, numbers and constraints that aren't there are refused, and then nothing is written. If the
-library for C is built here, it checks each derivation of some of them, and a wrong one.
+500 knapsacks are solved by examples/python/knapsack.py, and 500 set covers by a branch and bound of
+this script. Each certificate is verified with the optimum that an enumeration finds, and names no
+last reference that a second look at the derivations doesn't find. Names, numbers and constraints
+that aren't there are refused, and then nothing is written. If the library for C is built here, it
+checks each derivation of some of them, and a wrong one.
 
 Prints each fault, and last `writer: N checks, F failed`; the exit status is 1 if one failed.
 """
@@ -33,7 +34,8 @@ EACH = 500
 
 
 def cover(file, costs, sets, count, **options):
-    """Writes the certificate of a set cover: min costs * x, each of the elements in a chosen set, x in {0, 1}."""
+    """Writes the certificate of a set cover: min costs * x, each of the elements in a chosen set, x
+    in {0, 1}."""
     names = [f"set{j}" for j in range(len(costs))]
     best = {"value": sum(costs), "x": [1] * len(costs)}
     with vipr.Writer(file, dict(zip(names, costs)), integers=names, **options) as proof:
@@ -274,7 +276,8 @@ def refused():
 
 
 def by_path(folder):
-    """A path that can't be written is known at once, an error leaves a file as it was, and a text stream is refused."""
+    """A path that can't be written is known at once, an error leaves a file as it was, and a text
+    stream is refused."""
     for target, kind in (
         (f"{folder}/missing/a.vipr", OSError),
         (io.StringIO(), TypeError),

@@ -1,11 +1,14 @@
-"""Wrong rules, as edits of bench/plain_check.py and, for the last folder, of bench/plain_tighten.py.
+"""Wrong rules, as edits of bench/plain_check.py and, for the last folder, of
+bench/plain_tighten.py.
 
-For each folder of conformance/ what a checker might do otherwise: in words, and then pieces of the model, each with what is
-written for it. tests/sharpness.py shows that a case of that folder finds it. If all that find it there are choices, it is
-another reading of what the format leaves open, and then no case of the format finds it, in any folder.
+For each folder of conformance/ what a checker might do otherwise: in words, and then pieces of the
+model, each with what is written for it. tests/sharpness.py shows that a case of that folder finds
+it. If all that find it there are choices, it is another reading of what the format leaves open, and
+then no case of the format finds it, in any folder.
 """
 
-# how the model finds the best solution, and where it takes it for the cutoff; what the primal bound needs stays
+# how the model finds the best solution, and where it takes it for the cutoff; what the primal bound
+# needs stays
 BEST = """        if self.best is None or (value < self.best if self.minimizes else value > self.best):
 """
 CUTOFF = """else "G", self.best))""", """else "G", self.cutoff))"""

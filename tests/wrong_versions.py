@@ -16,7 +16,8 @@ Each edit of crates/*/wrong_definitions changes a definition, stands where it sa
 that refuses it and a case. tools/wrong_definitions.py tells a law that is proved from one that is
 refused and from one of which nothing is known.
 
-Prints each fault, and last `wrong_versions: N checks, F failed`; the exit status is 1 if one failed.
+Prints each fault, and last `wrong_versions: N checks, F failed`; the exit status is 1 if one
+failed.
 """
 import os
 import re
@@ -156,8 +157,8 @@ def laws():
 
 
 class Place:
-    """A small repository: the crate `low`, the crate `high` above it, and a toolchain that does as it
-    is told."""
+    """A small repository: the crate `low`, the crate `high` above it, and a toolchain that does as
+    it is told."""
 
     def __init__(self, room):
         self.room, self.tree = room, room / "vipr"

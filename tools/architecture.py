@@ -1,5 +1,5 @@
-"""docs/dev/architecture.svg, the life of a certificate and the graph of crates.txt by level, and the same graph in words in
-docs/dev/ARCHITECTURE.md. tools/write_pages.py writes both."""
+"""docs/dev/architecture.svg, the life of a certificate and the graph of crates.txt by level, and
+the same graph in words in docs/dev/ARCHITECTURE.md. tools/write_pages.py writes both."""
 from html import escape
 
 from sources import TOP, crates, levels, replaced
@@ -26,8 +26,9 @@ STYLE = (
 
 
 def layers(level, direct):
-    """The nodes of each level in their order, and of each edge its crate and the nodes on its way down. An edge that
-    passes a level has a node of its own there, a pair of its ends and the level, so that it passes beside the boxes.
+    """The nodes of each level in their order, and of each edge its crate and the nodes on its way
+    down. An edge that passes a level has a node of its own there, a pair of its ends and the level,
+    so that it passes beside the boxes.
     """
     rows = [
         sorted(crate for crate in level if level[crate] == number)
@@ -61,7 +62,8 @@ def mean(numbers):
 
 
 def placed(row):
-    """Each node of a level with its place from the left: boxes share the width, passing edges take a little of it."""
+    """Each node of a level with its place from the left: boxes share the width, passing edges take
+    a little of it."""
     shares = [1 if isinstance(node, str) else PASSING for node in row]
     at = 0
     for node, share in zip(row, shares):

@@ -1,10 +1,12 @@
 #!/usr/bin/env python3
-"""Writes into docs/PROOF.md which contracts of functions in C are assumed, as the prover lists them.
+"""Writes into docs/PROOF.md which contracts of functions in C are assumed, as the prover lists
+them.
 
 usage: tools/axioms.py [CRATES]
 
-Checks the program once more, with `--list-axioms`, over the libraries that are built in the folder CRATES, that of this
-checkout if none is named. Nothing else is written. The exit status is 1 if it isn't proved.
+Checks the program once more, with `--list-axioms`, over the libraries that are built in the folder
+CRATES, that of this checkout if none is named. Nothing else is written. The exit status is 1 if it
+isn't proved.
 """
 import os
 import re

@@ -1,8 +1,8 @@
 """The tables of docs/dev/CONTRACTS.md from the sources, which tools/write_pages.py writes.
 
-A row for each public call: the call, the names of its clauses (`-` for one without a name), the definitions that they
-cite, the laws that its proof cites, and the edits of its code, first those of must-fail/. Edits of what lies below the public
-calls stand in the lines below a crate's table.
+A row for each public call: the call, the names of its clauses (`-` for one without a name), the
+definitions that they cite, the laws that its proof cites, and the edits of its code, first those of
+must-fail/. Edits of what lies below the public calls stand in the lines below a crate's table.
 """
 import re
 
@@ -143,8 +143,8 @@ def marks(crate):
 
 
 def clauses_of(crate):
-    """By the name of a function of the crate, of a trait's member or of a record, the names of its clauses. A word that
-    abbreviates a record has those of the record."""
+    """By the name of a function of the crate, of a trait's member or of a record, the names of its
+    clauses. A word that abbreviates a record has those of the record."""
     named, short = {}, {}
     for path in files_of(crate, "src", ".rt"):
         for name, _, _, clauses, _, _ in functions(path):
@@ -172,8 +172,8 @@ def faults_of_edits(text):
 
 
 def faults_of_words(text):
-    """Which crate hasn't one heading and a table, and which clause in brackets is none of the calls before it, or of the
-    record after `of`."""
+    """Which crate hasn't one heading and a table, and which clause in brackets is none of the calls
+    before it, or of the record after `of`."""
     parts = re.findall(r"^### `(vipr\w*)`\n(.*?)(?=^##|\Z)", text, re.M | re.S)
     headed = [crate for crate, _ in parts]
     for crate in crates():

@@ -1,18 +1,20 @@
 #!/usr/bin/env python3
-"""Makes one archive of what is built: program, libraries, header, man page, completions, pages and the Python package; and
-one of the conformance cases.
+"""Makes one archive of what is built: program, libraries, header, man page, completions, pages and
+the Python package; and one of the conformance cases.
 
 usage: tools/dist.py VERSION [FOLDER]     FOLDER is dist without it
 
 `make dist` calls it once the program and the library are built. FOLDER gets a wheel of the Python
-package that has the program and the library in it, and vipr-VERSION-linux-x86_64.tar.gz, whose files lie in a folder
-vipr-VERSION: bin, lib, include and share as `make install` lays them out, python, and debian, so that
-`dpkg-buildpackage -b` makes packages of them. SHA256SUMS has the sum of each file. BUILD, which is beside the pages, too, has
-the commit, the kit, the digest of the sources as tools/proved.sh prints it, and the sums of the program and the libraries.
-`with changes` follows the commit if a file isn't as it is there. Commit, kit and digest are left out if the program or the
-library says that it is unproved. vipr-conformance-N.tar.xz has the
-folder conformance and the licence of its scripts; N is the version of the cases. The same files and commit give the same bytes.
-The exit status is 1 if a command fails, or if the program or the library isn't the one that was proved and built here.
+package that has the program and the library in it, and vipr-VERSION-linux-x86_64.tar.gz, whose
+files lie in a folder vipr-VERSION: bin, lib, include and share as `make install` lays them out,
+python, and debian, so that `dpkg-buildpackage -b` makes packages of them. SHA256SUMS has the sum of
+each file. BUILD, which is beside the pages, too, has the commit, the kit, the digest of the sources
+as tools/proved.sh prints it, and the sums of the program and the libraries. `with changes` follows
+the commit if a file isn't as it is there. Commit, kit and digest are left out if the program or the
+library says that it is unproved. vipr-conformance-N.tar.xz has the folder conformance and the
+licence of its scripts; N is the version of the cases. The same files and commit give the same
+bytes. The exit status is 1 if a command fails, or if the program or the library isn't the one that
+was proved and built here.
 """
 import ctypes
 import gzip
@@ -80,8 +82,9 @@ def proved_from():
 
 
 def build_of(version):
-    """What BUILD says: the version, the commit, the kit, the digest of the sources, and the sums of the program and the libraries.
-    What says itself that it is unproved has no commit, no kit and no digest."""
+    """What BUILD says: the version, the commit, the kit, the digest of the sources, and the sums of
+    the program and the libraries. What says itself that it is unproved has no commit, no kit and no
+    digest."""
     program, library = TOP / "crates/vipr/out/vipr", TOP / "crates/vipr_c/out"
     shared = library / f"libvipr.so.{version}"
     versions = {said(program, "--version"), f"vipr {version_of(shared)}"}
@@ -162,7 +165,8 @@ def lay_out_cases(tree):
 
 
 def pack(tree, packed, day):
-    """Writes a folder to a stream as an archive, in which nothing depends on when and by whom it was made."""
+    """Writes a folder to a stream as an archive, in which nothing depends on when and by whom it
+    was made."""
 
     def plain(info):
         info.uid = info.gid = 0

@@ -1,10 +1,12 @@
-"""What scripts need of the Rattle kit: whether it is there, its own account of the crates, and what `rt ci` proved.
+"""What scripts need of the Rattle kit: whether it is there, its own account of the crates, and what
+`rt ci` proved.
 
-`rt ci` leaves each library without the stamp by which other commands know what it was made from. Behind a run of it from
-nothing, `rt lib` and the wrong versions would prove every crate below them once more, as the first build does. So the stamps
-are written into a copy of the crates that is thrown away. That is done only if all libraries are those of one run of `rt ci`
-and nothing changed since; else, and if the kit isn't as it's known here, the commands prove what they need. Behind `make
-build`, whose libraries are stamped, they use those.
+`rt ci` leaves each library without the stamp by which other commands know what it was made from.
+Behind a run of it from nothing, `rt lib` and the wrong versions would prove every crate below them
+once more, as the first build does. So the stamps are written into a copy of the crates that is
+thrown away. That is done only if all libraries are those of one run of `rt ci` and nothing changed
+since; else, and if the kit isn't as it's known here, the commands prove what they need. Behind
+`make build`, whose libraries are stamped, they use those.
 """
 import hashlib
 import importlib.machinery
@@ -53,14 +55,14 @@ def sum_of(file):
 
 
 def write_sums(file, built):
-    """Writes the SHA-256 of files that were proved and built beside them, as `sha256sum -c` reads it: `make check`, `make
-    install`, `make install-lib` and `make dist` use no others."""
+    """Writes the SHA-256 of files that were proved and built beside them, as `sha256sum -c` reads
+    it: `make check`, `make install`, `make install-lib` and `make dist` use no others."""
     file.write_text("".join(f"{sum_of(path)}  {path.name}\n" for path in built))
 
 
 def mark(proved):
-    """Writes the SHA-256 of the program beside it if all of it was proved and built, else takes an earlier one away, and says
-    which."""
+    """Writes the SHA-256 of the program beside it if all of it was proved and built, else takes an
+    earlier one away, and says which."""
     program = TOP / "crates/vipr/out/vipr"
     written = program.with_name("vipr.sha256")
     written.unlink(missing_ok=True)
@@ -102,7 +104,8 @@ def stamp(copy):
 
 
 def take_over(copy):
-    """Stamps what `rt ci` proved here and was copied to another folder, and says whether that could be done."""
+    """Stamps what `rt ci` proved here and was copied to another folder, and says whether that could
+    be done."""
     try:
         if not is_of_one_run():
             return False
@@ -114,7 +117,8 @@ def take_over(copy):
 
 
 def copied(room, *names):
-    """A copy of these files and folders that takes over what `rt ci` proved here; this repository, if that can't be done."""
+    """A copy of these files and folders that takes over what `rt ci` proved here; this repository,
+    if that can't be done."""
     if not is_of_one_run():
         return TOP
     copy = Path(room, "vipr")

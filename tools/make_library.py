@@ -3,11 +3,12 @@
 
 usage: tools/make_library.py VERSION [FOLDER]     FOLDER is crates/vipr_c/out without it
 
-`rt lib` proves and builds crates/vipr_c. What it builds, and the toolchain's few lines of C between Rattle's allocator
-and malloc, are put together into one object whose only global names are those that begin with `vipr_`. Of it FOLDER has
-libvipr.a, and libvipr.so.VERSION, whose soname is libvipr.so with the version's first number. Their SHA-256 is in
-libvipr.sha256 beside them. RT, CC, LD, OBJCOPY and AR name other commands. If one is missing or fails, the exit status is 1,
-and there is no libvipr.sha256.
+`rt lib` proves and builds crates/vipr_c. What it builds, and the toolchain's few lines of C between
+Rattle's allocator and malloc, are put together into one object whose only global names are those
+that begin with `vipr_`. Of it FOLDER has libvipr.a, and libvipr.so.VERSION, whose soname is
+libvipr.so with the version's first number. Their SHA-256 is in libvipr.sha256 beside them. RT, CC,
+LD, OBJCOPY and AR name other commands. If one is missing or fails, the exit status is 1, and there
+is no libvipr.sha256.
 """
 import os
 import re
@@ -70,7 +71,8 @@ def forget(folder):
 
 
 def make(folder, version, archives):
-    """Makes both libraries of these archives, and gives their files. What says that an earlier one was proved goes."""
+    """Makes both libraries of these archives, and gives their files. What says that an earlier one
+    was proved goes."""
     forget(folder)
     archive, shared = folder / "libvipr.a", folder / f"libvipr.so.{version}"
     with tempfile.TemporaryDirectory(prefix="vipr-library-") as room:

@@ -53,7 +53,8 @@ class Command:
 
 
 def values_in(about):
-    """The values of an option, if its help names them as `1 (the default) or 2`; a file's name otherwise."""
+    """The values of an option, if its help names them as `1 (the default) or 2`; a file's name
+    otherwise."""
     found = re.search(r": (\w+) \(the default\) or (\w+)$", about)
     return list(found.groups()) if found else []
 
@@ -171,7 +172,8 @@ def zsh(commands, options):
 
 
 def zsh_joined(flag, value):
-    """What joins a flag to its value: it follows --out=, and -o in the same word or the next one."""
+    """What joins a flag to its value: it follows --out=, and -o in the same word or the next
+    one."""
     if not value:
         return ""
     return "=" if flag.startswith("--") else "+"

@@ -3,11 +3,11 @@
 
 usage: tools/release.py VERSION
 
-`make release` calls it once the program and the library are built. release/ gets the archive and the
-wheel that tools/dist.py makes of them, and SHA256SUMS; what it had before goes. The exit status is 1, and
-release/ stays as it is, if git shows a change or isn't there, if the program or the library says that
-it is unproved, if files name another version, if CHANGELOG has no section of this version at its top, or
-if the files have more than MOST bytes.
+`make release` calls it once the program and the library are built. release/ gets the archive and
+the wheel that tools/dist.py makes of them, and SHA256SUMS; what it had before goes. The exit status
+is 1, and release/ stays as it is, if git shows a change or isn't there, if the program or the
+library says that it is unproved, if files name another version, if CHANGELOG has no section of this
+version at its top, or if the files have more than MOST bytes.
 """
 import re
 import shutil

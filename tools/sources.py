@@ -1,5 +1,5 @@
-"""What scripts share that make pages from the repository's text: the crates by level, their files, functions with clauses,
-edits, and parts of pages between marks."""
+"""What scripts share that make pages from the repository's text: the crates by level, their files,
+functions with clauses, edits, and parts of pages between marks."""
 import re
 from pathlib import Path
 

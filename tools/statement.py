@@ -3,11 +3,12 @@
 
 usage: tools/statement.py     lists the definitions without an example, and the examples without a definition
 
-Each part of the page is made from clauses of the contract of a call: every definition that they rest on is found, in
-whatever file it is, and quoted once, in the order in which the files are to be read, with its example. Proofs aren't
-quoted: the check believes none of them. Nor is, in the three parts, a definition that a law hides: the law is quoted
-instead, and its proof is part of the check. What no clause needs is in the appendix. The example of a definition X is
-the clause `X_is` of the crate vipr_worked, which the prover computes, or a sentence of tools/statement_examples.md.
+Each part of the page is made from clauses of the contract of a call: every definition that they
+rest on is found, in whatever file it is, and quoted once, in the order in which the files are to be
+read, with its example. Proofs aren't quoted: the check believes none of them. Nor is, in the three
+parts, a definition that a law hides: the law is quoted instead, and its proof is part of the check.
+What no clause needs is in the appendix. The example of a definition X is the clause `X_is` of the
+crate vipr_worked, which the prover computes, or a sentence of tools/statement_examples.md.
 tools/write_pages.py writes the page.
 """
 import re
@@ -24,8 +25,8 @@ WIDTH, ITEM = 122, 700
 
 # ---- what the page is made of
 
-# The laws that are quoted in place of definitions: by its name the section, the file, what is said of it, and the
-# definitions for which it stands.
+# The laws that are quoted in place of definitions: by its name the section, the file, what is said
+# of it, and the definitions for which it stands.
 COMPUTED = {"over", "◌+ℚ◌", "◌*ℚ◌", "◌≤ℚ◌"}
 LISTED = {"constraint_at", "reason_at", "last_at"}
 LAWS = {
@@ -67,9 +68,10 @@ BY_LAW = COMPUTED | LISTED | {"IsGoodStep"}
 # The file of the two calls for bytes in memory.
 IN_MEMORY = "vipr_check/src/in_memory.rt"
 
-# Each part: its title, the call of IN_MEMORY or the clauses of `ChecksIn` from which it is made, the definitions at which
-# these begin or those clauses that imply the others, the most lines to believe for them, the laws that stand for
-# definitions, those that they cite instead, those that they hide, what the part says, and what a reader knows after it.
+# Each part: its title, the call of IN_MEMORY or the clauses of `ChecksIn` from which it is made,
+# the definitions at which these begin or those clauses that imply the others, the most lines to
+# believe for them, the laws that stand for definitions, those that they cite instead, those that
+# they hide, what the part says, and what a reader knows after it.
 PARTS = [
     {
         "title": "The statement, for whoever fears a false `verified`",
@@ -173,7 +175,8 @@ NOTES = {
     "proves that no test fails exactly if the derivation is good (`IsGoodStep`).",
 }
 
-# The last part is of another call: its clause, the definitions that it quotes, and what the part says.
+# The last part is of another call: its clause, the definitions that it quotes, and what the part
+# says.
 TIGHTENING = {
     "clause": "spelled",
     "quoted": [
@@ -357,7 +360,8 @@ class Definition:
         self.module = path.stem
 
     def words(self):
-        """The words that can mean a definition: no fields of records, and of a dotted path the whole."""
+        """The words that can mean a definition: no fields of records, and of a dotted path the
+        whole."""
         code = [l for l in self.lines if not l.lstrip().startswith("--")]
         out = set()
         for line in code:
@@ -539,7 +543,8 @@ def is_number(d):
 
 
 def quoted(d):
-    """A definition's lines below its comment; a comment stands at the end of the line below it if there is room."""
+    """A definition's lines below its comment; a comment stands at the end of the line below it if
+    there is room."""
     comment, lines = " ".join(l[2:].strip() for l in d.comment), folded(d.lines)
     if comment and len(lines[0]) + len(comment) + 4 <= WIDTH:
         return [lines[0] + " -- " + comment] + lines[1:]
@@ -547,7 +552,8 @@ def quoted(d):
 
 
 def folded(lines):
-    """Lines of which each comment of one line is at the end of the line below it, if there is room."""
+    """Lines of which each comment of one line is at the end of the line below it, if there is
+    room."""
     out = []
     for line in lines:
         above = out[-1].strip() if out else ""
@@ -608,8 +614,8 @@ OWN = "Short"
 
 
 class Examples:
-    """What is said of each definition: its example that is proved, and its sentence. Knows which were used, and which
-    definitions have none."""
+    """What is said of each definition: its example that is proved, and its sentence. Knows which
+    were used, and which definitions have none."""
 
     def __init__(self):
         self.said, self.used, self.without = sentences(), set(), []
@@ -626,7 +632,8 @@ class Examples:
         return self.said[names[0]]
 
     def items(self, definitions):
-        """The list after a section: each definition with its example, and those with the same one together."""
+        """The list after a section: each definition with its example, and those with the same one
+        together."""
         out = []
         for d in definitions:
             example = None if is_number(d) else self.of(d)
@@ -654,8 +661,8 @@ class Examples:
 
 
 def item(path, head):
-    """An item of a source file from its head on, without attributes and documentation: a type with its body, a call up
-    to its body."""
+    """An item of a source file from its head on, without attributes and documentation: a type with
+    its body, a call up to its body."""
     text = read(CRATES / path)
     m = re.search(r"^%s(?:.|\n)*?^\}$" % head, text, re.M)
     lines = m[0].split("\n")
@@ -737,7 +744,8 @@ def topic_of(module, number):
 
 
 def sections(number, definitions, examples, laws):
-    """A section for each topic: the laws that stand for definitions, one block of definitions, and their examples."""
+    """A section for each topic: the laws that stand for definitions, one block of definitions, and
+    their examples."""
     out = []
     order = [title for title, _ in TOPICS]
     titles = sorted(
@@ -790,8 +798,8 @@ def start_of(files, home, fields, part):
 
 
 def alone(files, home, fields, number):
-    """The lines to believe for a part by itself, for profile one: the clauses that imply its others, the definitions
-    that they rest on, and the laws that stand for some."""
+    """The lines to believe for a part by itself, for profile one: the clauses that imply its
+    others, the definitions that they rest on, and the laws that stand for some."""
     part, last = PARTS[number - 1], number == len(PARTS)
     hidden, instead = part["hidden"] | (INSTEAD["hidden"] if last else set()), part["instead"] + (
         INSTEAD["instead"] if last else []
@@ -926,8 +934,8 @@ def made():
 
 
 def faults():
-    """What is wrong with the page: a part with too many lines to believe, a law that is gone, a definition without an
-    example."""
+    """What is wrong with the page: a part with too many lines to believe, a law that is gone, a
+    definition without an example."""
     _, found, examples = page()
     return found + [f"no example: {definition}" for definition in examples.without]
 

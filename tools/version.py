@@ -3,9 +3,9 @@
 
 usage: tools/version.py [VERSION DATE]     DATE is that of the release, as 2026-01-31
 
-Without words it prints the version that each place of PLACES names; the exit status is 1 if they aren't
-one. With VERSION it writes it there, and DATE where one stands, and gives CHANGELOG's section
-`Unreleased` their heading. After that `make statement` and the tests have to run anew.
+Without words it prints the version that each place of PLACES names; the exit status is 1 if they
+aren't one. With VERSION it writes it there, and DATE where one stands, and gives CHANGELOG's
+section `Unreleased` their heading. After that `make statement` and the tests have to run anew.
 """
 import re
 import sys

@@ -3,9 +3,9 @@
 
 usage: tools/write_pages.py
 
-docs/STATEMENT.md, the tables of docs/dev/CONTRACTS.md, the crate graph in docs/dev/ARCHITECTURE.md and
-its picture, the man page, the completions, and the exit statuses of docs/USE.md. `make statement`
-calls it after a build. tests/written.py compares each with what stands there.
+docs/STATEMENT.md, the tables of docs/dev/CONTRACTS.md, the crate graph in docs/dev/ARCHITECTURE.md
+and its picture, the man page, the completions, and the exit statuses of docs/USE.md. `make
+statement` calls it after a build. tests/written.py compares each with what stands there.
 """
 import architecture
 import contracts

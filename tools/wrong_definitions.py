@@ -11,8 +11,8 @@ their files and functions:
     refused: short::states_one
 
 Over the changed definition the laws behind `proved` have to be proved, so they don't see that it is
-wrong. Those behind `refused` have to be refused. That can also be because a proof no longer fits; so
-the case has to show that the law is false then.
+wrong. Those behind `refused` have to be refused. That can also be because a proof no longer fits;
+so the case has to show that the law is false then.
 
 Prints what came of each law, and last how many did as the edit says, and how many didn't. The exit
 status is 1 if one didn't, if the crate isn't proved, or if there was nothing to try.

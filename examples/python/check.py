@@ -3,7 +3,8 @@
 
 usage: check.py FILE..
 
-The exit status is the largest of the files': 0 verified, 1 refused, 3 no memory; 2 if one can't be read.
+The exit status is the largest of the files': 0 verified, 1 refused, 3 no memory; 2 if one can't be
+read.
 """
 import sys
 

@@ -6,7 +6,8 @@ import vipr
 
 
 def solve(file, profits, weights, room):
-    """Writes the certificate of max profits * x, weights * x <= room, x in {0, 1}. The weights are positive."""
+    """Writes the certificate of max profits * x, weights * x <= room, x in {0, 1}. The weights are
+    positive."""
     names = [f"x{j}" for j in range(len(profits))]
     by_worth = sorted(range(len(names)), key=lambda j: Fraction(-profits[j], weights[j]))
     best = {"value": -1}
@@ -17,7 +18,8 @@ def solve(file, profits, weights, room):
         full = proof.constraint("L", room, dict(zip(names, weights)))
 
         def node(low, high, least, most):
-            """Proves that no point with low <= x <= high is better than the best; `least` and `most` are these bounds."""
+            """Proves that no point with low <= x <= high is better than the best; `least` and
+            `most` are these bounds."""
             left, x, split, price = (
                 room - sum(w * v for w, v in zip(weights, low)),
                 list(low),

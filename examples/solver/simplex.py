@@ -1,10 +1,11 @@
 """An exact linear program, solved by the dual simplex method in integers.
 
-All that is asked of a point is a list of conditions `row * x >= side`, bounds and rows alike. A vertex is a point at which as
-many conditions as there are variables hold with equality: the active ones. Each has an edge, along which it alone grows, and a
-dual value, which is what the objective gains on that edge. While the duals are at least 0, they are a proof: the sum of the
-active conditions, each times its dual, is `objective >= value`. The method goes from such a vertex to the next until no
-condition is broken.
+All that is asked of a point is a list of conditions `row * x >= side`, bounds and rows alike. A
+vertex is a point at which as many conditions as there are variables hold with equality: the active
+ones. Each has an edge, along which it alone grows, and a dual value, which is what the objective
+gains on that edge. While the duals are at least 0, they are a proof: the sum of the active
+conditions, each times its dual, is `objective >= value`. The method goes from such a vertex to the
+next until no condition is broken.
 """
 
 from fractions import Fraction
@@ -12,7 +13,8 @@ from math import lcm
 
 
 class Infeasible(Exception):
-    """No point meets the conditions: their sum with these multipliers is `0 >= a number above 0`."""
+    """No point meets the conditions: their sum with these multipliers is `0 >= a number above
+    0`."""
 
     def __init__(self, multipliers):
         super().__init__("infeasible")
@@ -24,7 +26,8 @@ class Unbounded(Exception):
 
 
 class Optimum:
-    """The least value of an objective, a point that has it, and the multipliers of the conditions that prove it."""
+    """The least value of an objective, a point that has it, and the multipliers of the conditions
+    that prove it."""
 
     def __init__(self, value, point, multipliers):
         self.value, self.point, self.multipliers = value, point, multipliers
@@ -43,8 +46,8 @@ def whole_if_possible(number):
 class LinearProgram:
     """Minimizes `costs * x` over conditions `rows[k] * x >= sides[k]`.
 
-    Rows go by variable. The first conditions are the bounds of variables: 2j is `x[j] >= side`, and 2j + 1 is `-x[j] >= side`.
-    The side of a bound that is infinite is None.
+    Rows go by variable. The first conditions are the bounds of variables: 2j is `x[j] >= side`, and
+    2j + 1 is `-x[j] >= side`. The side of a bound that is infinite is None.
     """
 
     def __init__(self, costs, rows, sides):
@@ -61,7 +64,8 @@ class LinearProgram:
             for side, scale in zip(sides, self.scales)
         ]
         size = len(costs)
-        # the bound of each variable that the objective pushes it to; a missing one stands for a bound that is far away
+        # the bound of each variable that the objective pushes it to; a missing one stands for a
+        # bound that is far away
         self.active = [2 * j + (cost < 0) for j, cost in enumerate(self.costs)]
         # edges and duals are divided by the common denominator, so they are integers
         self.denominator = 1
@@ -97,7 +101,8 @@ class LinearProgram:
             self.pivot(broken)
 
     def vertex(self):
-        """The point times the denominator, in two parts: what is near, and what is multiplied by a distance without end."""
+        """The point times the denominator, in two parts: what is near, and what is multiplied by a
+        distance without end."""
         size = len(self.costs)
         near, far = [0] * size, [0] * size
         for k, edge in zip(self.active, self.edges):
@@ -108,7 +113,8 @@ class LinearProgram:
         return near, far
 
     def first_broken(self, near, far):
-        """The first condition that the point doesn't meet. (The first of all: then the method ends, which is Bland's rule.)"""
+        """The first condition that the point doesn't meet. (The first of all: then the method ends,
+        which is Bland's rule.)"""
         for k, (row, side) in enumerate(zip(self.rows, self.sides)):
             if side is not None:
                 away = sum(value * far[j] for j, value in row.items())
@@ -121,7 +127,8 @@ class LinearProgram:
         return None
 
     def pivot(self, entering):
-        """Makes a broken condition active, in place of the one whose dual value would fall below 0 first."""
+        """Makes a broken condition active, in place of the one whose dual value would fall below 0
+        first."""
         row = self.rows[entering]
         gains = [sum(value * edge[j] for j, value in row.items()) for edge in self.edges]
         leaving = None

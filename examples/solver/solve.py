@@ -1,15 +1,18 @@
 #!/usr/bin/env python3
-"""Solves a small mixed-integer model exactly, by branch and bound, and writes the proof as a certificate.
+"""Solves a small mixed-integer model exactly, by branch and bound, and writes the proof as a
+certificate.
 
     python3 solve.py model.mps > proof.vipr && vipr check proof.vipr
 
-It is for models of some dozens of rows and columns, and for those who write certificates from a solver of their own: each step
-of a proof is made here by one call of vipr.Writer, and says which rule of docs/FORMAT.md allows it. Nothing here is trusted:
-`vipr check` checks the proof, and `vipr-compare-mps` that it is about the model.
+It is for models of some dozens of rows and columns, and for those who write certificates from a
+solver of their own: each step of a proof is made here by one call of vipr.Writer, and says which
+rule of docs/FORMAT.md allows it. Nothing here is trusted: `vipr check` checks the proof, and
+`vipr-compare-mps` that it is about the model.
 
-An integer column needs a bound. If one has only a lower or only an upper bound, the search may go on without end; then give it
-both. Ctrl-C ends the search, and nothing is written. The exit status is 0, 1 if there is no proof, 2 if the command line isn't
-understood, and 3 if the file can't be read.
+An integer column needs a bound. If one has only a lower or only an upper bound, the search may go
+on without end; then give it both. Ctrl-C ends the search, and nothing is written. The exit status
+is 0, 1 if there is no proof, 2 if the command line isn't understood, and 3 if the file can't be
+read.
 """
 
 import argparse
@@ -19,7 +22,8 @@ from fractions import Fraction
 from math import ceil, floor, gcd, lcm
 from pathlib import Path
 
-# (without an installed package that of a folder above is taken: of this repository, or of an archive of it)
+# (without an installed package that of a folder above is taken: of this repository, or of an
+# archive of it)
 ABOVE = Path(__file__).resolve().parents
 sys.path += [str(folder / "python") for folder in ABOVE if (folder / "python/vipr").is_dir()]
 from simplex import Infeasible, LinearProgram, Unbounded  # noqa: E402
@@ -36,9 +40,11 @@ class NoProof(Exception):
 
 
 class Model:
-    """A model whose objective is minimized: `turn` is -1 if the file's is maximized, and its objective then the negative one.
+    """A model whose objective is minimized: `turn` is -1 if the file's is maximized, and its
+    objective then the negative one.
 
-    Each condition `rows[k] * x >= sides[k]` has a reason: the constraint of the certificate that says so, and a sign.
+    Each condition `rows[k] * x >= sides[k]` has a reason: the constraint of the certificate that
+    says so, and a sign.
     """
 
     def __init__(self, file, proof):
@@ -62,7 +68,8 @@ class Model:
                 self.add(row, lower, upper, said, is_bound=False)
 
     def add(self, row, lower, upper, said, is_bound=True):
-        """The conditions of two sides, which two constraints say. A bound that is infinite has an empty place."""
+        """The conditions of two sides, which two constraints say. A bound that is infinite has an
+        empty place."""
         for sign, side, constraint in ((1, lower, said.lower), (-1, upper, said.upper)):
             if side is not None or is_bound:
                 self.rows.append({j: value * sign for j, value in row.items()})
@@ -117,10 +124,12 @@ class Solver:
         finally:
             self.progress.end()
         if bound is None:
-            # The claim: some constraint that rests on no assumption is absurd (FORMAT, section 4, "The claim").
+            # The claim: some constraint that rests on no assumption is absurd (FORMAT, section 4,
+            # "The claim").
             self.proof.claim_infeasible()
         else:
-            # One such constraint proves the dual side, and a listed solution attains the primal side.
+            # One such constraint proves the dual side, and a listed solution attains the primal
+            # side.
             names = self.model.names
             value = self.proof.solution(dict(zip(names, self.point)), "optimum")
             self.proof.claim(*sorted([bound * self.model.turn, value]))
@@ -138,7 +147,8 @@ class Solver:
                 found = program.solve_exactly()
                 split = self.most_fractional(found.point)
         except Infeasible as fault:
-            # A Farkas proof is `0 >= b` with b above 0: by `lin`, since an absurd sum dominates every constraint.
+            # A Farkas proof is `0 >= b` with b above 0: by `lin`, since an absurd sum dominates
+            # every constraint.
             return None, self.proof.contradiction(self.entries(fault.multipliers, reasons))
         if split is None:
             self.keep(found.point)
@@ -149,7 +159,8 @@ class Solver:
 
     def branches(self, program, reasons, split, value):
         """Proves a bound for a node by the bounds of its two branches."""
-        # Two assumptions `x <= k` and `x >= k + 1` split: one of them holds at each integral point (FORMAT, `asm` and `uns`).
+        # Two assumptions `x <= k` and `x >= k + 1` split: one of them holds at each integral point
+        # (FORMAT, `asm` and `uns`).
         down, up = self.proof.branch({self.model.names[split]: 1}, floor(value))
         sides = [(2 * split + 1, -floor(value), down, -1), (2 * split, floor(value) + 1, up, 1)]
         proved = {}
@@ -164,7 +175,8 @@ class Solver:
         named = [
             index for assumed, (_, constraint) in proved.items() for index in (constraint, assumed)
         ]
-        # `uns` joins the branches: what both prove rests on neither assumption. An absurd one proves every bound.
+        # `uns` joins the branches: what both prove rests on neither assumption. An absurd one
+        # proves every bound.
         if not bounds:
             return None, self.proof.uns("G", 1, {}, *named)
         bound = min(bounds)
@@ -172,12 +184,14 @@ class Solver:
         return bound, self.proof.uns(sense, bound * self.model.turn, vipr.OBJECTIVE, *named)
 
     def dual_bound(self, found, value, reasons):
-        """States that the objective is at least a value: the dual solution is the multipliers of a sum."""
+        """States that the objective is at least a value: the dual solution is the multipliers of a
+        sum."""
         entries = self.entries(found.multipliers, reasons)
         if self.step is None:
             return self.proof.bound(value * self.model.turn, entries)
-        # The objective is a multiple of the step. If the step is 1, `rnd` rounds the bound of the sum; else it rounds the
-        # bound of the objective divided by the step, and `lin` multiplies by it again. (To round is a Chvatal-Gomory cut.)
+        # The objective is a multiple of the step. If the step is 1, `rnd` rounds the bound of the
+        # sum; else it rounds the bound of the objective divided by the step, and `lin` multiplies
+        # by it again. (To round is a Chvatal-Gomory cut.)
         if self.step == 1:
             return self.proof.bound(value * self.model.turn, entries, rounded=True)
         costs = enumerate(self.model.costs)
@@ -188,7 +202,8 @@ class Solver:
         return self.proof.bound(value * self.model.turn, {cut: self.step})
 
     def entries(self, multipliers, reasons):
-        """A sum of conditions as one of constraints: `L` times a negative number is `G`. A maximum is proved from above."""
+        """A sum of conditions as one of constraints: `L` times a negative number is `G`. A maximum
+        is proved from above."""
         found = []
         for condition, multiplier in multipliers:
             constraint, sign = reasons[condition]
@@ -204,7 +219,8 @@ class Solver:
         return sum(cost * value for cost, value in zip(self.model.costs, point))
 
     def is_attained(self, program, found):
-        """Whether a point is feasible and has the value that is proved; one of floating-point numbers may fail by a little."""
+        """Whether a point is feasible and has the value that is proved; one of floating-point
+        numbers may fail by a little."""
         return program.is_met(found.point) and self.value(found.point) <= self.rounded(found.value)
 
     def keep(self, point):
@@ -224,7 +240,8 @@ class Solver:
 
 
 def read_model(words):
-    """The file that is named. Raises NoProof, with what the package's reader says of a wrong line."""
+    """The file that is named. Raises NoProof, with what the package's reader says of a wrong
+    line."""
     try:
         return mps.read_mps(vipr.files.read_file(words.model), words.integers, words.maximize)
     except mps.Refused as fault:

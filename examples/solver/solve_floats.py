@@ -3,10 +3,12 @@
 
     python3 solve_floats.py model.mps > proof.vipr && vipr check proof.vipr
 
-HiGHS (of scipy) solves the linear program of each node. Its dual solution is wrong in the last digits, so it proves nothing. But
-any dual solution near it will do: its numbers are rounded to fractions with one small denominator, and what then is left of the
-objective is taken up by the bounds of variables, exactly. The bound that is proved so is a little weaker, or not at all if the
-rounded objective is whole. If that fails, as a variable has no bound, the node is solved exactly, which takes longer.
+HiGHS (of scipy) solves the linear program of each node. Its dual solution is wrong in the last
+digits, so it proves nothing. But any dual solution near it will do: its numbers are rounded to
+fractions with one small denominator, and what then is left of the objective is taken up by the
+bounds of variables, exactly. The bound that is proved so is a little weaker, or not at all if the
+rounded objective is whole. If that fails, as a variable has no bound, the node is solved exactly,
+which takes longer.
 """
 
 import sys
@@ -82,7 +84,8 @@ class FloatProgram(LinearProgram):
         return linprog(list(map(float, costs)), matrix, right, bounds=box, method="highs")
 
     def proved(self, marginals, costs):
-        """The best exact bound near some dual values, and the multipliers that prove it; None if there is none."""
+        """The best exact bound near some dual values, and the multipliers that prove it; None if
+        there is none."""
         duals = [max(0.0, -value) for value in marginals]
         simple = lcm(*(Fraction(dual).limit_denominator(SIMPLE).denominator for dual in duals))
         found = [self.repaired(duals, costs, below) for below in {min(simple, FINE), FINE}]

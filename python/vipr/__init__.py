@@ -8,10 +8,11 @@
     else:
         print(verdict.refusal.cause.word)
 
-`is_verified`, `check`, `check_file`, `explain`, `explain_long`, `show`, `tighten` and `digest` are calls of the proved library. Everything
-else in this package is plain Python that nothing proves: `read` and `read_file` give a certificate as values, `Writer` writes
-one, `read_mps` reads a model, `compared` compares the two, and `figures` measures a certificate. What refuses a certificate
-gives a `Refused`, which is false in a condition; `read_mps` raises `mps.Refused`.
+`is_verified`, `check`, `check_file`, `explain`, `explain_long`, `show`, `tighten` and `digest` are
+calls of the proved library. Everything else in this package is plain Python that nothing proves:
+`read` and `read_file` give a certificate as values, `Writer` writes one, `read_mps` reads a model,
+`compared` compares the two, and `figures` measures a certificate. What refuses a certificate gives
+a `Refused`, which is false in a condition; `read_mps` raises `mps.Refused`.
 """
 
 from typing import TYPE_CHECKING, Any, List

@@ -9,10 +9,11 @@
   program      the version of the library, its SHA-256, and the commit and kit of its build, if the file BUILD of
                the archive, the wheel or the Debian package has this SHA-256
 
-The exit status is 0 only if the certificate is verified, its problem is the model's, and it proves the optimum: both bounds are
-one number, or there is no solution. With --bounds one finite bound is enough. If RHS gives the objective's row a number, the
-status is 1 unless --constant says what the number means. It is 1 if something isn't so, 2 if the command line isn't understood,
-and 3 if a file can't be read or the library isn't there.
+The exit status is 0 only if the certificate is verified, its problem is the model's, and it proves
+the optimum: both bounds are one number, or there is no solution. With --bounds one finite bound is
+enough. If RHS gives the objective's row a number, the status is 1 unless --constant says what the
+number means. It is 1 if something isn't so, 2 if the command line isn't understood, and 3 if a file
+can't be read or the library isn't there.
 """
 from __future__ import annotations
 
@@ -33,7 +34,8 @@ from .files import FAILED, REFUSED, VERIFIED, Alive, Parser, printable, read_bot
 from .verdict import Claim, Verdict
 
 PLACES = 6
-# how often the number of the objective's row is added to what the certificate proves, by the word of --constant
+# how often the number of the objective's row is added to what the certificate proves, by the word
+# of --constant
 MEANINGS = {"ignore": 0, "add": 1, "subtract": -1}
 
 
@@ -107,7 +109,8 @@ class Answer:
 
 @dataclass(frozen=True)
 class Question:
-    """What is enough for an answer: bounds in place of the optimum, and how often the constant is added, if that is said."""
+    """What is enough for an answer: bounds in place of the optimum, and how often the constant is
+    added, if that is said."""
 
     takes_bounds: bool = False
     times: Optional[int] = None
@@ -129,8 +132,8 @@ class Question:
 
 @dataclass(frozen=True)
 class Audit:
-    """What is found of a model and a certificate: their digests, the verdict, what the comparison prints, and the claim and the
-    constant of the model if the problem is the model's."""
+    """What is found of a model and a certificate: their digests, the verdict, what the comparison
+    prints, and the claim and the constant of the model if the problem is the model's."""
 
     model: Digests
     certificate: Digests

@@ -1,12 +1,12 @@
 """A certificate's text as values, read by docs/FORMAT.md. Nothing proves this reader.
 
-It refuses what `vipr show` refuses, with the same cause and place: a text's faults. Whether the proof holds isn't tested.
-A number is an int if it is whole, and a Fraction otherwise. Names are str; bytes that aren't UTF-8 are kept in them as Python
-keeps those of file names.
+It refuses what `vipr show` refuses, with the same cause and place: a text's faults. Whether the
+proof holds isn't tested. A number is an int if it is whole, and a Fraction otherwise. Names are
+str; bytes that aren't UTF-8 are kept in them as Python keeps those of file names.
 
-Constraints, solutions and derivations are read once to test the text, and again as they are asked for: what is kept is the
-text, and where each begins. Most are matched by one expression. What it doesn't match is read token by token, which says what
-is at fault.
+Constraints, solutions and derivations are read once to test the text, and again as they are asked
+for: what is kept is the text, and where each begins. Most are matched by one expression. What it
+doesn't match is read token by token, which says what is at fault.
 """
 from __future__ import annotations
 
@@ -62,7 +62,8 @@ _BEGINS_WITH_ZERO = re.compile(rb"[\t-\r ][+-]?0")
 
 
 def _pattern(text: bytes) -> re.Pattern[bytes]:
-    """An expression over tokens, with ` ` for white space and a word for each kind of token that needs no second look."""
+    """An expression over tokens, with ` ` for white space and a word for each kind of token that
+    needs no second look."""
     words = {
         b"NAME": rb"[^\t-\r ]{1,65535}",
         b"NUMBER": rb"[+-]?[0-9]{1,38}(?:/[1-9][0-9]{0,37})?",
@@ -83,7 +84,8 @@ _DERIVATION = _pattern(
 
 
 class Constraint(NamedTuple):
-    """A name, a sense (`G` at least, `L` at most, `E` equal), a right-hand side, and the nonzero coefficients by variable."""
+    """A name, a sense (`G` at least, `L` at most, `E` equal), a right-hand side, and the nonzero
+    coefficients by variable."""
 
     name: str
     sense: str
@@ -95,8 +97,9 @@ class Constraint(NamedTuple):
 
 
 class Derivation(NamedTuple):
-    """A derived constraint and its reason. Under `lin` and `rnd` there are entries, each a constraint's index and a
-    multiplier; under `uns` the four indices i1, l1, i2, l2. `last` is None for the last reference -1.
+    """A derived constraint and its reason. Under `lin` and `rnd` there are entries, each a
+    constraint's index and a multiplier; under `uns` the four indices i1, l1, i2, l2. `last` is None
+    for the last reference -1.
     """
 
     constraint: Constraint
@@ -122,7 +125,8 @@ class Solution(NamedTuple):
 
 @dataclass(frozen=True)
 class Problem:
-    """The problem of a certificate, with its claim. `bounds` is how many of the constraints it counts as bounds."""
+    """The problem of a certificate, with its claim. `bounds` is how many of the constraints it
+    counts as bounds."""
 
     names: List[str]
     integers: Set[int]
@@ -135,7 +139,8 @@ class Problem:
 
 @dataclass(frozen=True)
 class Certificate:
-    """A problem, solutions and derivations. The first derived constraint has the index len(problem.constraints)."""
+    """A problem, solutions and derivations. The first derived constraint has the index
+    len(problem.constraints)."""
 
     problem: Problem
     solutions: Sequence[Solution]
@@ -154,8 +159,8 @@ class Certificate:
         )
 
     def lines(self) -> Iterator[str]:
-        """Each constraint as the text spells it, with one space between tokens; derived ones with their reasons, and without
-        their last references."""
+        """Each constraint as the text spells it, with one space between tokens; derived ones with
+        their reasons, and without their last references."""
         for items in (self.problem.constraints, self.derivations):
             if not isinstance(items, Items):
                 raise TypeError("a certificate that was not read has no text")
@@ -169,8 +174,9 @@ class Certificate:
 
 
 class References:
-    """What each derivation names, as `Derivation.named` gives it, by which reason, and the length of its row, in a few bytes.
-    `numbers` is how many coefficients and multipliers all of them are written with."""
+    """What each derivation names, as `Derivation.named` gives it, by which reason, and the length
+    of its row, in a few bytes. `numbers` is how many coefficients and multipliers all of them are
+    written with."""
 
     def __init__(self) -> None:
         self.reasons: List[str] = []
@@ -324,7 +330,8 @@ class _Front:
 
 
 def _integer(token: bytes) -> int:
-    """The value of an integer. Python takes no more than some thousand digits, and there may be as many zeros in front."""
+    """The value of an integer. Python takes no more than some thousand digits, and there may be as
+    many zeros in front."""
     size = int(token.lstrip(b"+-0") or b"0")
     return -size if token[:1] == b"-" else size
 
@@ -391,7 +398,8 @@ def _derivation(tokens: List[bytes], front: _Front) -> Derivation:
 
 
 def _has_row(match: Match[bytes], at: int, variables: int) -> bool:
-    """Whether the pairs from a group on are a row: as many as their count says, of variables that there are, each once."""
+    """Whether the pairs from a group on are a row: as many as their count says, of variables that
+    there are, each once."""
     count = match[at]
     if count is None or count == b"0":
         return count is None or not match[at + 1]
@@ -420,11 +428,13 @@ class _Fault(Exception):
 
 
 class _Reader:
-    """The tokens of a text from a place on, one after the other. Short tokens that spell the same number give one object."""
+    """The tokens of a text from a place on, one after the other. Short tokens that spell the same
+    number give one object."""
 
     def __init__(self, text: bytes, start: int = 0) -> None:
         self.text = text
-        # the tokens of a piece of the text: all of them and those that are to come, where it begins, and where it ends
+        # the tokens of a piece of the text: all of them and those that are to come, where it
+        # begins, and where it ends
         self.piece: List[bytes] = []
         self.tokens = iter(self.piece)
         self.start = self.end = start
@@ -452,7 +462,8 @@ class _Reader:
         return next(self.tokens)
 
     def end_before_long(self) -> None:
-        """Ends the piece before its first token that is too long, which is a fault if it is the first."""
+        """Ends the piece before its first token that is too long, which is a fault if it is the
+        first."""
         at = next(at for at, token in enumerate(self.piece) if len(token) > LONGEST_TOKEN)
         self.end = self.offset(at)
         if at == 0:
@@ -651,7 +662,8 @@ class _Text:
         front: _Front,
         read: Callable[[_Front], object],
     ) -> Tuple[array[int], int]:
-        """Where each of so many constraints or solutions begins, and where the last one ends. What the expression doesn't match is read by tokens."""
+        """Where each of so many constraints or solutions begins, and where the last one ends. What
+        the expression doesn't match is read by tokens."""
         found, place, text = array("Q"), self.reader.place(), self.text
         for number in range(count):
             self.alive(number, place)
@@ -717,7 +729,8 @@ def as_bytes(text: Text) -> bytes:
 
 
 def read(text: Text, progress: Optional[Progress] = None) -> Union[Certificate, Refused]:
-    """The certificate that a text spells, or the refusal of a text that spells none, which is false in a condition.
+    """The certificate that a text spells, or the refusal of a text that spells none, which is false
+    in a condition.
 
     Now and then `progress` is told how many bytes were read.
     """
@@ -733,7 +746,8 @@ def read_file(path: Union[str, os.PathLike[str]]) -> Union[Certificate, Refused]
 
 
 def read_problem(text: Text, progress: Optional[Progress] = None) -> Union[Problem, Refused]:
-    """The problem at the front of a certificate's text, or the refusal of its first fault. The rest isn't read.
+    """The problem at the front of a certificate's text, or the refusal of its first fault. The rest
+    isn't read.
 
     Now and then `progress` is told how many bytes were read.
     """

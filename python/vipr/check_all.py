@@ -1,8 +1,9 @@
-"""Checks many certificates on all cores, compressed ones too, shows how far it is, and goes on after a stop.
+"""Checks many certificates on all cores, compressed ones too, shows how far it is, and goes on
+after a stop.
 
-A PATH is a file or a folder. In a folder, and in those below it, files NAME.vipr, NAME.vipr.xz, .gz, .zst and .bz2 are checked,
-the largest first; links are followed. TABLE, or standard output, has a row for each, with tabs between these fields, or as a
-JSON object:
+A PATH is a file or a folder. In a folder, and in those below it, files NAME.vipr, NAME.vipr.xz,
+.gz, .zst and .bz2 are checked, the largest first; links are followed. TABLE, or standard output,
+has a row for each, with tabs between these fields, or as a JSON object:
 
   result    what came of it
   seconds   how long it took
@@ -23,15 +24,16 @@ A result is one of these:
   unpack              the file can't be unpacked to its end: what was checked isn't what it holds
   unread              the file or folder can't be read, is a link that leads nowhere, or changed while it was checked
 
-With --resume a verdict that TABLE has for a file counts if its bytes, its time, the profile and the program are those of
-now, and with --sum if it has a digest; all others are checked, and the last row of a file counts. A file that changed less
-than two seconds before its check is checked again: it may have changed once more at the same time, by the clock of its
-disk. With --part K/N a file is of the K-th of N parts by its name alone, so N runs with the same PATHs check each file
-once, whatever is added meanwhile.
+With --resume a verdict that TABLE has for a file counts if its bytes, its time, the profile and the
+program are those of now, and with --sum if it has a digest; all others are checked, and the last
+row of a file counts. A file that changed less than two seconds before its check is checked again:
+it may have changed once more at the same time, by the clock of its disk. With --part K/N a file is
+of the K-th of N parts by its name alone, so N runs with the same PATHs check each file once,
+whatever is added meanwhile.
 
-The last lines, on standard error, count refusals by cause, and all results. The exit status is 0 if all are verified, by
-this run or a row of TABLE that counts, 1 if one isn't or if there is none, 2 if the command line isn't understood, and 3 if
-TABLE or a list can't be read or written.
+The last lines, on standard error, count refusals by cause, and all results. The exit status is 0 if
+all are verified, by this run or a row of TABLE that counts, 1 if one isn't or if there is none, 2
+if the command line isn't understood, and 3 if TABLE or a list can't be read or written.
 """
 from __future__ import annotations
 
@@ -135,7 +137,8 @@ class Row(NamedTuple):
 
     @classmethod
     def read(cls, text: str, as_json: bool) -> Iterator[Tuple[str, Row]]:
-        """The file of a line of a table, as `printable` has it, and its row; nothing of a line that was cut."""
+        """The file of a line of a table, as `printable` has it, and its row; nothing of a line that
+        was cut."""
         try:
             found = FIELDS.fullmatch(cls(**json.loads(text)).text(False) if as_json else text)
         except (ValueError, TypeError):
@@ -160,7 +163,8 @@ def is_named(name: str) -> bool:
 
 
 def found(path: Path, is_given: bool) -> Found:
-    """A file. What a folder has must be a regular file, so that no run waits for a pipe that nobody writes."""
+    """A file. What a folder has must be a regular file, so that no run waits for a pipe that nobody
+    writes."""
     try:
         about = path.stat()
     except OSError as fault:
@@ -173,8 +177,8 @@ def found(path: Path, is_given: bool) -> Found:
 
 
 def below(top: Path) -> Iterator[Found]:
-    """The certificates of a folder, of those below it and then of those behind links, each folder once; and what can't be
-    read."""
+    """The certificates of a folder, of those below it and then of those behind links, each folder
+    once; and what can't be read."""
     seen: Set[Tuple[int, int]] = set()
     folders: List[Path] = [top]
     links: List[Path] = []
@@ -253,7 +257,8 @@ class Running:
 
 
 def end_by_signals() -> None:
-    """Lets a signal end this program as `sys.exit` does, so that it ends its runs. Signals that are ignored stay so."""
+    """Lets a signal end this program as `sys.exit` does, so that it ends its runs. Signals that are
+    ignored stay so."""
     for each in (signal.SIGTERM, signal.SIGHUP):
         if signal.getsignal(each) == signal.SIG_DFL:
             signal.signal(each, lambda which, _: sys.exit(128 + which))
@@ -291,7 +296,8 @@ def answer(
 def checked(
     file: IO[bytes], suffix: str, job: argparse.Namespace, running: Running
 ) -> Tuple[str, str, str]:
-    """What came of the text of a file, which is unpacked if it has such a suffix. A verdict on a part of it is none."""
+    """What came of the text of a file, which is unpacked if it has such a suffix. A verdict on a
+    part of it is none."""
     words = limited(
         [job.vipr, "check", "--profile", job.profile, *(["--sum"] if job.sum else [])],
         job,
@@ -339,7 +345,8 @@ def checked(
 
 
 def feed(child: subprocess.Popen[bytes], pieces: Iterator[bytes]) -> str:
-    """Hands a text that is unpacked to a run, and gives why it can't be unpacked. A run that has its answer reads no more."""
+    """Hands a text that is unpacked to a run, and gives why it can't be unpacked. A run that has
+    its answer reads no more."""
     assert child.stdin
     fault = ""
     try:
@@ -398,7 +405,8 @@ def counted(counts: Dict[str, int]) -> str:
 
 
 class Progress:
-    """A line on a terminal that shows how far it is. A file takes as long as its bytes, and the start of a run."""
+    """A line on a terminal that shows how far it is. A file takes as long as its bytes, and the
+    start of a run."""
 
     def __init__(self, todo: List[Found]):
         self.count, self.all = len(todo), sum(file.size + START for file in todo)
@@ -423,7 +431,8 @@ class Progress:
 
 
 def taken(ended: queue.SimpleQueue[Future[Row]]) -> Future[Row]:
-    """The next run that ends. Python may miss a signal that comes just before a wait, until that ends."""
+    """The next run that ends. Python may miss a signal that comes just before a wait, until that
+    ends."""
     while True:
         try:
             return ended.get(timeout=OFTEN)
@@ -460,7 +469,8 @@ def check_all(todo: List[Found], job: argparse.Namespace, table: IO[str]) -> Lis
 
 
 def opened(name: str, mode: str) -> IO[str]:
-    """A text file whose lines end with a line feed alone. Names that aren't UTF-8 keep their bytes."""
+    """A text file whose lines end with a line feed alone. Names that aren't UTF-8 keep their
+    bytes."""
     return open(name, mode, encoding="utf-8", errors="surrogateescape", newline="\n")
 
 
@@ -505,7 +515,8 @@ def summary(rows: List[Row], checked_now: int) -> Iterator[str]:
 
 
 def program(name: str, seconds: Optional[int]) -> str:
-    """The version of a program and the SHA-256 of its file, so that rows of another one don't count."""
+    """The version of a program and the SHA-256 of its file, so that rows of another one don't
+    count."""
     file = shutil.which(name) or name
     try:
         said = subprocess.run(

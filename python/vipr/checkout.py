@@ -16,7 +16,8 @@ _FINDS = _PACKAGE.parents[1] / "tools/proved.sh"
 
 
 def _proved(kind: str) -> Tuple[Optional[Path], str]:
-    """The path of the program, or the folder of the library; None with the reason if there is none."""
+    """The path of the program, or the folder of the library; None with the reason if there is
+    none."""
     if _PACKAGE.parent.name != "python" or not _FINDS.is_file():
         return None, ""
     done = subprocess.run(

@@ -1,4 +1,5 @@
-"""Says whether the problem of a certificate is that of an MPS file, exactly, by the names of the variables.
+"""Says whether the problem of a certificate is that of an MPS file, exactly, by the names of the
+variables.
 
 The first line is one of these:
 
@@ -11,12 +12,13 @@ The first line is one of these:
   refused N at byte K
                      the certificate's text is at fault there, as for `vipr check`
 
-The lines after it show the fault. `constant V` says that RHS gives the objective's row the number V, which is in no bound:
-tools add it, subtract it or ignore it. Nothing proves this comparison, and it doesn't check the proof: with --check the
-library does, over the same bytes, and its lines come first.
+The lines after it show the fault. `constant V` says that RHS gives the objective's row the number
+V, which is in no bound: tools add it, subtract it or ignore it. Nothing proves this comparison, and
+it doesn't check the proof: with --check the library does, over the same bytes, and its lines come
+first.
 
-The exit status is 0 if the problems are the same (and the certificate is verified), 1 if not, 2 if the command line isn't
-understood, and 3 if a file can't be read.
+The exit status is 0 if the problems are the same (and the certificate is verified), 1 if not, 2 if
+the command line isn't understood, and 3 if a file can't be read.
 """
 from __future__ import annotations
 
@@ -41,9 +43,11 @@ Key = Union[bytes, str]
 
 
 def key_of(row: Row) -> Key:
-    """A value that stands for a row: equal rows have equal ones. Few bytes, if the coefficients are short integers.
+    """A value that stands for a row: equal rows have equal ones. Few bytes, if the coefficients are
+    short integers.
 
-    Python hashes bytes and texts by a number of its own for each run, so no file can choose rows whose hashes meet.
+    Python hashes bytes and texts by a number of its own for each run, so no file can choose rows
+    whose hashes meet.
     """
     indices = sorted(row)
     values = [row[index] for index in indices]
@@ -66,8 +70,9 @@ def row_of(key: Key) -> Row:
 
 
 class Rows:
-    """Numbers for rows, one for equal ones: that of a variable alone is the variable. Each row is whole or not wherever the
-    integer variables are. The objective's row is looked at once, however often `OBJ` stands for it.
+    """Numbers for rows, one for equal ones: that of a variable alone is the variable. Each row is
+    whole or not wherever the integer variables are. The objective's row is looked at once, however
+    often `OBJ` stands for it.
     """
 
     def __init__(self, problem: Problem):
@@ -111,8 +116,8 @@ class Rows:
 
 
 class Side:
-    """The conditions of one side, the file's or the certificate's, in their order, and each row's tightest bounds. It is absurd
-    if a condition is true nowhere."""
+    """The conditions of one side, the file's or the certificate's, in their order, and each row's
+    tightest bounds. It is absurd if a condition is true nowhere."""
 
     def __init__(self, rows: Rows) -> None:
         self.rows, self.is_absurd = rows, False
@@ -173,7 +178,8 @@ class Comparison:
         self.objective = self.row(file.objective)
 
     def row(self, name: str) -> Row:
-        """The coefficients of a row of the file, by variable. They are taken out of the file, since they need much memory."""
+        """The coefficients of a row of the file, by variable. They are taken out of the file, since
+        they need much memory."""
         return {
             self.variables[at]: value for at, value in self.file.entries.pop(name).items() if value
         }
@@ -323,8 +329,8 @@ class Comparison:
             )
 
     def claim(self, progress: Optional[Progress] = None) -> Claim:
-        """The claim as one of the file's problem. Raises Refused if the problems differ. `progress` is told how many rows and
-        constraints were looked at."""
+        """The claim as one of the file's problem. Raises Refused if the problems differ. `progress`
+        is told how many rows and constraints were looked at."""
         self.check_whole()
         turned = self.is_turned()
         self.check_conditions(progress)
@@ -339,7 +345,8 @@ def compared(
     infinity: Number = 0,
     alive: Optional[Alive] = None,
 ) -> Tuple[int, List[str]]:
-    """The status of a file and a certificate, and the lines to print. `alive` shows how far it is."""
+    """The status of a file and a certificate, and the lines to print. `alive` shows how far it
+    is."""
     part = alive.part if alive else silent
     try:
         file = read_mps(model, integers, maximize, infinity, part("reading the model", len(model)))
@@ -433,7 +440,8 @@ def parser() -> Parser:
 
 
 def main() -> int:
-    # (nothing here is a ring, and to look for rings among millions of numbers takes a fifth of the time)
+    # (nothing here is a ring, and to look for rings among millions of numbers takes a fifth of the
+    # time)
     gc.disable()
     made = parser()
     words = made.parse_args()

@@ -1,4 +1,5 @@
-"""Files and command lines of the commands: plain and compressed files, names that are printed, and what a command can't do."""
+"""Files and command lines of the commands: plain and compressed files, names that are printed, and
+what a command can't do."""
 from __future__ import annotations
 
 import argparse
@@ -21,7 +22,8 @@ SHORT = {"\\": "\\\\", "\t": "\\t", "\n": "\\n", "\r": "\\r"}
 
 
 def read_file(name: str) -> bytes:
-    """The bytes of a file, unpacked by its suffix; `-` is standard input. Raises OSError, also if it can't be unpacked."""
+    """The bytes of a file, unpacked by its suffix; `-` is standard input. Raises OSError, also if
+    it can't be unpacked."""
     if name == "-":
         return sys.stdin.buffer.read()
     suffix = Path(name).suffix
@@ -35,7 +37,8 @@ def read_file(name: str) -> bytes:
 
 
 def read_both(name: str) -> Tuple[bytes, bytes]:
-    """The bytes of a file, and its text, which is unpacked by its suffix. Raises what `read_file` raises."""
+    """The bytes of a file, and its text, which is unpacked by its suffix. Raises what `read_file`
+    raises."""
     suffix = Path(name).suffix
     if name == "-" or suffix not in SUFFIXES:
         text = read_file(name)
@@ -85,7 +88,8 @@ def escaped(character: str) -> str:
 
 
 def decoded(name: bytes) -> str:
-    """A name of a text as a str. Bytes that aren't UTF-8 are kept, as Python keeps them in the names of files."""
+    """A name of a text as a str. Bytes that aren't UTF-8 are kept, as Python keeps them in the
+    names of files."""
     return name.decode("utf-8", "surrogateescape")
 
 
@@ -95,8 +99,8 @@ def encoded(name: str) -> bytes:
 
 
 def printable(name: Union[bytes, str]) -> str:
-    """A name of a certificate or a file, as each is printed and stored: what isn't printable is escaped, so that it can't
-    control a terminal or end a line. Two names have two such texts."""
+    """A name of a certificate or a file, as each is printed and stored: what isn't printable is
+    escaped, so that it can't control a terminal or end a line. Two names have two such texts."""
     text = name.decode("utf-8", "surrogateescape") if isinstance(name, bytes) else name
     return "".join(
         character if character.isprintable() and character != "\\" else escaped(character)
@@ -115,7 +119,8 @@ class Said(io.FileIO):
 
 
 def open_streams() -> None:
-    """Ends a run without standard output, with the status of a failed write. Without standard error nothing is said."""
+    """Ends a run without standard output, with the status of a failed write. Without standard error
+    nothing is said."""
     if sys.stderr is None:
         sys.stderr = open(os.devnull, "w", encoding="utf-8")
     elif isinstance(sys.stderr, io.TextIOWrapper):
@@ -132,7 +137,8 @@ def open_streams() -> None:
 
 
 class Parser(argparse.ArgumentParser):
-    """The command line of a command. What is wrong with one is printed as names are, since it quotes them."""
+    """The command line of a command. What is wrong with one is printed as names are, since it
+    quotes them."""
 
     def __init__(self, name: str, about: Optional[str]):
         open_streams()
@@ -160,7 +166,8 @@ def number(word: str) -> int:
 
 
 class Alive:
-    """A line on a terminal that shows how far a command is, once it takes longer than two seconds."""
+    """A line on a terminal that shows how far a command is, once it takes longer than two
+    seconds."""
 
     def __init__(self) -> None:
         self.start = self.shown = time.monotonic()
@@ -203,7 +210,8 @@ class Alive:
 
 
 def run(command: Callable[[], int]) -> int:
-    """Runs a command, and gives its status: a file that can't be read or written is status 3, as for `vipr`."""
+    """Runs a command, and gives its status: a file that can't be read or written is status 3, as
+    for `vipr`."""
     try:
         if isinstance(sys.stdout, io.TextIOWrapper):
             sys.stdout.reconfigure(errors="backslashreplace")

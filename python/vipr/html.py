@@ -1,12 +1,14 @@
-"""Writes a page on which a person browses a proof: one file for a browser, which loads nothing from elsewhere.
+"""Writes a page on which a person browses a proof: one file for a browser, which loads nothing from
+elsewhere.
 
-It has the problem and the claim in algebra, and a row for each constraint, with its reason. Derivations are shown as the tree
-of their branches, which can be folded. Click on one to see the assumptions that it rests on, and what names it; click on these
-to go there. What the goal needs is shown first. If the library for C is installed, it checks the certificate, and a refusal is
-shown above, as `vipr explain --long` prints it.
+It has the problem and the claim in algebra, and a row for each constraint, with its reason.
+Derivations are shown as the tree of their branches, which can be folded. Click on one to see the
+assumptions that it rests on, and what names it; click on these to go there. What the goal needs is
+shown first. If the library for C is installed, it checks the certificate, and a refusal is shown
+above, as `vipr explain --long` prints it.
 
-The exit status is 0, 1 if the text is no certificate, 2 if the command line isn't understood, and 3 if a file can't be read
-or written. A certificate whose proof is refused has a page, too.
+The exit status is 0, 1 if the text is no certificate, 2 if the command line isn't understood, and 3
+if a file can't be read or written. A certificate whose proof is refused has a page, too.
 """
 from __future__ import annotations
 
@@ -42,7 +44,8 @@ def counted(count: int, word: str) -> str:
 
 
 class SetWriter:
-    """Writes sets of assumptions down, each once: the indices of a small one, or the parts of a large one."""
+    """Writes sets of assumptions down, each once: the indices of a small one, or the parts of a
+    large one."""
 
     def __init__(self) -> None:
         self.lines: List[str] = []
@@ -69,7 +72,8 @@ class SetWriter:
         return number
 
     def of_large(self, found: structure.Assumptions) -> int:
-        """A part of a range is written as its start and its bits, and one of two halves as their numbers."""
+        """A part of a range is written as its start and its bits, and one of two halves as their
+        numbers."""
         open_ones = [found]
         while open_ones:
             part = open_ones[-1]
@@ -148,7 +152,8 @@ class Page:
         yield "}"
 
     def html(self, name: str, verdict: Optional[Verdict], page: str) -> Iterator[str]:
-        """The page of a file of this name, in pieces, with its verdict, if there is one, and what stands above the rows."""
+        """The page of a file of this name, in pieces, with its verdict, if there is one, and what
+        stands above the rows."""
         problem = self.proof.problem
         refusal = verdict.refusal if verdict is not None else None
         fault = refusal.number if refusal and refusal.place is Place.DERIVATION else None

@@ -1,8 +1,8 @@
 """The calls of the library for C.
 
-VIPR_LIBRARY names the library's file. Without it the one in this folder is taken, which the wheel of `make dist` has, then
-that of the repository that this folder lies in, and else the system is asked for `vipr`, which `make install-lib` installs.
-The library is loaded at the first call.
+VIPR_LIBRARY names the library's file. Without it the one in this folder is taken, which the wheel
+of `make dist` has, then that of the repository that this folder lies in, and else the system is
+asked for `vipr`, which `make install-lib` installs. The library is loaded at the first call.
 """
 from __future__ import annotations
 
@@ -70,8 +70,9 @@ class _Figures(ctypes.Structure):
 
 @dataclass(frozen=True)
 class Tightened:
-    """A certificate without what its proof doesn't need: its text, how many derivations it kept and lost, and how many
-    derived constraints a check had to hold at once before and has to hold now."""
+    """A certificate without what its proof doesn't need: its text, how many derivations it kept and
+    lost, and how many derived constraints a check had to hold at once before and has to hold
+    now."""
 
     text: bytes
     kept: int
@@ -118,7 +119,8 @@ def _library() -> ctypes.CDLL:
 def _call(
     name: str, options: Tuple[Union[int, bytes], ...], text: Text, *behind: ctypes.Structure
 ) -> Tuple[bool, bytes]:
-    """Whether the status is 0, and the text of a call, which is made again if its text needs more room."""
+    """Whether the status is 0, and the text of a call, which is made again if its text needs more
+    room."""
     whole = as_bytes(text)
     call, length = getattr(_library(), name), _SIZE(ROOM)
     while True:
@@ -162,7 +164,8 @@ def check(text: Text, profile: int = 1) -> Union[Verified, Refused]:
 
 
 def check_file(path: Union[str, os.PathLike[str]], profile: int = 1) -> Union[Verified, Refused]:
-    """The verdict on the certificate in a file, which is unpacked if it is a .gz, .xz, .bz2 or .zst.
+    """The verdict on the certificate in a file, which is unpacked if it is a .gz, .xz, .bz2 or
+    .zst.
 
     Raises what `check` raises, and OSError if the file can't be read or unpacked.
     """
@@ -170,7 +173,8 @@ def check_file(path: Union[str, os.PathLike[str]], profile: int = 1) -> Union[Ve
 
 
 def explain(text: Text, profile: int = 1) -> bytes:
-    """What `vipr explain` prints: the verdict and what shows it, in bytes, since names may be in any encoding.
+    """What `vipr explain` prints: the verdict and what shows it, in bytes, since names may be in
+    any encoding.
 
     Raises what `check` raises.
     """
@@ -178,7 +182,8 @@ def explain(text: Text, profile: int = 1) -> bytes:
 
 
 def explain_long(text: Text, name: str = "the text", profile: int = 1) -> bytes:
-    """What `vipr explain --long` prints of a file of this name: a page for people after what `explain` gives.
+    """What `vipr explain --long` prints of a file of this name: a page for people after what
+    `explain` gives.
 
     Raises what `check` raises.
     """
@@ -187,8 +192,8 @@ def explain_long(text: Text, name: str = "the text", profile: int = 1) -> bytes:
 
 
 def show(text: Text, compact: bool = False) -> Union[bytes, Refused]:
-    """The one canonical text of a certificate, or the refusal of a text that spells none, which is false in a condition. The
-    proof is not checked.
+    """The one canonical text of a certificate, or the refusal of a text that spells none, which is
+    false in a condition. The proof is not checked.
 
     Raises OutOfMemory and LibraryMissing.
     """
@@ -198,8 +203,8 @@ def show(text: Text, compact: bool = False) -> Union[bytes, Refused]:
 
 
 def tighten(text: Text, profile: int = 1, compact: bool = False) -> Union[Tightened, Refused]:
-    """A certificate without what its proof doesn't need, or the refusal of a text that is no proof, which is false in a
-    condition.
+    """A certificate without what its proof doesn't need, or the refusal of a text that is no proof,
+    which is false in a condition.
 
     Raises what `check` raises.
     """
@@ -218,8 +223,9 @@ def _word(name: str, *text: Union[bytes, int]) -> str:
 
 
 def is_verified(text: Text) -> bool:
-    """Whether the text is verified by the rules of the first profile: the call with the shortest proved statement. If it is,
-    the text states a problem, and the claim is true of whatever problem it states. Raises LibraryMissing and OutOfMemory.
+    """Whether the text is verified by the rules of the first profile: the call with the shortest
+    proved statement. If it is, the text states a problem, and the claim is true of whatever problem
+    it states. Raises LibraryMissing and OutOfMemory.
     """
     whole = as_bytes(text)
     status = _library().vipr_is_verified(whole, len(whole))
@@ -229,13 +235,15 @@ def is_verified(text: Text) -> bool:
 
 
 def digest(text: Text) -> str:
-    """The SHA-256 of a text in hex digits, as `vipr check --sum` prints it. Raises LibraryMissing."""
+    """The SHA-256 of a text in hex digits, as `vipr check --sum` prints it. Raises
+    LibraryMissing."""
     whole = as_bytes(text)
     return _word("vipr_digest", whole, len(whole))
 
 
 def file() -> Optional[Path]:
-    """The file that holds the code of the library's calls, if the system says so. Raises LibraryMissing."""
+    """The file that holds the code of the library's calls, if the system says so. Raises
+    LibraryMissing."""
     address = ctypes.cast(_library().vipr_version, ctypes.c_void_p).value or 0
     maps = Path("/proc/self/maps")
     for row in maps.read_text(errors="surrogateescape").split("\n") if maps.is_file() else []:
@@ -246,5 +254,6 @@ def file() -> Optional[Path]:
 
 
 def version() -> str:
-    """The version of the library, followed by ` unproved` if it was built without a proof. Raises LibraryMissing."""
+    """The version of the library, followed by ` unproved` if it was built without a proof. Raises
+    LibraryMissing."""
     return _word("vipr_version")

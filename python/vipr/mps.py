@@ -1,9 +1,11 @@
 """MPS files that have one meaning, read exactly.
 
-MPS has no standard, and tools read some texts in different ways. This reader takes the texts that all read alike. It refuses
-any other at its line, with a cause that says what is unclear; docs/USE.md lists them. Nothing proves it.
+MPS has no standard, and tools read some texts in different ways. This reader takes the texts that
+all read alike. It refuses any other at its line, with a cause that says what is unclear;
+docs/USE.md lists them. Nothing proves it.
 
-A point gives each column a value. A row's sides are its least and its greatest value, None for none; so are a column's.
+A point gives each column a value. A row's sides are its least and its greatest value, None for
+none; so are a column's.
 """
 from __future__ import annotations
 
@@ -34,7 +36,8 @@ _DECIMAL = re.compile(rb"([+-]?)(?:([0-9]+)(?:\.([0-9]*))?|\.([0-9]+))(?:[eE]([+
 
 
 class Cause(enum.IntEnum):
-    """Why a file is refused, from 101 on, and how a certificate's problem differs from it, from 201 on."""
+    """Why a file is refused, from 101 on, and how a certificate's problem differs from it, from 201
+    on."""
 
     PROBLEM_ENDS = 101
     UNKNOWN_SECTION = 102
@@ -78,7 +81,8 @@ class Cause(enum.IntEnum):
 
 
 class Refused(Exception):
-    """A fault of a file or a difference: its cause, its place (a line of the file is `line N`), and what shows it, a line each."""
+    """A fault of a file or a difference: its cause, its place (a line of the file is `line N`), and
+    what shows it, a line each."""
 
     def __init__(self, cause: Cause, place: str, *shown: str):
         super().__init__(f"refused {int(cause)} at {place}")
@@ -87,7 +91,8 @@ class Refused(Exception):
 
 @dataclass
 class Column:
-    """A column: its number, the line that it begins at, whether it is whole, and what lines of BOUNDS set."""
+    """A column: its number, the line that it begins at, whether it is whole, and what lines of
+    BOUNDS set."""
 
     __slots__ = "number", "line", "is_whole", "lower", "upper"
     number: int
@@ -109,8 +114,9 @@ class Column:
 
 @dataclass
 class MpsFile:
-    """What a file says; names are str, as those of a certificate. `objective` is the name of its first row of type N, and
-    `entries` has for each row the coefficients that are written, by the number of the column."""
+    """What a file says; names are str, as those of a certificate. `objective` is the name of its
+    first row of type N, and `entries` has for each row the coefficients that are written, by the
+    number of the column."""
 
     maximizes: bool = False
     has_direction: bool = False
@@ -139,7 +145,8 @@ class MpsFile:
         return (right - magnitude(size), right) if kind == "L" else (right, right + magnitude(size))
 
     def constant(self) -> Number:
-        """The number that RHS gives the objective's row. Tools add it, subtract it or ignore it; the row has none."""
+        """The number that RHS gives the objective's row. Tools add it, subtract it or ignore it;
+        the row has none."""
         return self.right_side(self.objective)
 
 
@@ -154,7 +161,8 @@ def is_short_integer(token: bytes) -> bool:
 
 @functools.lru_cache(maxsize=1 << 16)
 def decimal(token: bytes) -> Optional[Number]:
-    """The exact value of a decimal, or None if the token is none. Raises OverflowError past the limit."""
+    """The exact value of a decimal, or None if the token is none. Raises OverflowError past the
+    limit."""
     match = _DECIMAL.fullmatch(token)
     if not match:
         return None
@@ -284,7 +292,8 @@ class _Reader:
             self.objective = name
 
     def entry(self, fields: List[bytes]) -> None:
-        """A line of COLUMNS: a marker, or a column with one pair or two. The lines of a column follow each other."""
+        """A line of COLUMNS: a marker, or a column with one pair or two. The lines of a column
+        follow each other."""
         if len(fields) not in (3, 5):
             raise self.fault(Cause.FIELD_COUNT)
         name = fields[0]
@@ -311,7 +320,8 @@ class _Reader:
             row[column] = value
 
     def is_plain_entry(self, line: bytes, fields: List[bytes]) -> bool:
-        """Takes one more entry of the column at hand, if nothing about it needs a second look: most lines are such ones."""
+        """Takes one more entry of the column at hand, if nothing about it needs a second look: most
+        lines are such ones."""
         row, token = self.entries.get(fields[1]), fields[2]
         if (
             row is None
@@ -450,8 +460,8 @@ class _Reader:
         )
 
     def whole(self, file: MpsFile, integers: Optional[str]) -> None:
-        """What only the whole file shows: an upper bound below 0 alone, an integer column without an upper bound, and a range
-        past the limit."""
+        """What only the whole file shows: an upper bound below 0 alone, an integer column without
+        an upper bound, and a range past the limit."""
         for name, column in file.columns.items():
             upper = column.upper
             if column.lower is None and upper is not None and upper[0] is not None and upper[0] < 0:
@@ -480,10 +490,11 @@ def read_mps(
 ) -> MpsFile:
     """The file that a text spells. Raises Refused.
 
-    `integers` is the upper bound of an integer column that no line gives one: 'one' or 'inf'; without it such a file is
-    refused. With `maximize` a file without a direction is to be maximized, and one with a direction is refused. A bound of
-    `infinity` or more is infinite, and all smaller ones are numbers; without it a bound of 1e20 or more is refused. Now and
-    then `progress` is told how many bytes were read.
+    `integers` is the upper bound of an integer column that no line gives one: 'one' or 'inf';
+    without it such a file is refused. With `maximize` a file without a direction is to be
+    maximized, and one with a direction is refused. A bound of `infinity` or more is infinite, and
+    all smaller ones are numbers; without it a bound of 1e20 or more is refused. Now and then
+    `progress` is told how many bytes were read.
     """
     reader = _Reader(infinity)
     reader.lines(text, progress)

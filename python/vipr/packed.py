@@ -1,4 +1,5 @@
-"""Packed files, piece by piece and whole: what is damaged, cut, or followed by other bytes can't be unpacked."""
+"""Packed files, piece by piece and whole: what is damaged, cut, or followed by other bytes can't be
+unpacked."""
 from __future__ import annotations
 
 import bz2
@@ -41,7 +42,8 @@ FAULTS = (EOFError, ValueError, OSError, zlib.error, lzma.LZMAError)
 
 
 def streams(file: IO[bytes], begin: Callable[[], Stream], padding: int) -> Iterator[bytes]:
-    """What the streams of a file hold, one after the other. Zeros may follow each, in multiples of `padding`, if that isn't 0."""
+    """What the streams of a file hold, one after the other. Zeros may follow each, in multiples of
+    `padding`, if that isn't 0."""
     rest = file.read(PIECE)
     if not rest:
         raise NotWhole("it is empty")
@@ -105,8 +107,9 @@ def unpacked(
     memory: Optional[int] = None,
     begun: Callable[[subprocess.Popen[bytes]], None] = lambda program: None,
 ) -> Iterator[bytes]:
-    """The text of a file with one of the SUFFIXES, in pieces, and in so many bytes of memory, if they are limited. A program
-    that unpacks is handed to `begun`, which may end it. Raises NotWhole."""
+    """The text of a file with one of the SUFFIXES, in pieces, and in so many bytes of memory, if
+    they are limited. A program that unpacks is handed to `begun`, which may end it. Raises
+    NotWhole."""
     if suffix == ".zst":
         return zstd(file, memory, begun)
     begin, padding = STREAMS[suffix]

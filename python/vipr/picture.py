@@ -1,16 +1,19 @@
-"""Draws the proof of a certificate as SVG: a box for each derivation, and an arrow to each derivation that it names.
+"""Draws the proof of a certificate as SVG: a box for each derivation, and an arrow to each
+derivation that it names.
 
-A box has the constraint in algebra, its reason, and the assumptions that it rests on. Assumptions are dashed. The goal, the
-constraint that proves the claim's dual side, has a thick border, and what it doesn't need is grey. The problem's constraints
-are listed beside the tree, and named in boxes by their index.
+A box has the constraint in algebra, its reason, and the assumptions that it rests on. Assumptions
+are dashed. The goal, the constraint that proves the claim's dual side, has a thick border, and what
+it doesn't need is grey. The problem's constraints are listed beside the tree, and named in boxes by
+their index.
 
-A certificate with many derivations is drawn as its tree of `uns`: a box for each split, with the assumptions at its branches
-and how many derivations are below it. The largest splits are opened, as many as --splits says.
+A certificate with many derivations is drawn as its tree of `uns`: a box for each split, with the
+assumptions at its branches and how many derivations are below it. The largest splits are opened, as
+many as --splits says.
 
 Nothing is checked here, and nothing proves the picture: check the certificate by `vipr check`.
 
-The exit status is 0, 1 if the text is no certificate, 2 if the command line isn't understood, and 3 if a file can't be read
-or written.
+The exit status is 0, 1 if the text is no certificate, 2 if the command line isn't understood, and 3
+if a file can't be read or written.
 """
 from __future__ import annotations
 
@@ -92,7 +95,8 @@ def written(text: str, x: float, y: float, style: str = "", anchor: str = "start
 
 
 def place(roots: List[int], children: Dict[int, List[int]], boxes: Dict[int, Box]) -> None:
-    """Gives each box its place: children side by side below their parent, as close as the boxes of each layer allow."""
+    """Gives each box its place: children side by side below their parent, as close as the boxes of
+    each layer allow."""
     order: List[int] = []
     open_ones = list(reversed(roots))
     while open_ones:
@@ -102,7 +106,8 @@ def place(roots: List[int], children: Dict[int, List[int]], boxes: Dict[int, Box
     offsets: Dict[int, float] = {}
 
     def side_by_side(row: List[int]) -> Tuple[List[float], List[float]]:
-        """Puts subtrees beside each other, and gives the left and right edge of each layer, from their middle."""
+        """Puts subtrees beside each other, and gives the left and right edge of each layer, from
+        their middle."""
         lefts: List[float] = []
         rights: List[float] = []
         places = []
@@ -202,7 +207,8 @@ class Picture:
         return {"asm": "assumed", "sol": "sol  the best listed solution"}[derivation.reason]
 
     def short(self, index: int, most: int) -> str:
-        """A constraint in so many characters: a long row is `objective`, or its beginning. One that isn't there is its index."""
+        """A constraint in so many characters: a long row is `objective`, or its beginning. One that
+        isn't there is its index."""
         if index >= self.derived.stop:
             return f"[{index}]"
         constraint = self.proof.constraint(index)
@@ -220,7 +226,8 @@ class Picture:
         return f"{row} {side}"
 
     def text(self, constraint: Constraint) -> str:
-        """A constraint uncut. A long row that is written `OBJ` is `objective`, so no picture is much longer than the text."""
+        """A constraint uncut. A long row that is written `OBJ` is `objective`, so no picture is
+        much longer than the text."""
         if constraint.row is self.proof.problem.objective and len(constraint.row) > MOST_TERMS:
             return f"objective {SIGNS[constraint.sense]} {constraint.bound}"
         return constraint_text(constraint, self.names)
@@ -360,7 +367,8 @@ class Picture:
         return Box(rows, self.style(index), self.title(index))
 
     def listed_constraints(self) -> List[int]:
-        """The first constraints of the problem: if there are more, those that the goal needs come first."""
+        """The first constraints of the problem: if there are more, those that the goal needs come
+        first."""
         needed = (at for at in range(self.first) if self.needed[at])
         others = (at for at in range(self.first) if not self.needed[at])
         return sorted(islice(chain(needed, others), MOST_LISTED))

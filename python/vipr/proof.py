@@ -1,4 +1,5 @@
-"""What hangs on what in a certificate's derivations: assumptions, the goal, and what it needs. Nothing here tests a proof."""
+"""What hangs on what in a certificate's derivations: assumptions, the goal, and what it needs.
+Nothing here tests a proof."""
 from __future__ import annotations
 
 import functools
@@ -17,8 +18,9 @@ MOST_COEFFICIENTS = 1 << 14  # how many numbers of constraints that sums name ar
 
 
 class Assumptions:
-    """A large set of indices. It shares its parts with other sets: a part covers `width` indices from `start` on, by bits if
-    there are RANGE of them, and else by two parts that cover a half each and aren't empty."""
+    """A large set of indices. It shares its parts with other sets: a part covers `width` indices
+    from `start` on, by bits if there are RANGE of them, and else by two parts that cover a half
+    each and aren't empty."""
 
     __slots__ = "start", "width", "bits", "halves", "size", "number"
     size: int
@@ -54,7 +56,8 @@ def indices(found: Found, most: Optional[int] = None) -> List[int]:
 
 
 class Sets:
-    """Makes sets of assumptions: equal parts are one, and two parts are joined once, as long as they are remembered."""
+    """Makes sets of assumptions: equal parts are one, and two parts are joined once, as long as
+    they are remembered."""
 
     def __init__(self) -> None:
         self.ranges: Dict[Tuple[int, int], Assumptions] = {}
@@ -164,7 +167,8 @@ def last_uses(proof: Certificate) -> array[int]:
 
 
 def assumptions(proof: Certificate) -> Iterator[Found]:
-    """The assumptions that each derived constraint rests on, by their indices. Sets that none needs any more aren't kept."""
+    """The assumptions that each derived constraint rests on, by their indices. Sets that none needs
+    any more aren't kept."""
     first, references, lasts = len(proof.problem.constraints), proof.references, last_uses(proof)
     kept: Dict[int, Found] = {}
     sets = Sets()
@@ -191,7 +195,8 @@ def assumptions(proof: Certificate) -> Iterator[Found]:
 
 @dataclass(frozen=True)
 class Outline:
-    """How many assumptions each derivation rests on, the goal, and for each constraint whether the goal needs it."""
+    """How many assumptions each derivation rests on, the goal, and for each constraint whether the
+    goal needs it."""
 
     sizes: array[int]
     goal: Optional[int]
@@ -203,8 +208,8 @@ def outline(
     progress: Optional[Progress] = None,
     see: Optional[Callable[[Found], None]] = None,
 ) -> Outline:
-    """What the derivations of a certificate are. `progress` is told how many were looked at, and `see` gets the assumptions of
-    each."""
+    """What the derivations of a certificate are. `progress` is told how many were looked at, and
+    `see` gets the assumptions of each."""
     sizes = array("I")
     for at, found in enumerate(assumptions(proof)):
         sizes.append(len(found))
@@ -235,7 +240,8 @@ def whole_row(row: Row, integers: Set[int]) -> bool:
 
 
 def proves_dual_side(problem: Problem, constraint: Constraint, rounds: bool) -> bool:
-    """Whether a constraint that rests on nothing proves the claim's dual side; a bound is rounded if it `rounds`."""
+    """Whether a constraint that rests on nothing proves the claim's dual side; a bound is rounded
+    if it `rounds`."""
     wanted = problem.claim.upper if problem.maximizes else problem.claim.lower
     if problem.claim.infeasible or (wanted is not None and is_absurd(constraint)):
         return is_absurd(constraint)
@@ -254,8 +260,9 @@ def proves_dual_side(problem: Problem, constraint: Constraint, rounds: bool) -> 
 
 
 def goal(proof: Certificate, sizes: array[int]) -> Optional[int]:
-    """The first constraint that proves the claim's dual side: by the first profile of the rules, or else by the second, which
-    rounds a bound of an objective that is whole. None if there is none, or if nothing has to be proved.
+    """The first constraint that proves the claim's dual side: by the first profile of the rules, or
+    else by the second, which rounds a bound of an objective that is whole. None if there is none,
+    or if nothing has to be proved.
     """
     problem, first = proof.problem, len(proof.problem.constraints)
     wanted = problem.claim.upper if problem.maximizes else problem.claim.lower
@@ -290,8 +297,9 @@ def needed(proof: Certificate, index: Optional[int]) -> bytearray:
 
 
 class Tree:
-    """A tree of the derivations of which there are flags: each is below that one of those that name it which is farthest down;
-    what the goal needs is below the goal. Derivations go by their constraints' indices."""
+    """A tree of the derivations of which there are flags: each is below that one of those that name
+    it which is farthest down; what the goal needs is below the goal. Derivations go by their
+    constraints' indices."""
 
     def __init__(self, proof: Certificate, needed: bytearray, among: bytearray) -> None:
         first, references = len(proof.problem.constraints), proof.references
@@ -343,10 +351,11 @@ class Tree:
 
 
 class Widths:
-    """How many bits the largest number has: of a sum's steps as well, which are refused past 127 bits (cause 35).
+    """How many bits the largest number has: of a sum's steps as well, which are refused past 127
+    bits (cause 35).
 
-    Sums of long rows that the text names by `OBJ` have many more steps than the text has bytes. After `most` steps none is
-    added up any more, and `computed` is None.
+    Sums of long rows that the text names by `OBJ` have many more steps than the text has bytes.
+    After `most` steps none is added up any more, and `computed` is None.
     """
 
     def __init__(self, proof: Certificate, most: int) -> None:
@@ -386,8 +395,8 @@ class Widths:
         self.kept[index] = constraint
 
     def combine(self, entries: Tuple[Tuple[int, Number], ...], index: int) -> None:
-        """Adds up the entries of the derived constraint of an index, if it is a sum of earlier ones. A sum of one constraint has
-        its numbers."""
+        """Adds up the entries of the derived constraint of an index, if it is a sum of earlier
+        ones. A sum of one constraint has its numbers."""
         is_copy = len(entries) == 1 and abs(entries[0][1]) == 1
         if self.computed is None or is_copy:
             return
@@ -404,7 +413,8 @@ class Widths:
 
 
 def largest_step(entries: List[Tuple[Constraint, Number]]) -> int:
-    """A number with as many bits as the largest one of a sum's steps, by the rule of sums of docs/FORMAT.md."""
+    """A number with as many bits as the largest one of a sum's steps, by the rule of sums of
+    docs/FORMAT.md."""
     # of each variable the sum of its coefficients so far, and of None that of the right-hand sides
     totals: Dict[Optional[int], Tuple[int, int]] = {}
     seen = 1

@@ -1,11 +1,14 @@
-"""What a certificate consists of: its derivations by reason, how deep its assumptions go, how large its numbers get.
+"""What a certificate consists of: its derivations by reason, how deep its assumptions go, how large
+its numbers get.
 
-`vipr check` refuses numerators and denominators of more than 127 bits, and the bits of the largest ones show how near it is.
-Nothing is checked here, and nothing proves these figures. `goal` is the constraint that proves the claim's dual side. With
---needed the constraints of the problem that its derivation needs are listed instead: index, name and algebra, with tabs
-between. If the certificate is verified, they alone prove the dual side of its claim. Another proof may need fewer.
+`vipr check` refuses numerators and denominators of more than 127 bits, and the bits of the largest
+ones show how near it is. Nothing is checked here, and nothing proves these figures. `goal` is the
+constraint that proves the claim's dual side. With --needed the constraints of the problem that its
+derivation needs are listed instead: index, name and algebra, with tabs between. If the certificate
+is verified, they alone prove the dual side of its claim. Another proof may need fewer.
 
-The exit status is 0, 1 if the text is no certificate, 2 if the command line isn't understood, and 3 if the file can't be read.
+The exit status is 0, 1 if the text is no certificate, 2 if the command line isn't understood, and 3
+if the file can't be read.
 """
 from __future__ import annotations
 
@@ -53,7 +56,8 @@ class Longest:
 def measured(
     proof: Certificate, found: structure.Outline, progress: Optional[Progress] = None
 ) -> Dict[str, Union[Figure, Dict[str, int]]]:
-    """All figures of a certificate of this outline. `progress` is told how many derivations were looked at."""
+    """All figures of a certificate of this outline. `progress` is told how many derivations were
+    looked at."""
     problem, derivations, reasons = proof.problem, proof.derivations, proof.references.reasons
     first, objective = len(problem.constraints), problem.objective
     widths, longest, written = structure.Widths(proof, LEAST_STEPS), Longest(problem), 0

@@ -61,7 +61,8 @@ class Place(enum.Enum):
 
 @dataclass(frozen=True)
 class Refusal:
-    """A cause and its place. The number is a token's offset in bytes, a solution or a derived constraint; 0 at the end."""
+    """A cause and its place. The number is a token's offset in bytes, a solution or a derived
+    constraint; 0 at the end."""
 
     cause: Cause
     place: Place
@@ -82,7 +83,8 @@ class Refusal:
 
 @dataclass(frozen=True)
 class Claim:
-    """That a problem has no solution, or bounds of its optimum. A bound that is None is infinite."""
+    """That a problem has no solution, or bounds of its optimum. A bound that is None is
+    infinite."""
 
     infeasible: bool
     lower: Optional[Fraction] = None
@@ -117,7 +119,8 @@ class Claim:
 
 
 class Verdict:
-    """The answer on a text, a Verified or a Refused. It is true in a condition if the text is verified."""
+    """The answer on a text, a Verified or a Refused. It is true in a condition if the text is
+    verified."""
 
     claim: Optional[Claim]
     refusal: Optional[Refusal]
@@ -142,9 +145,9 @@ class Verdict:
 
 @dataclass(frozen=True)
 class Verified(Verdict):
-    """A claim, which is true of the problem in the text, and counts: its solutions, its derivations, and how many derived
-    constraints had to be held at once. `goal` is the constraint that proves the claim's dual side, None if nothing has to be
-    proved."""
+    """A claim, which is true of the problem in the text, and counts: its solutions, its
+    derivations, and how many derived constraints had to be held at once. `goal` is the constraint
+    that proves the claim's dual side, None if nothing has to be proved."""
 
     claim: Claim
     solutions: int

@@ -1,4 +1,5 @@
-"""Writes certificates: variables by name, constraints by what made them, and last references by itself.
+"""Writes certificates: variables by name, constraints by what made them, and last references by
+itself.
 
     with vipr.Writer("proof.vipr", {"x": 1, "y": 1}, integers=["x", "y"]) as proof:
         proof.bounds("x", 0, None)
@@ -8,9 +9,10 @@
         best = proof.solution({"x": 2})
         proof.claim(2, best)
 
-The problem's constraints come first, then derivations, each as it is found. They go to a temporary file, and memory holds
-seventeen bytes of each. Solutions and the claim may come at any time. With `checks` the library checks each derivation as it
-is written. The file gets the certificate when the block ends, and stays as it was if it ends with an error.
+The problem's constraints come first, then derivations, each as it is found. They go to a temporary
+file, and memory holds seventeen bytes of each. Solutions and the claim may come at any time. With
+`checks` the library checks each derivation as it is written. The file gets the certificate when the
+block ends, and stays as it was if it ends with an error.
 """
 
 from __future__ import annotations
@@ -58,11 +60,13 @@ _KEPT = -1
 
 
 class StepRefused(ValueError):
-    """A derivation that doesn't follow from its reason; the text is the page of `vipr explain --long`."""
+    """A derivation that doesn't follow from its reason; the text is the page of `vipr explain
+    --long`."""
 
 
 class Handle(int):
-    """The index of a constraint that was written, by which derivations name it. It knows the constraint's name."""
+    """The index of a constraint that was written, by which derivations name it. It knows the
+    constraint's name."""
 
     name: str
 
@@ -79,14 +83,16 @@ class Handle(int):
 
 
 class Sides(NamedTuple):
-    """The constraints that say the sides of a row; None for a side that is infinite. An equation says both."""
+    """The constraints that say the sides of a row; None for a side that is infinite. An equation
+    says both."""
 
     lower: Optional[Handle]
     upper: Optional[Handle]
 
 
 def _exact(value: Exact) -> Number:
-    """A number's value, a Fraction only if it isn't whole. Floats are refused: they hide what was meant."""
+    """A number's value, a Fraction only if it isn't whole. Floats are refused: they hide what was
+    meant."""
     if isinstance(value, Decimal):
         if not value.is_finite():
             raise ValueError(f"{value} is no number")
@@ -129,7 +135,8 @@ def _index(constraint: int) -> int:
 
 
 def _opened(file: Target) -> IO[bytes]:
-    """A stream of bytes. A file that is named is opened now, so that it is known before a search that it can be written."""
+    """A stream of bytes. A file that is named is opened now, so that it is known before a search
+    that it can be written."""
     if isinstance(file, (str, os.PathLike)):
         return open(file, "ab")
     # (what wraps a text stream, as a temporary file does, has its encoding)
@@ -144,10 +151,11 @@ def _opened(file: Target) -> IO[bytes]:
 class Writer:
     """A certificate that is written as a solver finds it, to a path or to a stream of bytes.
 
-    `objective` has a coefficient for each variable, in the order of their indices; one that isn't in the objective has 0.
-    `integers` names the integral ones. A wrong call raises ValueError with the reason: a name, a sense or a constraint that
-    isn't there, a solution that isn't feasible, a claim that no solution attains, a call after the block. What has another
-    type raises TypeError, a float too.
+    `objective` has a coefficient for each variable, in the order of their indices; one that isn't
+    in the objective has 0. `integers` names the integral ones. A wrong call raises ValueError with
+    the reason: a name, a sense or a constraint that isn't there, a solution that isn't feasible, a
+    claim that no solution attains, a call after the block. What has another type raises TypeError,
+    a float too.
     """
 
     def __init__(
@@ -172,7 +180,8 @@ class Writer:
         self.attained: Optional[Number] = None
         self.claimed: Optional[str] = None
         self.uses_cutoff = False
-        # of each derivation its last reference, where its line begins in the temporary file, and whether it is assumed
+        # of each derivation its last reference, where its line begins in the temporary file, and
+        # whether it is assumed
         self.lasts, self.begins, self.assumed = array("q"), array("q"), bytearray()
         self.is_own, self.made = False, ""
         if isinstance(file, (str, os.PathLike)):
@@ -218,7 +227,8 @@ class Writer:
     def sides(
         self, lower: Optional[Exact], row: Named, upper: Optional[Exact], name: str = ""
     ) -> Sides:
-        """The constraints of `lower <= row <= upper`: an equation, two inequalities, or one; None is an infinite side."""
+        """The constraints of `lower <= row <= upper`: an equation, two inequalities, or one; None
+        is an infinite side."""
         name = name or f"c{self._next()}"
         if lower is not None and lower == upper:
             both = self.constraint("E", lower, row, name)
@@ -274,7 +284,8 @@ class Writer:
         return self._derive("asm", [], sense, bound, row, name or f"a{self._next()}")
 
     def branch(self, row: Named, bound: Exact) -> Tuple[Handle, Handle]:
-        """The assumptions `row <= bound` and `row >= bound + 1`, of which one holds at each integral point."""
+        """The assumptions `row <= bound` and `row >= bound + 1`, of which one holds at each
+        integral point."""
         number = _exact(bound)
         if isinstance(number, Fraction):
             raise ValueError(f"a branch has an integer as its bound, not {number}")
@@ -296,7 +307,8 @@ class Writer:
     def bound(
         self, value: Exact, entries: Entries, *, rounded: bool = False, name: str = ""
     ) -> Handle:
-        """A bound of the objective that a sum implies: at least a value under `min`, at most under `max`."""
+        """A bound of the objective that a sum implies: at least a value under `min`, at most under
+        `max`."""
         sense = "L" if self.maximizes else "G"
         return self._sum("rnd" if rounded else "lin", sense, value, OBJECTIVE, entries, name)
 
@@ -315,7 +327,8 @@ class Writer:
         two_assumed: int,
         name: str = "",
     ) -> Handle:
-        """A constraint that holds under each of two branches: a constraint that implies it, and the branch's assumption."""
+        """A constraint that holds under each of two branches: a constraint that implies it, and the
+        branch's assumption."""
         indices = [_index(constraint) for constraint in (one, one_assumed, two, two_assumed)]
         for index in indices[1::2]:
             at = index - len(self.constraints)
@@ -400,7 +413,8 @@ class Writer:
         return self.derived.readline().decode("utf-8", "surrogateescape").partition(" {")[0]
 
     def _check(self, stated: str, reason: str, named: List[int]) -> None:
-        """Has the library check one derivation: over the constraints that it names, of which branches are assumed."""
+        """Has the library check one derivation: over the constraints that it names, of which
+        branches are assumed."""
         word, *rest = reason.split(" ")
         branches = rest[1::2] if word == "uns" else []
         assumed = sorted({int(index) for index in branches})
