@@ -12,7 +12,7 @@ it, too, makes no theorem. Nothing in a name is run, and a file that the script 
 as it is.
 
 Prints each fault, and last `theorems: N checks, F failed`. The exit status is 1 if one failed.
-Without coqc nothing is tried, and a line says so.
+Without coqc only the answer of `make theorem` to that is tried, and a line says so.
 """
 import os
 import re
@@ -124,6 +124,17 @@ def try_announced(folder):
         check(bool(begins) == wanted, f"{what}: {done}")
 
 
+def try_without_rocq():
+    """Whether it is said what is missing if Rocq isn't here."""
+    with tempfile.TemporaryDirectory(prefix="vipr-theorems-") as name:
+        copy = Path(name, "rocq")
+        copy.mkdir()
+        for file in "Makefile", "_CoqProject":
+            shutil.copy(TOP / "rocq" / file, copy)
+        done = run([shutil.which("make"), "-s", "-C", copy, "theorem"], env={"PATH": name})
+    check(done.returncode == 2 and b"in the package coq\n" in done.stderr, f"without Rocq: {done}")
+
+
 def try_changes(folder):
     """Whether a theorem that was changed by hand is seen not to be about the certificate."""
     file, out = folder / "changed.vipr", folder / "changed.v"
@@ -187,6 +198,7 @@ OTHERS = try_changes, try_other_meaning, try_names, try_announced
 
 def main():
     """Tries all of it, if Rocq is here."""
+    try_without_rocq()
     if not shutil.which("coqc"):
         CHECKS.skip("coqc", "no certificate is a theorem of Rocq")
         return CHECKS.end()
