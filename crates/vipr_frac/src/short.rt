@@ -1,5 +1,6 @@
 //! Short fractions, which take 8 bytes.
-ghost use Rattle.std.specs.Prelude.{◌≡◌, IfSome};
+ghost use Rattle.std.specs.Int.{w32};
+ghost use Rattle.std.specs.Prelude.{◌≡◌, ◌<◌, ◌^◌, FitsSigned, IfSome, IsSome};
 
 use crate::frac::{Frac, of_parts};
 use std::marker::Model;
@@ -33,7 +34,8 @@ impl Model for ShortFrac {
 impl ShortFrac {
     /// The fraction, if its parts are that small.
     pub fn of(fraction: Frac) -> Option<ShortFrac>
-        ensures { IfSome result (λ short. short ≡ fraction) }
+        ensures same { IfSome result (λ short. short ≡ fraction) }
+        ensures small { FitsSigned w32 fraction.numer → fraction.denom < 2 ^ 32 → IsSome result }
     {
         let (p, q) = fraction.parts();
         match (i32::try_from(p), u32::try_from(q)) {
