@@ -12,7 +12,7 @@ fn odd_gcd(a: u64, b: u64) -> u64
 {
     let mut x = a;
     let mut y = b;
-    while y != 0 {
+    while y != 0 && x != 1 {
         let odd = y >> y.trailing_zeros();
         y = x.abs_diff(odd);
         x = x.min(odd);

@@ -5,7 +5,7 @@ ghost use Rattle.std.specs.Int.{w64};
 ghost use Rattle.vipr_spec.specs.Fraction.{over, ◌+ℚ◌};
 ghost use Rattle.vipr_frac.specs.Parts.{AreWords, IsWordDenom};
 
-use crate::gcd::{word_gcd, word_quotient};
+use crate::gcd::word_quotient;
 use crate::words::WHOLE;
 
 const MOST: u64 = i64::MAX as u64;
@@ -119,9 +119,9 @@ pub(crate) fn pair_product(p: i64, q: u64, r: i64, s: u64) -> Option<(i64, u64)>
     Some((p.checked_mul(r)?, denominator(q, s)?))
 }
 
-// The sum of two fractions, of whose denominators a common divisor is given.
+/// The sum of two fractions, of whose denominators a common divisor is given.
 #[inline(always)]
-fn common_sum(p: i64, q: u64, r: i64, s: u64, g: u64) -> Option<(i64, u64)>
+pub(crate) fn common_sum(p: i64, q: u64, r: i64, s: u64, g: u64) -> Option<(i64, u64)>
     requires left { IsWordDenom q }
     requires right { IsWordDenom s }
     requires some { 0 < g }
@@ -134,22 +134,4 @@ fn common_sum(p: i64, q: u64, r: i64, s: u64, g: u64) -> Option<(i64, u64)>
     let left = word_quotient(s, g);
     let sum = both(p, left, r, word_quotient(q, g))?;
     Some((sum, denominator(q, left)?))
-}
-
-/// The sum of two fractions. The first denominator divides the other more often than not.
-#[inline(always)]
-pub(crate) fn mixed_sum(p: i64, q: u64, r: i64, s: u64) -> Option<(i64, u64)>
-    requires left { 0 < q }
-    requires left_below { q < 2 ^ 63 }
-    requires right { 0 < s }
-    requires right_below { s < 2 ^ 63 }
-    ensures sum { IfSome result (λ t. over t.0 t.1 ≡ over p q +ℚ over r s) }
-    ensures some { IfSome result (λ t. 0 < t.1) }
-    ensures below { IfSome result (λ t. t.1 < 2 ^ 63) }
-{
-    let rest = s % q;
-    if rest == 0 {
-        return raised_sum(p, s / q, r, s);
-    }
-    common_sum(p, q, r, s, word_gcd(rest, q))
 }

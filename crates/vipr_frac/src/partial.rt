@@ -1,14 +1,15 @@
 //! Partial sums of products, which are reduced at the end alone.
-ghost use Rattle.std.specs.Prelude.{◌≡◌, ◌↔◌, ◌<◌, ◌≤◌, ◌^◌, IsTrue, IsOk, IfOk, IfSome, IsSome};
-ghost use Rattle.std.specs.Prelude.{IsFalse, MatchOption, OnOk, OnErr, unsigned_abs, FitsSigned};
-ghost use Rattle.std.specs.Int.{w64};
+ghost use Rattle.std.specs.Prelude.{◌≡◌, ◌↔◌, ◌<◌, ◌≤◌, ◌%◌, ◌^◌, IsTrue, IsOk, IfOk, IfSome};
+ghost use Rattle.std.specs.Prelude.{IsSome, IsFalse, MatchOption, OnOk, OnErr, unsigned_abs};
+ghost use Rattle.std.specs.{Prelude.FitsSigned, Int.w64};
 ghost use Rattle.vipr_spec.specs.Fraction.{over, zero_ℚ, ◌+ℚ◌, ◌*ℚ◌, ◌≤ℚ◌, SumFits};
 ghost use Rattle.vipr_spec.specs.Fraction.{ProductFits};
 ghost use Rattle.vipr_frac.specs.Parts.{AddsProduct, AreReduced, IsPartial, IsWordDenom};
 ghost use Rattle.vipr_frac.specs.Parts.{PutsOrKeeps};
 
 use crate::frac::{Frac, Overflow, of_parts, reduced_words};
-use crate::pairs::{are_equal, are_ordered, is_word, mixed_sum, pair_product, raised_sum, words};
+use crate::gcd::word_gcd;
+use crate::pairs::{are_equal, are_ordered, common_sum, is_word, pair_product, raised_sum, words};
 use std::alloc::AllocError;
 use std::marker::Model;
 
@@ -140,21 +141,35 @@ fn put_sum(sum: &mut Partial, p: i64, q: u64, r: i64, s: u64) -> bool
         return put(sum, raised_sum(r, q, p, q));
     }
     if q < s {
-        put_mixed(sum, p, q, r, s)
+        put_ordered(sum, p, q, r, s)
     } else {
-        put_mixed(sum, r, s, p, q)
+        put_ordered(sum, r, s, p, q)
     }
 }
 
-// Puts the sum of two fractions that aren't whole. The first denominator divides the other more
-// often than not.
-#[inline(never)]
-fn put_mixed(sum: &mut Partial, p: i64, q: u64, r: i64, s: u64) -> bool
+// Puts the sum of two fractions. The first denominator divides the other more often than not.
+#[inline(always)]
+fn put_ordered(sum: &mut Partial, p: i64, q: u64, r: i64, s: u64) -> bool
     requires left { IsWordDenom q }
     requires right { IsWordDenom s }
     ensures { PutsOrKeeps (over p q +ℚ over r s) sum.old sum.new result }
 {
-    put(sum, mixed_sum(p, q, r, s))
+    let rest = s % q;
+    if rest == 0 {
+        return put(sum, raised_sum(p, s / q, r, s));
+    }
+    put_mixed(sum, p, q, r, s, rest)
+}
+
+// Puts the sum of two fractions, of whose denominators the remainder is given.
+#[inline(never)]
+fn put_mixed(sum: &mut Partial, p: i64, q: u64, r: i64, s: u64, rest: u64) -> bool
+    requires left { IsWordDenom q }
+    requires right { IsWordDenom s }
+    requires rest { rest ≡ s % q }
+    ensures { PutsOrKeeps (over p q +ℚ over r s) sum.old sum.new result }
+{
+    put(sum, common_sum(p, q, r, s, word_gcd(rest, q)))
 }
 
 // The product of two fractions, if its parts are words of 64 bits.
@@ -206,6 +221,7 @@ impl Partial {
     }
 
     /// Its value in lowest terms.
+    #[inline(always)]
     pub fn value(&self) -> Frac
         ensures { result ≡ self.now }
     {
@@ -281,6 +297,22 @@ impl Partial {
         } else {
             add_long(self, p, q, r, s)
         }
+    }
+
+    /// Adds the product of a multiplier and a number that often is 0.
+    #[inline(always)]
+    pub fn add_product_or_zero(&mut self, multiplier: Frac, number: Frac) -> Result<(), Overflow>
+        ensures fits { IsOk result ↔ (ProductFits multiplier number
+            × SumFits self.old (multiplier *ℚ number)) }
+        ensures sum { OnOk result (self.new ≡ self.old +ℚ multiplier *ℚ number) }
+        ensures kept { OnErr result (self.new ≡ self.old) }
+    {
+        if number.is_zero() {
+            // (what is known of its parts says that a sum is in bound, so 0 can be added)
+            prove!(self.q > 0);
+            return Ok(());
+        }
+        self.add_product(multiplier, number)
     }
 }
 

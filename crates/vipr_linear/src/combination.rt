@@ -281,5 +281,5 @@ fn add_constraint(
     ensures variables { length places.new ≡ length places.old }
 {
     places.add_terms(constraint.row.entries(), multiplier)?;
-    rhs.add_product(multiplier, constraint.rhs)
+    rhs.add_product_or_zero(multiplier, constraint.rhs)
 }

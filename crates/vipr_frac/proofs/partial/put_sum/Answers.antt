@@ -16,8 +16,8 @@ returns-then-s-eq1 c =
 pub returns-else-q-s : goal.returns-else-q-s
 returns-else-q-s c =
     let h = rw (to_z-of_z w64 c.args.p c.ranges.p, to_z-of_z w64 c.args.r c.ranges.r) at
-    c.put_mixed-else-q-s.ensures.sum in
+    c.put_ordered-else-q-s.ensures.sum in
     record {
       sum = λ t. h t ∙ sum-swap (over c.args.r c.args.s) (over c.args.p c.args.q);
-      kept = c.put_mixed-else-q-s.ensures.kept;
+      kept = c.put_ordered-else-q-s.ensures.kept;
     }

@@ -22,7 +22,7 @@ returns-clause-fits c =
     let fit = row_terms_fit c.args.constraint.now.row c.args.places.now c.args.multiplier
     (rw list at c.entries.ensures.rising) in
     let known = rw list at c.in_ok-add_terms.ensures.fits in
-    let sum = c.add_product.ensures.fits in
+    let sum = c.add_product_or_zero.ensures.fits in
     (λ o. (fit.0 (known.0 refl), sum.0 o), λ h. sum.1 h.1)
 
 pub returns-clause-sums : goal.returns-clause-sums
@@ -30,6 +30,6 @@ returns-clause-sums c =
     let list = c.entries.ensures.list in
     let rising = rw list at c.entries.ensures.rising in
     let known = rw list at c.in_ok-add_terms.ensures.sums in
-    on_ok c.add_product.result _
+    on_ok c.add_product_or_zero.result _
     (known ∙ row_terms c.args.constraint.now.row c.args.places.now c.args.multiplier rising
     (below c.args.constraint.now.row _ rising c.requires))
