@@ -94,7 +94,8 @@ impl LinesBefore {
         if ends_with_equal(line.bytes) {
             self.broken = Some(line.number);
         }
-        if line.bytes == before && has_tokens(line.bytes) {
+        let is_third = self.repeated == Some(line.number.saturating_sub(1));
+        if line.bytes == before && (is_third || has_tokens(line.bytes)) {
             self.repeated = Some(line.number);
         }
     }
@@ -107,14 +108,14 @@ impl LinesBefore {
 
 // Whether a line is a mark of a merge conflict: seven signs, and nothing or a space after them.
 fn is_conflict(line: &[u8]) -> bool {
-    for sign in [b'<', b'>', b'|', b'='] {
-        let count = line.iter().take_while(|byte| **byte == sign).count();
-        let behind = from(line, count as u64);
-        if count == CONFLICT_SIGNS && matches!(behind, [] | [b' ' | b'\r', ..]) {
-            return true;
+    match line {
+        [sign @ (b'<' | b'>' | b'|' | b'='), ..] => {
+            let count = line.iter().take_while(|byte| **byte == *sign).count();
+            let behind = from(line, count as u64);
+            count == CONFLICT_SIGNS && matches!(behind, [] | [b' ' | b'\r', ..])
         }
+        _ => false,
     }
-    false
 }
 
 fn ends_with_equal(line: &[u8]) -> bool {

@@ -31,8 +31,11 @@ impl Residue {
         }
     }
 
-    // That of a whole number.
+    // That of a whole number. (Most are short, and the long division takes its time.)
     fn of_whole(number: i128) -> Residue {
+        if let Ok(short) = u64::try_from(number) {
+            return Residue::reduced(short);
+        }
         match u64::try_from(number.rem_euclid(i128::from(PRIME))) {
             Ok(rest) => Residue::reduced(rest),
             Err(_) => Residue(0),

@@ -27,6 +27,9 @@ const MOST_REPLACED: usize = 1_000;
 /// How many changes of a kind are tried.
 const MOST_TRIED: usize = 8;
 
+/// The rank of a change with which the sides are the same, too: the least that sides give.
+const LEAST_RANK: u64 = 1;
+
 /// A derivation that is refused, and what is before it.
 #[derive(Clone, Copy)]
 pub struct Refused<'a> {
@@ -58,15 +61,13 @@ pub(crate) struct Missing {
     pub(crate) sketch: Residue,
 }
 
-// An entry, and the row and the side of the constraint that would be right in its place with its
-// multiplier.
+// An entry, and the row of the constraint that would be right in its place with its multiplier.
 #[derive(Clone, Copy)]
 struct Replacement {
     position: usize,
     index: u32,
     multiplier: Frac,
     row: Residue,
-    side: Frac,
 }
 
 impl Candidates {
@@ -162,19 +163,31 @@ impl Candidates {
                     }
                     pairs = pairs.saturating_sub(1);
                     if replacement.index != index {
-                        add_exchange(&mut self.exchanges, refused, index, replacement);
+                        add_exchange(&mut self.exchanges, refused, index, replacement, missing);
                     }
                 }
             }
-            if let (Some(false), Some((multiplier, off))) = (
-                named.get(index as usize).copied(),
-                factor_for(refused, sketches, index, missing),
-            ) {
-                if let Some(rank) = rank_of(refused, off) {
-                    let change = Change::Entry(count, index, multiplier);
-                    let last = of_weak(is_assumption(refused, index));
-                    self.additions.add(rank.saturating_add(last), change);
-                }
+            let is_other = matches!(named.get(index as usize), Some(false));
+            if is_other && self.additions.keeps(LEAST_RANK) {
+                self.add_addition(refused, sketches, count, index, missing);
+            }
+        }
+    }
+
+    // Adds one more entry behind so many, of this constraint.
+    fn add_addition(
+        &mut self,
+        refused: Refused<'_>,
+        sketches: &Sketches,
+        count: usize,
+        index: u32,
+        missing: &Missing,
+    ) {
+        if let Some((multiplier, off)) = factor_for(refused, sketches, index, missing) {
+            if let Some(rank) = rank_of(refused, off) {
+                let change = Change::Entry(count, index, multiplier);
+                let last = of_weak(is_assumption(refused, index));
+                self.additions.add(rank.saturating_add(last), change);
             }
         }
     }
@@ -186,8 +199,16 @@ impl Ranking {
         Ranking([(u64::MAX, None); MOST_TRIED + 1])
     }
 
+    // Whether a change of this rank is kept.
+    fn keeps(&self, rank: u64) -> bool {
+        rank < self.0[MOST_TRIED - 1].0
+    }
+
     /// Keeps a change at its place among the first ones.
     pub(crate) fn add(&mut self, rank: u64, change: Change) {
+        if !self.keeps(rank) {
+            return;
+        }
         let mut kept = (rank, Some(change));
         for place in 0..MOST_TRIED {
             if kept.0 < self.0[place].0 {
@@ -331,6 +352,9 @@ fn add_multipliers(
 
 // Those from the first one with this row on, so many at most.
 fn with_row(replacements: &[Replacement], row: Residue, most: usize) -> &[Replacement] {
+    if most == 0 {
+        return &[];
+    }
     let first = replacements.partition_point(|other| other.row.number() < row.number());
     let behind = &replacements[first..];
     &behind[..behind.len().min(most)]
@@ -345,32 +369,31 @@ fn replacements(
 ) -> Result<Vec<Replacement>, AllocError> {
     let most = MOST_REPLACED.max(refused.subject.text.len() / 50);
     let mut found = Vec::new(refused.subject.alloc);
+    // (entries in a row often have one multiplier)
+    let (mut known, mut lacking) = (Frac::zero(), None);
     for (position, entry) in entries[..entries.len().min(most)].iter().enumerate() {
         let (index, multiplier) = *entry;
-        if let Some(factor) = inverse(multiplier) {
-            let own = match constraint_at(refused, index) {
-                Some(constraint) => constraint.rhs,
-                None => Frac::zero(),
-            };
-            if let Some(side) = sum_of(own, factor.mul(missing.constraint.rhs).ok()) {
-                let lacking = missing.sketch.times(Residue::of(factor));
-                found.push(Replacement {
-                    position,
-                    index,
-                    multiplier,
-                    row: sketches.get_or_zero(index).plus(lacking),
-                    side,
-                })?;
-            }
+        if multiplier != known {
+            known = multiplier;
+            lacking = lacking_with(multiplier, missing);
+        }
+        if let Some(lacking) = lacking {
+            found.push(Replacement {
+                position,
+                index,
+                multiplier,
+                row: sketches.get_or_zero(index).plus(lacking),
+            })?;
         }
     }
     found.sort_by_key(|replacement| replacement.row.number())?;
     Ok(found)
 }
 
-// The sum of a number and another one that may be past the limit.
-fn sum_of(number: Frac, other: Option<Frac>) -> Option<Frac> {
-    number.add(other?).ok()
+// What the row of an entry with this multiplier has to have more, none if that is 0.
+fn lacking_with(multiplier: Frac, missing: &Missing) -> Option<Residue> {
+    let factor = inverse(multiplier)?;
+    Some(missing.sketch.times(Residue::of(factor)))
 }
 
 // Adds a constraint in the place of an entry, which has the row that is wanted there.
@@ -379,26 +402,44 @@ fn add_exchange(
     refused: Refused<'_>,
     index: u32,
     replacement: &Replacement,
+    missing: &Missing,
 ) {
+    let given = refused.problem.cons().len() as u32;
+    let least = match index.abs_diff(replacement.index) {
+        _ if is_moved(replacement.index, index, given) => 0,
+        distance => u64::from(distance),
+    };
+    if !exchanges.keeps(least) {
+        return;
+    }
     let multiplier = replacement.multiplier;
-    if let Some(constraint) = constraint_at(refused, index) {
-        if let Ok(gap) = constraint.rhs.add(replacement.side.neg()) {
-            if let Ok(off) = multiplier.mul(gap) {
-                if let Some(rank) = rank_of(refused, off) {
-                    let given = refused.problem.cons().len() as u32;
-                    let distance = match index.abs_diff(replacement.index) {
-                        _ if is_moved(replacement.index, index, given) => 0,
-                        distance => u64::from(distance).saturating_add(rank),
-                    };
-                    let change = Change::Entry(replacement.position, index, multiplier);
-                    let is_same = is_assumption(refused, replacement.index);
-                    let is_more = is_assumption(refused, index) && !is_same && distance > 0;
-                    let is_weak = is_more || is_other_absurdity(refused, index);
-                    exchanges.add(distance.saturating_add(of_weak(is_weak)), change);
-                }
-            }
+    if let Some(off) = gap_with(refused, index, replacement, missing) {
+        if let Some(rank) = rank_of(refused, off) {
+            let distance = if least == 0 { 0 } else { least.saturating_add(rank) };
+            let change = Change::Entry(replacement.position, index, multiplier);
+            let is_same = is_assumption(refused, replacement.index);
+            let is_more = is_assumption(refused, index) && !is_same && distance > 0;
+            let is_weak = is_more || is_other_absurdity(refused, index);
+            exchanges.add(distance.saturating_add(of_weak(is_weak)), change);
         }
     }
+}
+
+// How far the side of a sum that lacks this is behind the stated one, if a constraint is in the
+// place of an entry.
+fn gap_with(
+    refused: Refused<'_>,
+    index: u32,
+    replacement: &Replacement,
+    missing: &Missing,
+) -> Option<Frac> {
+    let own = match constraint_at(refused, replacement.index) {
+        Some(constraint) => constraint.rhs,
+        None => Frac::zero(),
+    };
+    let more = constraint_at(refused, index)?.rhs.add(own.neg()).ok()?;
+    let gain = replacement.multiplier.mul(more).ok()?;
+    gain.add(missing.constraint.rhs.neg()).ok()
 }
 
 // The factor with which a constraint's row is what a sum lacks, and how far the side of the sum is
@@ -447,5 +488,5 @@ fn rank_of(refused: Refused<'_>, off: Frac) -> Option<u64> {
             (Reason::Rnd(_), Sense::L) => compares(Sense::L, off, Frac::one()),
             (_, sense) => compares(sense, off, Frac::zero()),
         };
-    is_enough.then_some(if off.is_zero() { 1 } else { 1 << 32 })
+    is_enough.then_some(if off.is_zero() { LEAST_RANK } else { 1 << 32 })
 }
