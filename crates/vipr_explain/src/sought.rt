@@ -415,7 +415,11 @@ fn add_exchange(
     let multiplier = replacement.multiplier;
     if let Some(off) = gap_with(refused, index, replacement, missing) {
         if let Some(rank) = rank_of(refused, off) {
-            let distance = if least == 0 { 0 } else { least.saturating_add(rank) };
+            let distance = if least == 0 {
+                0
+            } else {
+                least.saturating_add(rank)
+            };
             let change = Change::Entry(replacement.position, index, multiplier);
             let is_same = is_assumption(refused, replacement.index);
             let is_more = is_assumption(refused, index) && !is_same && distance > 0;
