@@ -1,6 +1,6 @@
 //! A table that holds live entries alone.
 
-ghost use Rattle.std.specs.Prelude.{◌≡◌, OnOk, OnErr, IfErr};
+ghost use Rattle.std.specs.Prelude.{◌≡◌};
 ghost use Rattle.std.specs.Ordering.{nat_cmp};
 ghost use Rattle.std.specs.FinMap as map;
 
@@ -26,26 +26,6 @@ fn forget(rows: &mut IndexMap<u32, Entry, IndexHashing>, index: u32)
         ≡ map.remove (map.from_entries rows.old.entries) index }
 {
     rows.swap_remove(&index);
-}
-
-// Puts the entry at an index, or hands it back.
-#[inline(always)]
-fn insert(
-    rows: &mut IndexMap<u32, Entry, IndexHashing>,
-    index: u32,
-    entry: Entry,
-) -> Result<(), (Entry, AllocError)>
-    ensures ok { OnOk result (map.from_entries {R = nat_cmp} rows.new.entries
-        ≡ map.insert (map.from_entries rows.old.entries) index entry) }
-    ensures err { OnErr result (map.from_entries {R = nat_cmp} rows.new.entries
-        ≡ map.from_entries rows.old.entries) }
-    ensures handed_back { IfErr result (λ p. p.0 ≡ entry) }
-{
-    let Ok(place) = rows.entry(index) else {
-        return Err((entry, AllocError));
-    };
-    place.insert_entry(entry);
-    Ok(())
 }
 
 impl Model for LiveOnly {
@@ -90,7 +70,10 @@ impl Rows for LiveOnly {
         if let Err(e) = self.order.reserve_one() {
             return Err((entry, e));
         }
-        insert(&mut self.rows, index, entry)?;
+        let Ok(place) = self.rows.entry(index) else {
+            return Err((entry, AllocError));
+        };
+        place.insert_entry(entry);
         self.order.note(expiry, index);
         self.next += 1;
         Ok(())
