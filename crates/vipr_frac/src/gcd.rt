@@ -30,6 +30,9 @@ pub(crate) fn word_gcd(a: u64, b: u64) -> u64
     if a == 0 {
         return b;
     }
+    if a == 1 {
+        return 1;
+    }
     let twos = b.trailing_zeros();
     odd_gcd(b >> twos, a) << twos.min(a.trailing_zeros())
 }

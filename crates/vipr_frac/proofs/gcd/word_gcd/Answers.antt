@@ -2,12 +2,15 @@ use Rattle.std.proofs.Common.{◌≡◌, ◌*◌, ◌%◌, ◌<◌, ◌^◌, ap,
 use Rattle.std.proofs.Math.Nat.{mod-eq_of_lt}
 use Rattle.std.specs.Int.{w64}
 use Rattle.vipr_spec.specs.Gcd.{gcd}
-use Rattle.vipr_frac.proofs.Steps.{zero-gcd, gcd-some, gcd-at_most}
+use Rattle.vipr_frac.proofs.Steps.{zero-gcd, one-gcd, gcd-some, gcd-at_most}
 use Rattle.vipr_frac.proofs.{Halving.odd_is, Halving.twos_back, gcd.word_gcd.Goals.After-min}
 use Rattle.vipr_frac.proofs.gcd.word_gcd.Goals as goal
 
 pub returns-then-a-eq0-clause-value : goal.returns-then-a-eq0-clause-value
 returns-then-a-eq0-clause-value c = sym (ap (λ n. gcd n c.args.b) c.if-a-eq0.true ∙ zero-gcd c.args.b)
+
+pub returns-then-a-eq1-clause-value : goal.returns-then-a-eq1-clause-value
+returns-then-a-eq1-clause-value c = sym (ap (λ n. gcd n c.args.b) c.if-a-eq1.true ∙ one-gcd c.args.b)
 
 pub odd_gcd-requires : goal.odd_gcd-requires
 odd_gcd-requires c = odd_is w64 c.args.b c.requires c.ranges.b.fits
