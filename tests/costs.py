@@ -396,6 +396,45 @@ def long_texts(n):
         variables=1,
         der=[f"d G 0 1 0 1 {{ lin {n}" + " 0 1" * n + " } -1"],
     )
+    yield "a chain that rests on an assumption", text("range 0 inf", der=chain, variables=1)
+    up, down = "u G 1 OBJ { asm } -1", "d L 0 OBJ { asm } -1"
+    yield "joins that take away another assumption than the one that is left", text(
+        "range 0 inf",
+        der=["a G 1 OBJ { asm } -1", up, down]
+        + ["j G 0 OBJ { uns 0 1 0 2 } -1"]
+        + [f"j G 0 OBJ {{ uns {index + 3} 1 {index + 3} 2 }} -1" for index in range(n)],
+        variables=0,
+    )
+    yield "branches that aren't joined", text(
+        "range 1 inf",
+        der=[up] * n + [down] * n + ["p G 1 OBJ { lin 1 0 1 } -1"] * n,
+        variables=0,
+    )
+    yield "sums that state what is always true", text(
+        "infeas", variables=0, der=["t G 0 0 { lin 1 0 1 } -1"] * (4 * n), con=["c G 0 0"]
+    )
+    yield "a constraint that is named late and often", text(
+        "infeas",
+        variables=0,
+        con=["c G 0 0"],
+        der=["d G 0 0 { lin 1 0 1 } 1", "e G 0 0 { lin 1 0 1 } 1"]
+        + ["f G 0 0 { lin 1 0 1 } 1"] * n
+        + [f"g G 0 0 {{ lin {n}" + " 1 1" * n + " } 1"],
+    )
+    yield "a join of derivations that come last", text(
+        "infeas",
+        variables=0,
+        der=["f G 0 0 { lin 0 } -1"] * n
+        + [f"u G 1 0 {{ uns {2 * n} {2 * n - 1} {2 * n - 2} {2 * n - 3} }} -1"]
+        + ["f G 0 0 { lin 0 } -1"] * n,
+    )
+    yield "listed solutions, and a sum whose row is nearly the stated one", text(
+        "range -inf inf",
+        sol="s 0\n" * (3 * n),
+        count=3 * n,
+        con=["c G 0 OBJ"],
+        der=[f"d G 0 {n} {ones} {n - 1} 2 {{ lin 1 0 1 }} -1"],
+    )
     sets = overlapping_sets(n)
     last = len(sets) - 1
     yield "the nearest constraints rest on overlapping sets", text(

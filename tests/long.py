@@ -782,14 +782,64 @@ HINTS = [
         "set_cover",
         "uns 11 9 12 10",
         "uns 11 10 12 9",
-        "[11] rests on [9] and [12] on [10]: are l1 and l2 exchanged? `uns 11 9 12 10`",
+        "[11] rests on [9], and [12] on [10]: are l1 and l2 exchanged? `uns 11 9 12 10`",
     ),
-    ("set_cover", "uns 11 9 12 10", "uns 11 9 11 10", "its other case, [11], rests on [9], too"),
+    # (an assumption that is left)
+    (
+        "set_cover",
+        "uns 11 9 12 10",
+        "uns 11 9 11 10",
+        "[13] all  (line 25) should take [9] away, but its other case, [11], rests on [9], too",
+    ),
     (
         "set_cover",
         "lin 3 1 4 10 3 5 1",
         "asm",
-        "[12] is an assumption that is left: is its reason left out",
+        "no `uns` takes [12] away, and it bounds the objective: is a node still open?",
+    ),
+    (
+        "two_levels",
+        "uns 6 4 11 5",
+        "uns 6 4 10 5",
+        "11 is the first derivation that names [10], and 12 the last one: write the last one",
+    ),
+    # (a case that is a multiple of what is stated, or weaker)
+    (
+        "set_cover",
+        "leaf1 G 7 OBJ { lin 3 1 4 10 3 5 1 }",
+        "leaf1 G 14 3 0 6 1 8 2 10 { lin 3 1 8 10 6 5 2 }",
+        "proves what is stated if it is multiplied by 1/2: derive that by `{ lin 1 12 1/2 }`",
+    ),
+    (
+        "set_cover",
+        "13\nleaf1 G 7 OBJ { lin 3 1 4 10 3 5 1 } 13\nall G 7",
+        "13\nleaf1 G 7 OBJ { lin 3 1 4 10 3 5 1 } 13\nall G 9",
+        "a `uns` proves the weaker one of its cases: is 7 meant here?",
+    ),
+    (
+        "cutoff",
+        "cut L 7 OBJ",
+        "cut G -7 3 0 -3 1 -4 2 -5",
+        "-1 times the computed one: `sol` gives",
+    ),
+    (
+        "set_cover",
+        "leaf1 G 7 OBJ { lin 3 1 4 10 3 5 1 }",
+        "leaf1 G 4 2 1 4 2 4 { lin 1 1 4 }",
+        "is another constraint meant as the case, or is what was computed to be stated?",
+    ),
+    # (last references that count something else)
+    (
+        "set_cover",
+        "2 5 9 -6 3 0 } 13\nleaf1 G 7 OBJ { lin 3 1 4 10 3 5 1 } 13",
+        "2 5 9 -6 3 0 } 1\nleaf1 G 7 OBJ { lin 3 1 4 10 3 5 1 } 1",
+        "[11] is named once: is the last reference a count of that?",
+    ),
+    (
+        "set_cover",
+        "2 5 9 -6 3 0 } 13\nleaf1 G 7 OBJ { lin 3 1 4 10 3 5 1 } 13",
+        "2 5 9 -6 3 0 } 2\nleaf1 G 7 OBJ { lin 3 1 4 10 3 5 1 } 1",
+        "derivation 13 is 2 below [11]: is the last reference counted from its own line?",
     ),
     (
         "set_cover",
@@ -798,7 +848,7 @@ HINTS = [
         "with `uns 11 9 12 10` the derivation follows",
     ),
     ("knapsack", "range 20 20", "range -20 -20", "[7] has this bound with the other sign"),
-    ("set_cover", "RTP range 7 7", "RTP range 17 17", "is more claimed in RTP than [13] says"),
+    ("set_cover", "RTP range 7 7", "RTP range 17 17", "does RTP claim more than [13] proves"),
     (
         "parity",
         "RTP infeas\nSOL 0\nDER 1\nodd G 1 0 { rnd 1 0 1/2 } -1\n",
@@ -854,7 +904,7 @@ HINTS = [
         "ten G 10 OBJ { rnd",
         "is `lin` meant, which doesn't round?",
     ),
-    ("fixed_charge", "range 10 10", "range 11 11", "is more claimed in RTP than [13] says"),
+    ("fixed_charge", "range 10 10", "range 11 11", "does RTP claim more than [13] proves"),
     (
         "bin_packing",
         "lin 5 0 1 1 1 2 1",
@@ -984,7 +1034,189 @@ TWO_LASTS = (
 ASSUMED = " ".join(f"a{i} L 0 0 {{ asm }} -1" for i in range(4)) + " b G 1 0 { asm } -1 "
 # 0.2 as a number of floating point
 FIFTH = "3602879701896397/18014398509481984"
+
+# a tree on x and on y, whose second leaf names the bound of another branch
+STALE = (
+    "VER 1.0\nVAR 2\nx y\nINT 2 0 1\nOBJ min 0\nCON 3 1\nlow G 0 2 0 -2 1 1\n"
+    "high G 2 2 0 2 1 1\nuy L 1 1 1 1\nRTP infeas\nSOL 0\nDER 9\na L 0 1 0 1 { asm } -1\n"
+    "b G 1 1 0 1 { asm } -1\np L 0 1 1 1 { asm } -1\nq G 1 1 1 1 { asm } -1\n"
+    "d G 1 0 { lin 3 1 1 3 -2 5 -1 } -1\ne G 1 0 { lin 3 1 1 3 -2 2 -1 } -1\n"
+    "f G 1 0 { uns 7 5 8 6 } -1\ng G 1 0 { lin 3 0 1 4 2 5 -1 } -1\n"
+    "h G 1 0 { uns 9 3 10 4 } -1\n"
+)
+TREE = STALE.replace("4 2 5 -1", "4 2 2 -1")
+SET_COVER = (PROBLEMS / "set_cover.vipr").read_text()
 TRUE = [
+    # the bound of another branch is left
+    (
+        [],
+        STALE,
+        [
+            "still assumed: [5] p  y <= 0  (line 15)\n  it comes in at [10] g  (line 20)\n",
+            "[9] f  (line 19) takes [5] away from [7] alone\n",
+            "[10] follows with [2] uy in place of [5], too: is [5] a bound of another branch?",
+        ],
+        ["left out"],
+    ),
+    # a derivation names a case in place of what joins it
+    (
+        [],
+        TREE.replace("uns 9 3", "uns 7 3"),
+        [
+            "[11] h  (line 21) names [7], from which [9] f  (line 19) takes [5] away: "
+            "is [9] meant in place of [7]?"
+        ],
+        ["another branch"],
+    ),
+    # the last join is missing
+    *[
+        (
+            [],
+            text.replace(old, new).replace(last, ""),
+            [f"add the derivation `{step} }} -1`, and 1 to the count after DER"],
+            ["open"],
+        )
+        for text, old, new, last, step in (
+            (
+                SET_COVER,
+                "DER 5",
+                "DER 4",
+                "all G 7 OBJ { uns 11 9 12 10 } -1\n",
+                "NAME G 7 OBJ { uns 12 10 11 9",
+            ),
+            (
+                TREE,
+                "DER 9",
+                "DER 8",
+                "h G 1 0 { uns 9 3 10 4 } -1\n",
+                "NAME G 1 0 { uns 10 4 9 3",
+            ),
+        )
+    ],
+    # two assumptions say the same, and the wrong one is taken away
+    (
+        [],
+        SET_COVER.replace("DER 5", "DER 6")
+        .replace("up G", "same L 0 1 0 1 { asm } -1\nup G")
+        .replace("} 13", "} -1")
+        .replace("1 4 10 3", "1 4 11 3")
+        .replace("uns 11 9 12 10", "uns 12 10 13 11"),
+        ["takes [10] away, which says the same as [9]: is `uns 12 9 13 11` meant?"],
+        ["open"],
+    ),
+    # no derivation takes an assumption away, and none is the other branch
+    (
+        [],
+        "VER 1.0 VAR 1 x INT 0 OBJ min 1 0 1 CON 0 0 RTP range 1 inf SOL 0 DER 2 "
+        "a G 2 1 0 2 { asm } -1 d G 1 OBJ { lin 1 0 1/2 } -1",
+        ["no `uns` takes [0] away: is one left out, or is a reason left out in place of `asm`?"],
+        ["bounds the objective"],
+    ),
+    # the goal in another measure, by a derivation or by a constraint of the problem
+    (
+        [],
+        "VER 1.0 VAR 1 x INT 0 OBJ max 1 0 2 CON 1 1 u L 4 1 0 1 RTP range -inf 6 SOL 0 DER 2 "
+        "a L 3 1 0 1 { asm } -1 d G -6 1 0 -2 { lin 1 1 -2 } -1",
+        ["no constraint has this row\n  = help: is its derivation left out"],
+        ["multiplied"],
+    ),
+    (
+        [],
+        "VER 1.0 VAR 1 x INT 0 OBJ max 1 0 2 CON 1 1 u L 3 1 0 1 RTP range -inf 6 SOL 0 DER 1 "
+        "d G -6 1 0 -2 { lin 1 0 -2 } -1",
+        [
+            "[1] d  (line 1) proves the claim if it is multiplied by -1: "
+            "add the derivation `NAME L 6 OBJ { lin 1 1 -1 } -1`"
+        ],
+        [],
+    ),
+    (
+        [],
+        "VER 1.0 VAR 1 x INT 0 OBJ max 1 0 2 CON 1 1 u L 3 1 0 1 RTP range -inf 6 SOL 0 DER 0",
+        ["[0] u  (line 1) proves the claim if it is multiplied by 2"],
+        [],
+    ),
+    # sums that are absurd and state what is true
+    (
+        [],
+        "VER 1.0 VAR 1 x INT 0 OBJ min 0 CON 2 0 a G 1 1 0 1 b L 0 1 0 1 RTP infeas SOL 0 DER 2 "
+        "d G 0 0 { lin 2 0 1 1 -1 } -1 e L 0 0 { lin 1 2 0 } -1",
+        [
+            "the sum of [2] d  (line 1) is absurd, and it states 0 >= 0, which is always true, "
+            "as 2 sums do"
+        ],
+        [],
+    ),
+    (
+        [],
+        "VER 1.0 VAR 1 x INT 0 OBJ min 0 CON 2 0 a G 1 1 0 1 b L 1 1 0 1 RTP infeas SOL 0 DER 1 "
+        "d G 0 0 { lin 2 0 1 1 -1 } -1",
+        ["is its derivation left out"],
+        ["absurd, and"],
+    ),
+    # the first derivation that names a constraint as its last reference, and none that is above
+    (
+        [],
+        TWO_LASTS.replace("DER 3", "DER 4")
+        .replace("f G", "g G 1 1 0 1 {{ lin 1 2 1 }} -1 f G")
+        .format(3, -1),
+        ["3 is the first derivation that names [2], and 4 the last one: write the last one"],
+        ["a count of that"],
+    ),
+    (
+        [],
+        TWO_LASTS.replace("DER 3", "DER 4")
+        .replace("f G", "g G 1 1 0 1 {{ lin 1 2 1 }} -1 f G")
+        .format(2, -1),
+        ["[2] is named 2 times: is the last reference a count of that? It is the index of"],
+        ["here none"],
+    ),
+    (
+        [],
+        TWO_LASTS.format(1, 1),
+        ["[2] is named once: ", "the constraint; here none is above the index of its own line\n"],
+        ["derivations from 0"],
+    ),
+    (
+        [],
+        TWO_LASTS.format(0, 0),
+        [
+            "the last reference of [2], 0, is not above 2 itself, so nothing may name [2]",
+            "no last reference in DER is above the index of its own line",
+        ],
+        ["was dropped after"],
+    ),
+    # what a derivation names comes later
+    (
+        [],
+        "VER 1.0 VAR 0 INT 0 OBJ min 0 CON 1 0 c G 0 0 RTP infeas SOL 0 DER 3\n"
+        "u G 1 0 { uns 2 4 2 3 } -1\nd G 1 0 { lin 1 0 1 } -1\ne G 1 0 { asm } -1\n",
+        [
+            "case 1 gives [2] d, which comes later  (line 3)\n",
+            "assuming  [4], which is not before this derivation\n",
+            "[2] d  (line 3) comes later: a derivation comes after all that it names",
+        ],
+        [],
+    ),
+    # a sum whose coefficients aren't whole, and no change makes them so
+    (
+        [],
+        "VER 1.0 VAR 1 x INT 1 0 OBJ min 0 CON 1 0 c G 1 1 0 2 RTP range -inf inf SOL 0 DER 1 "
+        "d G 5 1 0 1 { rnd 1 0 3/4 } -1",
+        ["; multiples of bounds in the sum can make the coefficients whole\n"],
+        ["is `lin` meant"],
+    ),
+    # a listed solution says that a variable is no integer one, and that a number is right
+    (
+        [],
+        "VER 1.0 VAR 2 x s INT 1 0 OBJ min 0 CON 1 0 c G 1/2 2 0 1 1 1 RTP range -inf inf "
+        "SOL 1 p 1 1 1/2 DER 1 d G 1 2 0 1 1 1 { rnd 1 0 1 } -1",
+        [
+            "s (variable 1) is not an integer variable, and a listed solution has 1/2 there",
+            "derive a cut over other variables by a split, with `asm`, `lin` and `uns`",
+        ],
+        ["left out after INT", "is `lin` meant"],
+    ),
     # last references that count derivations from 0, or have two digits exchanged
     (
         [],
@@ -1015,7 +1247,7 @@ TRUE = [
     (
         [],
         "VER 1.0 VAR 0 INT 0 OBJ min 0 CON 0 0 RTP infeas SOL 0 DER 2 a G 1 0 { lin 1 1 1 } -1 b G one",
-        ["1 x [1], which is not before this derivation\n", "the problem has 0"],
+        ["1 x [1] b, which comes later  (line 1)\n", "the problem has 0"],
         ["isn't one of this text"],
     ),
     # many entries name the constraint at fault: one is marked
@@ -1292,7 +1524,7 @@ TRUE = [
         [
             "has a sum of both senses: entry 1 gives <=, and the sum before it is >=\n",
             "with the multiplier 1 in place of -1 at [0] a the derivation follows",
-            "(line 1) <-- entry 0\n",
+            "(line 1) <-- entry 0 gives >=, and <= is stated\n",
         ],
         ["<-- entry 1"],
     ),
@@ -1317,7 +1549,7 @@ TRUE = [
         [],
         "VER 1.0 VAR 1 x INT 0 OBJ min 1 0 1 CON 2 0 a G 0 1 0 1 b L 3 1 0 1 RTP range 3 inf SOL 0 DER 0",
         ["[1] is the other way round: is `OBJ max` meant?"],
-        ["is more claimed"],
+        ["does RTP claim more"],
     ),
     # decimals: from five places on they are likely to be rounded
     (
@@ -1516,7 +1748,7 @@ TRUE = [
     (
         [],
         "VER 1.0 VAR 1 x INT 0 OBJ min 1 0 1 CON 2 0 a G 2 1 0 1 b E 3 1 0 1 RTP range 5 inf SOL 0 DER 0",
-        ["nearest:\n    [1] b", "is more claimed in RTP than [1] says"],
+        ["nearest:\n    [1] b", "does RTP claim more than [1] proves"],
         ["nothing stronger"],
     ),
     (
@@ -1548,7 +1780,7 @@ TRUE = [
         [],
         "VER 1.0 VAR 1 x INT 1 0 OBJ min 1 0 1 CON 1 0 a L -1 1 0 -1 RTP range 1 inf SOL 0 DER 4 d L 0 1 0 1 { asm } -1 "
         "u G 1 1 0 1 { asm } -1 l L -1 1 0 -1 { lin 1 0 1 } -1 j G 1 1 0 1 { uns 3 1 3 2 } -1",
-        ["another constraint as the case?"],
+        ["[3] l  (line 1) proves what is stated if it is multiplied by -1"],
         ["multiplier"],
     ),
     # which section is here, and what a name and a number are
@@ -1697,7 +1929,7 @@ TRUE = [
             f"a L 0 1 0 1 {{ asm }} 4 b G 1 1 0 1 {{ asm }} 4 d G {side} 0 {{ lin 2 0 1 1 -1 }} 4 "
             "e G 1 OBJ { uns 3 1 2 2 } -1",
             ["is a case ruled out? Then it gives a contradiction, as 0 >= 1"],
-            ["or another constraint as the case"],
+            ["is another constraint meant as the case"],
         )
         for side in (0, -1)
     ],
@@ -1731,6 +1963,56 @@ TRUE = [
 ]
 # Helps of other texts, which aren't true of this one: the model has to say so.
 UNTRUE = [
+    *[
+        (STALE, sentence)
+        for sentence in (
+            "in [9] f  (line 19) [7] rests on [6], and [8] on [5]: are l1 and l2 exchanged? "
+            "`uns 7 6 8 5`",
+            "[0] low  (line 7) proves the claim if it is multiplied by 2: "
+            "add the derivation `NAME G 1 OBJ { lin 1 0 2 } -1`, and 1 to the count after DER",
+            "the sum of [7] d  (line 17) is absurd, and it states 0 >= 1, which is always true: "
+            "is `G 1 0` meant?",
+        )
+    ],
+    *[
+        (TWO_LASTS.format(1, 1), sentence)
+        for sentence in (
+            "[2] is named 2 times: is the last reference a count of that? It is the index of the "
+            "last derivation that names the constraint; here none is above the index of its own "
+            "line",
+            "[2] is named once: is the last reference a count of that? It is the index of the "
+            "last derivation that names the constraint",
+            "derivation 4 is 2 below [2]: is the last reference counted from its own line? It is "
+            "the index of the last derivation that names the constraint",
+            "1 is the first derivation that names [2], and 3 the last one: write the last one",
+        )
+    ],
+    (
+        TWO_LASTS.format(3, 1),
+        "no last reference in DER is above the index of its own line: each is the index of the "
+        "last derivation that names it, or -1",
+    ),
+    *[
+        (SET_COVER.replace("all G 7", "all G 9"), sentence)
+        for sentence in (
+            "a `uns` proves the weaker one of its cases: is 8 meant here?",
+            "[12] leaf1  (line 24) proves what is stated if it is multiplied by 2: derive that by "
+            "`{ lin 1 12 2 }`, and name it as the case",
+        )
+    ],
+    *[
+        (
+            "VER 1.0 VAR 2 x s INT 1 0 OBJ min 0 CON 1 0 c G 1/2 2 0 1 1 1 RTP range -inf inf "
+            "SOL 1 p 1 0 1 DER 1 d G 1 2 0 1 1 1 { rnd 1 0 1 } -1",
+            "a sum is rounded if all coefficients are whole, and all its variables are integer "
+            f"ones{end}",
+        )
+        for end in (
+            ": is `lin` meant, which doesn't round?",
+            "; multiples of bounds in the sum can make the coefficients whole",
+            "; derive a cut over other variables by a split, with `asm`, `lin` and `uns`",
+        )
+    ],
     *[
         (FRONT + "1 s 1 0 0 DER 1 d G 1=\n0", sentence)
         for sentence in (

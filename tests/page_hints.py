@@ -122,10 +122,6 @@ def is_prose(facts):
 
 KEYWORD = token_is("|".join(KEYWORDS))
 NUMBERLIKE = token_is(r"[-+]?[0-9.].*")
-ROUNDED = (
-    "a sum is rounded if all coefficients are whole, and all its variables are integer ones: "
-    "is `lin` meant, which doesn't round?"
-)
 # the hint without `  = help: `, and of which texts it is true
 HINTS = {
     # what stands in front of the first token, or in its place
@@ -296,7 +292,6 @@ HINTS = {
         "[-+]?[0-9]*[.][0-9]*"
     ),
     "a number is digits with or without a sign, or a fraction, as -3 or 13/4, and nothing else is in its token": number_wanted,
-    ROUNDED: cause_is(36),
     "INT lists no variable: is it left out?": lambda facts: facts.refused in (36, 37)
     and not facts.problem.integers,
     # senses
@@ -430,7 +425,7 @@ HINTS = {
     "is what was computed meant? `sol` gives the best listed value, and nothing better": lambda facts: facts.refused
     == 38
     and facts.own().reason == "sol",
-    "is what was computed meant, or another constraint as the case?": lambda facts: facts.refused
+    "is another constraint meant as the case, or is what was computed to be stated?": lambda facts: facts.refused
     == 38
     and facts.own().reason == "uns",
     "is a case ruled out? Then it gives a contradiction, as 0 >= 1: is its right-hand side wrong?": lambda facts: facts.refused
@@ -447,7 +442,7 @@ HINTS = {
     == 51
     and facts.listed > 0
     and facts.checker.bounds is None,
-    "is its derivation left out, or is more claimed in RTP than is proved?": cause_is(51),
+    "is its derivation left out, or does RTP claim more than is proved?": cause_is(51),
 }
 
 

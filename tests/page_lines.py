@@ -43,6 +43,7 @@ from page_facts import (
 
 FORMS = []
 LISTED = r"\[(\d+)\] (\S+)(?:  (.+)|, which was dropped)  \(line (\d+)\)"
+LATER = r"\[(\d+)\] (\S+), which comes later  \(line (\d+)\)"
 LISTED_NAME = r"\[(\d+)\] (\S+)  \(line (\d+)\)"
 
 
@@ -492,7 +493,7 @@ HEADS = {
     34: "has a sum of both senses: entry {entry} gives {given}, and the sum before it is {before}",
     35: "passes 2^127 - 1 at entry {entry} of its sum",
     36: "has a sum that can't be rounded",
-    37: "has two assumptions that are no split",
+    37: "has two assumptions that don't form a split",
     38: "does not follow from its reason",
     39: "needs a listed solution",
 }
@@ -535,10 +536,27 @@ def plain_reason(page, word, note):
 
 
 @form(
-    rf"      ({NUMBER}) x (?:{LISTED}|\[(\d+)\], (this derivation itself|which is not before this derivation))(?: <-- entry (\d+))?"
+    rf"      ({NUMBER}) x (?:{LISTED}|\[(\d+)\], (this derivation itself|which is not before this derivation)|{LATER})(?: <-- entry (\d+)(?: gives (<=|>=), and (<=|>=) is stated)?)?"
 )
-def entry(page, multiplier, index, name: str, text: str, line, later, what: str, marked):
+def entry(
+    page,
+    multiplier,
+    index,
+    name: str,
+    text: str,
+    line,
+    later,
+    what: str,
+    later_one,
+    later_name: str,
+    later_line,
+    marked,
+    given,
+    stated,
+):
     facts = page.facts
+    if later_one is not None:
+        later, what = test_later(facts, later_one, later_name, later_line)
     position = len(page.entries)
     if len(page.entries) == MOST_ENTRIES:
         position = marked_entry(page)
@@ -547,6 +565,11 @@ def entry(page, multiplier, index, name: str, text: str, line, later, what: str,
     same(f"entry {position}", (index, multiplier), facts.own().entries[position])
     is_marked = "entry" in facts.details and position == marked_entry(page)
     same("the mark of an entry", marked, position if is_marked else None)
+    wanted_sense = SIGNS[facts.plain(facts.number())[1]]
+    is_other = is_marked and facts.refused == 34 and wanted_sense != "="
+    if given is not None or is_other and position == entry_at_fault(facts):
+        same("the stated sense", stated, wanted_sense)
+        same("the sense of the entry", [given], [*given_senses(facts, position, position)])
     named(facts, index, name, text, line, what)
 
 
@@ -565,6 +588,15 @@ def entry_at_fault(facts):
             at for at in range(end + 1) if next(given_senses(facts, at, at), sense) != sense
         )
     return facts.entry_at_fault()
+
+
+def test_later(facts, index, name, line):
+    """Tests that a derivation comes later in the text, and gives what `named` takes of it."""
+    true(index > facts.number(), f"[{index}] is earlier")
+    token = facts.names["CON", index]
+    known = shown_name(token.bytes), place_of(facts.text, token.at)[0]
+    same("its name and line", (name, line), known)
+    return index, "which is not before this derivation"
 
 
 def named(facts, index, name, text, line, what):
@@ -595,10 +627,25 @@ CASES = "  case 1 gives ", "     assuming  ", "  case 2 gives ", "     assuming 
 
 
 @form(
-    rf"(  case [12] gives |     assuming  )(?:{LISTED}(?: (asm|lin|rnd|uns|sol|given))?|\[(\d+)\], (this derivation itself|which is not before this derivation))"
+    rf"(  case [12] gives |     assuming  )(?:{LISTED}(?: (asm|lin|rnd|uns|sol|given))?|\[(\d+)\], (this derivation itself|which is not before this derivation)|{LATER})"
 )
-def case(page, label: str, index, name: str, text: str, line, word, later, what: str):
+def case(
+    page,
+    label: str,
+    index,
+    name: str,
+    text: str,
+    line,
+    word,
+    later,
+    what: str,
+    later_one,
+    later_name: str,
+    later_line,
+):
     facts = page.facts
+    if later_one is not None:
+        later, what = test_later(facts, later_one, later_name, later_line)
     index = later if index is None else index
     same("the case", (label, index), (CASES[len(page.cases)], facts.own().indices[len(page.cases)]))
     page.cases.append(index)
@@ -693,6 +740,16 @@ def variable_fault(page, name: str, index):
     row_fault(page, "variable", name, index)
 
 
+@form(
+    rf"    (\S+) \(variable (\d+)\) is not an integer variable, and a listed solution has ({NUMBER}) there",
+    "variable_fault",
+)
+def fraction_in_solution(page, name: str, index, value):
+    values = [solution.values.get(index, 0) for solution in page.facts.solutions]
+    true(value in map(Fraction, values) and Fraction(value).denominator > 1, "no solution has it")
+    row_fault(page, "variable", name, index)
+
+
 @form(r"    (\S+) \(variable (\d+)\) is not an integer variable", "variable_fault")
 def one_of_no_integers(page, name: str, index):
     true(not page.facts.problem.integers, "others are integer variables")
@@ -706,6 +763,25 @@ def row_fault(page, kind, name, number):
     same("the next fault of the row", (kind, name), (known[0], variable(facts, known[1])))
     same(f"the {kind}", number, row[known[1]] if kind == "coefficient" else known[1])
     page.faults.append(known)
+
+
+@form(
+    r"  = help: a sum is rounded if all coefficients are whole, and all its variables are integer ones(?:: (is `lin` meant, which doesn't round\?)|; (multiples of bounds in the sum can make the coefficients whole)|; (derive a cut over other variables by a split, with `asm`, `lin` and `uns`))?"
+)
+def rounding(page, lin, bounds, other):
+    facts = page.facts
+    same("the cause", facts.refused, 36)
+    own, row = facts.own(), facts.written("sum")[0]
+    same("whether it follows by lin", lin is not None, facts.accepts(facts.parts(own), "lin"))
+    if bounds:
+        true(any(number.denominator > 1 for number in row.values()), "all are whole")
+    if other:
+        values = [
+            solution.values.get(index, 0)
+            for solution in facts.solutions
+            for index in row.keys() - facts.problem.integers
+        ]
+        true(any(Fraction(value).denominator > 1 for value in values), "all may be integer ones")
 
 
 @form(r"    they are about different rows: a split is of one row, `<=` and `>=`")
@@ -829,19 +905,40 @@ def dropped(page, index):
     facts = page.facts
     same("the constraint", (32, index), (facts.refused, int(facts.details["index"])))
     true(facts.was_dropped(index), "it was not dropped")
+    true(last_of_dropped(facts)[0] > index, "it was never to be named")
 
 
-@form(r"  = help: or is a constraint other than \[(\d+)\] meant\?")
+@form(
+    r"  the last reference of \[(\d+)\], (\d+), is not above (\d+) itself, so nothing may name \[(\d+)\]",
+    "dropped",
+)
+def never_named(page, index, last, again, name):
+    facts = page.facts
+    same("the constraint", (32, index), (facts.refused, int(facts.details["index"])))
+    same("what is said again", (again, name), (index, index))
+    same("the last reference", (last, facts.was_dropped(index)), (last_of_dropped(facts)[0], True))
+    true(last <= index, "it is above it")
+
+
+@form(r"  = help: is a constraint other than \[(\d+)\] meant\?")
 def other_constraint(page, index):
     same("the constraint", index, int(page.facts.details["index"]))
 
 
 @form(
-    r"  = help: indices count from 0: the problem has (\d+) constraints?, so the first derivation is (\d+); is this line in front of one that it needs\?"
+    r"  = help: indices count from 0: the problem has (\d+) constraints?, so the first derivation is (\d+)"
 )
 def from_zero(page, count, first):
     facts = page.facts
     same("the constraints", (facts.refused, count, first), (31, facts.given, facts.given))
+
+
+@form(
+    rf"  = help: {LISTED_NAME} comes later: a derivation comes after all that it names, so a `uns` comes after its cases\. Was a tree written from its root on\?"
+)
+def comes_later(page, index, name: str, line):
+    same("the constraint", (31, index), (page.facts.refused, int(page.facts.details["index"])))
+    test_later(page.facts, index, name, line)
 
 
 NAMED = r"\[(\d+)\] (\S+)"
@@ -1064,6 +1161,12 @@ def test_row(page, changed, stated_row, index, name, line):
     true(index in dict(entries), "no entry is of it")
     row = {at: Fraction(number) for at, number in facts.plain(index)[0].items()}
     same("the rows", sum_of(facts, entries, index, changed(row)), stated)
+    _, sense, bound = facts.plain(index)
+    for solution in facts.solutions[:10] if index < facts.given else ():
+        left = Fraction(0)
+        for at, number in changed(row).items():
+            left += number * Fraction(solution.values.get(at, 0))
+        true(rules.holds(left, sense, bound), "a listed solution breaks it then")
 
 
 @form(
@@ -1147,6 +1250,46 @@ def ratio_of_rows(page, ratio):
     )
 
 
+@form(
+    rf"  = help: each stated coefficient is ({NUMBER}) times the computed one: `sol` gives a bound on the objective as OBJ has it"
+)
+def ratio_of_cutoff(page, ratio):
+    facts = page.facts
+    computed, stated = facts.written("computed")[0], facts.written("stated")[0]
+    same("the reason", (facts.refused, facts.own().reason), (38, "sol"))
+    same(
+        "the stated row",
+        stated,
+        {index: number * ratio for index, number in computed.items()},
+    )
+
+
+@form(
+    rf"  = help: {LISTED_NAME} proves what is stated if it is multiplied by ({NUMBER}): derive that by `{{ lin 1 (\d+) ({NUMBER}) }}`, and name it as the case"
+)
+def scaled_case(page, index, name: str, line, factor, again, multiplier):
+    facts = page.facts
+    constraint_shown(facts, index, name, None, line)
+    same("the cause and the case", (38, True), (facts.refused, index in facts.own().indices[::2]))
+    same("what is said again", (again, multiplier), (index, factor))
+    true(facts.accepts([(index, Fraction(factor))], "lin"), "it doesn't")
+
+
+@form(rf"  = help: a `uns` proves the weaker one of its cases: is ({NUMBER}) meant here\?")
+def weaker_case(page, side):
+    facts = page.facts
+    row, sense, bound = facts.plain(facts.number())
+    same("the cause and the reason", (facts.refused, facts.own().reason), (38, "uns"))
+    cases = [facts.plain(index) for index in facts.own().indices[::2]]
+    same("the rows", [row, row], [case[0] for case in cases])
+    same("the weaker one", side, (min if sense == "G" else max)(case[2] for case in cases))
+    parts = list(facts.own().indices)
+    true(
+        facts.checker.accepts(facts.number(), (row, sense, Fraction(side)), "uns", parts),
+        "it doesn't follow",
+    )
+
+
 # ---- pages of the claim
 
 
@@ -1226,42 +1369,207 @@ def side_of(facts, index):
 
 
 @form(
-    r"  = help: \[(\d+)\] rests on \[(\d+)\] and \[(\d+)\] on \[(\d+)\]: are l1 and l2 exchanged\? `uns (\d+) (\d+) (\d+) (\d+)`"
+    rf"  = help: in {LISTED_NAME} \[(\d+)\] rests on \[(\d+)\], and \[(\d+)\] on \[(\d+)\]: are l1 and l2 exchanged\? `uns (\d+) (\d+) (\d+) (\d+)`"
 )
-def crossed(page, i1, l2, i2, l1, *join):
+def crossed(page, index, name: str, line, i1, l2, i2, l1, *join):
     facts = page.facts
+    constraint_shown(facts, index, name, None, line)
     same("the join", list(join), [i1, l2, i2, l1])
-    joins = [derivation.indices for derivation in facts.derivations]
-    true((i1, l1, i2, l2) in joins, "there is no such join")
+    same("what it joins", (i1, l1, i2, l2), step_of(facts, index).indices)
     true(l2 in facts.checker.sets[i1] and l1 in facts.checker.sets[i2], "they do not")
 
 
-@form(
-    r"  = help: \[(\d+)\] is to take \[(\d+)\] away by `uns (\d+) (\d+) (\d+) (\d+)`, but its other case, \[(\d+)\], rests on \[(\d+)\], too"
-)
-def other_case(page, index, left, i1, l1, i2, l2, case, again):
+def step_of(facts, index):
+    """The derivation of an index."""
+    true(index >= facts.given, f"[{index}] is of the problem")
+    return facts.derivations[index - facts.given]
+
+
+def brings(facts, index):
+    """The constraints that a derivation names, and by which it may rest on an assumption."""
+    step = step_of(facts, index)
+    return step.indices[::2] or [other for other, multiplier in step.entries if multiplier]
+
+
+@form(rf"  still assumed: {LISTED}")
+def still_assumed(page, index, name: str, text: str, line):
     facts = page.facts
-    same("the join", (i1, l1, i2, l2), facts.derivations[index - facts.given].indices)
-    true((left, case) in ((l1, i2), (l2, i1)) and again == left, "it is not the other case")
+    constraint_shown(facts, index, name, text, line)
+    strong = facts.nearest()[0]
+    true(facts.checker.meets(facts.plain(strong)), "nothing is strong enough")
+    true(index in facts.checker.assumptions, "it is no assumption")
+    true(index in facts.checker.sets[strong] and index != strong, "it isn't left")
+    page.left, page.user = index, strong
+
+
+@form(rf"  it comes in at {LISTED_NAME}")
+def comes_in(page, index, name: str, line):
+    facts = page.facts
+    constraint_shown(facts, index, name, None, line)
+    true(page.left in brings(facts, index), "it doesn't name the assumption")
+    # (from the constraint that is strong enough down, through what rests on the assumption)
+    reached = {facts.nearest()[0]}
+    for other in range(facts.nearest()[0], index, -1):
+        if other in reached and other >= facts.given:
+            reached |= {at for at in brings(facts, other) if page.left in facts.checker.sets[at]}
+    true(index in reached and page.left in facts.checker.sets[index], "it is none of the way")
+    page.user = index
+
+
+def cases_of(facts, index, assumption):
+    """From which case a derivation takes an assumption away, and the other case."""
+    i1, l1, i2, l2 = step_of(facts, index).indices
+    true(assumption in (l1, l2), f"[{index}] does not take [{assumption}] away")
+    return (i1, i2) if assumption == l1 else (i2, i1)
+
+
+@form(
+    rf"  = help: {LISTED_NAME} names \[(\d+)\], from which {LISTED_NAME} takes \[(\d+)\] away: is \[(\d+)\] meant in place of \[(\d+)\]\?"
+)
+def passed_by(page, user, name: str, line, case, join, its_name: str, its_line, left, again, old):
+    facts = page.facts
+    constraint_shown(facts, user, name, None, line)
+    constraint_shown(facts, join, its_name, None, its_line)
+    same("what is said again", (left, again, old), (page.left, join, case))
+    true(case in brings(facts, user), "it does not name the case")
+    same("the case", case, cases_of(facts, join, left)[0])
+    true(left in facts.checker.sets[case] & facts.checker.sets[user], "one rests on it no more")
+
+
+@form(
+    rf"  = help: {LISTED_NAME} should take \[(\d+)\] away, but its other case, \[(\d+)\], rests on \[(\d+)\], too"
+)
+def other_case(page, index, name: str, line, left, case, again):
+    facts = page.facts
+    constraint_shown(facts, index, name, None, line)
+    same("the assumption", (left, again), (page.left, page.left))
+    same("the other case", case, cases_of(facts, index, left)[1])
+    true(left in facts.checker.sets[case] & facts.checker.sets[index], "it does not rest on it")
+
+
+@form(rf"  = help: {LISTED_NAME} takes \[(\d+)\] away from \[(\d+)\] alone")
+def elsewhere(page, index, name: str, line, left, case):
+    facts = page.facts
+    constraint_shown(facts, index, name, None, line)
+    same("the assumption and the case", (left, case), (page.left, cases_of(facts, index, left)[0]))
+
+
+@form(
+    rf"  = help: {LISTED_NAME} takes \[(\d+)\] away, which says the same as \[(\d+)\]: is `uns (\d+) (\d+) (\d+) (\d+)` meant\?"
+)
+def twin(page, index, name: str, line, other, left, *join):
+    facts = page.facts
+    constraint_shown(facts, index, name, None, line)
+    same("the assumption", left, page.left)
+    same("what they say", facts.plain(other), facts.plain(left))
+    old = step_of(facts, index).indices
+    true(other in old[1::2], "it takes another one away")
+    meant = [left if at % 2 and it == other else it for at, it in enumerate(old)]
+    same("the join", list(join), meant)
+    true(left in facts.checker.sets[join[2 * (old[3] == other)]], "the case doesn't rest on it")
+
+
+def taken_away(facts):
+    """The assumptions that derivations take away."""
+    return {left for step in facts.derivations for left in step.indices[1::2]}
+
+
+@form(
+    r"  = help: no `uns` takes \[(\d+)\] away, and it bounds the objective: is a node still open\? Then its bound has to be derived",
+    "never_taken",
+)
+def open_node(page, left):
+    facts = page.facts
+    same("the assumption", left, page.left)
+    true(left not in taken_away(facts), "one does")
+    same("its row", facts.plain(left)[0], facts.checker.objective)
+
+
+@form(
+    r"  = help: no `uns` takes \[(\d+)\] away: is one left out, or is a reason left out in place of `asm`\?"
+)
+def never_taken(page, left):
+    same("the assumption", left, page.left)
+    true(left not in taken_away(page.facts), "one does")
+
+
+@form(
+    rf"  = help: no `uns` takes \[(\d+)\] away: add the derivation `NAME ([GL]) ({NUMBER}) (OBJ|0) {{ uns (\d+) (\d+) (\d+) (\d+) }} -1`, and 1 to the count after DER"
+)
+def missing_join(page, left, sense, side, row: str, *join):
+    facts, checker = page.facts, page.facts.checker
+    true(left == page.left and left not in taken_away(facts), "it is another one")
+    stated = (checker.objective if row == "OBJ" else {}, sense, Fraction(side))
+    true(checker.meets(stated), "that proves nothing")
+    i1, l1, i2, l2 = join
+    true(left in (l1, l2), "it leaves the assumption")
+    same("what is left", (checker.sets[i1] - {l1}) | (checker.sets[i2] - {l2}), set())
+    true(checker.accepts(len(checker.constraints), stated, "uns", list(join)), "it doesn't follow")
+
+
+def follows(facts, index, parts, stated=None):
+    """Whether an earlier derivation follows with these entries, or if it states this."""
+    checker = facts.checker
+    saved = checker.last.get(index), index in checker.assumptions
+    word = step_of(facts, index).reason
+    found = checker.accepts(index, stated or facts.plain(index), word, parts)
+    checker.last[index] = saved[0]
+    if saved[1]:
+        checker.assumptions.add(index)
+    return found
+
+
+@form(
+    rf"  = help: \[(\d+)\] follows with {NAMED} in place of \[(\d+)\], too: is \[(\d+)\] a bound of another branch\?"
+)
+def other_bound(page, user, bound, name: str, left, again):
+    facts = page.facts
+    known = page.user, page.left, page.left
+    same("the derivation and the assumption", (user, left, again), known)
+    same("the name", name, shown_name(facts.constraint(bound).name))
+    true(bound < user and left not in facts.checker.sets[bound], "it rests on that, too")
+    parts = facts.parts(step_of(facts, user))
     true(
-        left in facts.checker.sets[case] and left in facts.checker.sets[index],
-        "it does not rest on it",
-    )
-    true(
-        any(left in facts.checker.sets[other] for other in page.near),
-        "none of the nearest rests on it",
+        any(
+            follows(facts, user, [*parts[:at], (bound, multiplier), *parts[at + 1 :]])
+            for at, (index, multiplier) in enumerate(parts)
+            if index == left
+        ),
+        "it does not follow",
     )
 
 
 @form(
-    r"  = help: \[(\d+)\] is an assumption that is left: is its reason left out, or a `uns i1 l1 i2 l2` that takes it away as l1 or l2\?"
+    rf"  = help: {LISTED_NAME} proves the claim if it is multiplied by ({NUMBER}): add the derivation `NAME ([GL]) ({NUMBER}) OBJ {{ lin 1 (\d+) ({NUMBER}) }} -1`, and 1 to the count after DER"
 )
-def left_over(page, index):
+def scaled_goal(page, index, name: str, line, factor, sense, side, again, multiplier):
+    facts, checker = page.facts, page.facts.checker
+    constraint_shown(facts, index, name, None, line)
+    same("what is said again", (again, multiplier), (index, factor))
+    same("what it rests on", checker.sets[index], set())
+    stated = checker.objective, sense, Fraction(side)
+    true(checker.meets(stated), "that proves nothing")
+    entries = [(index, Fraction(factor))]
+    true(checker.accepts(len(checker.constraints), stated, "lin", entries), "it doesn't follow")
+
+
+@form(
+    rf"  = help: the sum of {LISTED_NAME} is absurd, and it states 0 (<=|>=|=) ({NUMBER}), which is always true(?:, as (\d+) sums do)?: is `G 1 0` meant\?"
+)
+def understated(page, index, name: str, line, sign, side, count):
     facts = page.facts
-    true(
-        index in facts.checker.assumptions and index in facts.checker.sets[facts.nearest()[0]],
-        "it is none of the strongest one",
-    )
+    constraint_shown(facts, index, name, None, line)
+    row, sense, bound = facts.plain(index)
+    same("what it states", ({}, sign, side), (row, SIGNS[sense], bound))
+    true(not rules.is_absurd(facts.plain(index)), "it states something absurd")
+    true_ones = [
+        at
+        for at, step in enumerate(facts.derivations, facts.given)
+        if step.entries and not facts.plain(at)[0] and not rules.is_absurd(facts.plain(at))
+    ]
+    same("the sums", (index, count or 1), (true_ones[0], len(true_ones)))
+    parts = facts.parts(step_of(facts, index))
+    true(follows(facts, index, parts, ({}, "G", Fraction(1))), "the sum isn't absurd")
 
 
 @form(r"  = help: \[(\d+)\] has this bound with the other sign: is the sign in the claim wrong\?")
@@ -1295,7 +1603,7 @@ def proved(facts):
 
 
 @form(
-    r"  = help: is more claimed in RTP than \[(\d+)\] says, or is a constant of the objective in the claim\? The format has none"
+    r"  = help: does RTP claim more than \[(\d+)\] proves, or is a constant of the objective in the claim\? The format has none"
 )
 def more_claimed(page, index):
     same("what is proved", index, proved(page.facts))
@@ -1687,6 +1995,72 @@ def lasts_from_zero(page, stated, own, given, meant):
 def exchanged_digits(page, user, stated):
     same("the numbers", (stated, user), last_of_dropped(page.facts))
     true(stated != user and sorted(str(stated)) == sorted(str(user)), "the digits are other ones")
+
+
+def names_of(facts, index):
+    """The derivations that name a constraint, one for each time."""
+    return [
+        facts.given + at
+        for at, step in enumerate(facts.derivations)
+        for other in (*step.indices, *(other for other, _ in step.entries))
+        if other == index
+    ]
+
+
+NONE_ABOVE = r"(; here none is above the index of its own line)?"
+
+
+def test_none_above(page, is_said):
+    """Tests whether a page says that no last reference of the text is above its own index."""
+    lasts = {
+        index: count_of(token.bytes)
+        for index, token in page.facts.lasts.items()
+        if token.bytes.isdigit()
+    }
+    is_none = len(lasts) > 1 and all(last <= index for index, last in lasts.items())
+    same("whether none is above its own index", is_said, is_none)
+
+
+@form(
+    r"  = help: (\d+) is the first derivation that names \[(\d+)\], and (\d+) the last one: write the last one"
+)
+def first_use(page, first, index, last):
+    facts = page.facts
+    names = names_of(facts, index)
+    same("the derivations", (first, last), (names[0], names[-1]))
+    same("what is written", first, last_of_dropped(facts)[0])
+    same("the constraint", index, int(facts.details["index"]))
+
+
+@form(
+    r"  = help: \[(\d+)\] is named (?:once|(\d+) times): is the last reference a count of that\? "
+    rf"It is the index of the last derivation that names the constraint{NONE_ABOVE}"
+)
+def counted_uses(page, index, count, none_above):
+    facts = page.facts
+    names = names_of(facts, index)
+    same("the names", (index, count or 1), (int(facts.details["index"]), len(names)))
+    same("what is written", len(names), last_of_dropped(facts)[0])
+    test_none_above(page, none_above is not None)
+
+
+@form(
+    r"  = help: derivation (\d+) is (\d+) below \[(\d+)\]: is the last reference counted from its own line\? "
+    rf"It is the index of the last derivation that names the constraint{NONE_ABOVE}"
+)
+def counted_from_own(page, last, distance, index, none_above):
+    facts = page.facts
+    same("the last use", (distance, last), last_of_dropped(facts))
+    same("the distance", (index, distance), (int(facts.details["index"]), last - index))
+    test_none_above(page, none_above is not None)
+
+
+@form(
+    r"  = help: no last reference in DER is above the index of its own line: each is the index of the last derivation that names it, or -1"
+)
+def none_above(page):
+    same("the cause", page.facts.refused, 32)
+    test_none_above(page, True)
 
 
 @form(

@@ -16,7 +16,7 @@ from page_facts import (
     Wrong,
     rules,
 )
-from page_hints import HINTS, ROUNDED, ends_text, is_near_miss
+from page_hints import HINTS, ends_text, is_near_miss
 from page_lines import (
     FORMS,
     NUMBERS_ASKED,
@@ -83,7 +83,8 @@ def required(facts, said):
             "near": count,
         }.items()
         is_proved = strongest_bound(facts) is not None
-        yield from {"proved_bound": int(is_proved), "help": 1 + is_proved}.items()
+        helps = 1 + is_proved + said["other_bound"]
+        yield from {"proved_bound": int(is_proved), "help": helps}.items()
         yield from required_advice(facts, said)
     else:
         yield from required_of_step(facts, said)
@@ -103,7 +104,7 @@ def required_advice(facts, said):
         yield "hint: the text lists a solution that is feasible, so `infeas` is false: claim `range` and two bounds", 1
         return
     if first and facts.checker.meets(facts.plain(first[0])):
-        said["left"] = said["crossed"] + said["other_case"] + said["left_over"] + said["assumption"]
+        said["left"] = said["crossed"] + said["still_assumed"] + said["assumption"]
         yield ("assumption" if is_assumed else "left"), 1
     elif any(
         facts.turned(index)
@@ -159,7 +160,7 @@ def required_of_step(facts, said):
     if cause == 36:
         yield "sum", 1
         is_advised = any(said[kind] for kind in (*OFFERS, *NUMBERS_ASKED))
-        yield f"hint: {ROUNDED}", int(not is_advised)
+        yield "rounding", int(not is_advised)
         yield "hint: INT lists no variable: is it left out?", int(not facts.problem.integers)
         yield "row faults", min(MOST_SHOWN, len(list(facts.row_faults(facts.written("sum")[0]))))
     if cause == 37:

@@ -309,8 +309,8 @@ fn keep_those_of_all(slips: &mut Ranking, given: u32) {
     }
 }
 
-// The first change with which a derivation follows.
-fn first_that_follows(
+/// The first change with which a derivation follows.
+pub(crate) fn first_that_follows(
     refused: Refused<'_>,
     scratch: &mut Combination,
     candidates: &Ranking,

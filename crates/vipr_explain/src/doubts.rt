@@ -3,6 +3,7 @@ ghost use Rattle.std.specs.Prelude.{◌≡◌, length};
 ghost use Rattle.vipr_spec.specs.Certificate.{variables};
 
 use crate::algebra::ShownName;
+use crate::cases::without_strange_case;
 use crate::changes::{Change, Changes, shifted};
 use crate::differences::{Difference, MOST_SHOWN, row_differences};
 use crate::excerpt::part_of;
@@ -72,7 +73,7 @@ impl Doubts {
                 entries,
                 differences: differences.as_slice(),
             };
-            doubts.suspects = sum.suspects();
+            doubts.suspects = sum.likely_suspects()?;
             let has_row = differences.is_empty() && matches!(what, StepDetail::Rows { .. });
             doubts.is_side = has_row && is_side_alone(computed, stated);
             if doubts.rounded.is_none() && !doubts.has_likely_suspect() {
@@ -92,7 +93,7 @@ impl Doubts {
             addition,
         } = changes;
         let References::Entries(entries) = refused.step.reason.references() else {
-            return changes;
+            return without_strange_case(refused, changes);
         };
         let is_other = brings_assumption(refused, entries, exchange);
         let has_part = multiplier.is_some() || exchange.is_some();
@@ -207,6 +208,31 @@ impl Doubts {
             );
             page.put("or is a right-hand side below wrong?\n");
         }
+        if !self.has_late_suspects(&refused.advice().changes) {
+            self.write_suspects(page, refused, computed);
+        }
+    }
+
+    // Whether numbers of a row are asked about after the changes: they are less likely than one
+    // more entry with which the derivation follows.
+    fn has_late_suspects(&self, changes: &Changes) -> bool {
+        changes.addition.is_some() && !self.has_likely_suspect()
+    }
+
+    /// Asks about those numbers of a sum with this row that are asked about after the changes.
+    pub(crate) fn write_late(
+        &self,
+        page: &mut Page,
+        refused: &RefusedStep<'_>,
+        computed: &Constraint,
+    ) {
+        if self.has_late_suspects(&refused.advice().changes) {
+            self.write_suspects(page, refused, computed);
+        }
+    }
+
+    // Asks about the numbers of a row.
+    fn write_suspects(&self, page: &mut Page, refused: &RefusedStep<'_>, computed: &Constraint) {
         for suspect in self.suspects.0 {
             if let Some(suspect) = suspect {
                 suspect.write(page, refused, &computed.row);

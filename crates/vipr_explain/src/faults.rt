@@ -2,7 +2,9 @@
 
 use crate::algebra::VariableName;
 use crate::differences::MOST_SHOWN;
+use crate::listed::FirstSolutions;
 use crate::page::Page;
+use crate::text::Subject;
 use std::alloc::{AllocError, Global};
 use vipr_cert::Problem;
 use vipr_frac::Frac;
@@ -13,16 +15,29 @@ use vipr_linear::{Ints, Row};
 pub(crate) enum RowFault {
     /// The coefficient of a variable isn't whole.
     NotWhole(u32, Frac),
-    /// A variable isn't an integer one.
-    NotInteger(u32),
+    /// A variable isn't an integer one, and a value of it in a listed solution that isn't whole.
+    NotInteger(u32, Option<Frac>),
 }
 
 /// What keeps a row from being whole: coefficients that aren't, and variables that aren't integer
 /// ones.
 pub(crate) fn row_faults(
+    subject: Subject<'_>,
+    ints: &Ints,
+    row: &Row,
+) -> Result<Vec<RowFault>, AllocError> {
+    let solutions = FirstSolutions::find(subject)?;
+    let faults = faults_beside(subject.alloc, ints, row, &solutions);
+    drop(solutions);
+    faults
+}
+
+// The same with the first listed solutions.
+fn faults_beside(
     alloc: Global,
     ints: &Ints,
     row: &Row,
+    solutions: &FirstSolutions,
 ) -> Result<Vec<RowFault>, AllocError> {
     let mut faults = Vec::new(alloc);
     for entry in row.entries() {
@@ -31,10 +46,35 @@ pub(crate) fn row_faults(
             faults.push(RowFault::NotWhole(variable, coefficient))?;
         }
         if !ints.contains(variable) {
-            faults.push(RowFault::NotInteger(variable))?;
+            let value = match faults.len() < MOST_SHOWN {
+                true => solutions.fraction_of(variable),
+                false => None,
+            };
+            faults.push(RowFault::NotInteger(variable, value))?;
         }
     }
     Ok(faults)
+}
+
+/// Whether a listed solution has a value that isn't whole at a variable that would have to be an
+/// integer one.
+pub(crate) fn has_fraction(faults: &[RowFault]) -> bool {
+    for fault in faults {
+        if let RowFault::NotInteger(_, Some(_)) = fault {
+            return true;
+        }
+    }
+    false
+}
+
+/// Whether a coefficient isn't whole.
+pub(crate) fn has_part(faults: &[RowFault]) -> bool {
+    for fault in faults {
+        if let RowFault::NotWhole(..) = fault {
+            return true;
+        }
+    }
+    false
 }
 
 /// Writes the first faults of a row, a line each, and first of all whether no variable is an
@@ -50,14 +90,22 @@ pub(crate) fn write_faults(page: &mut Page, problem: &Problem, faults: &[RowFaul
                 let name = VariableName(problem, index);
                 write!(page, "    the coefficient {value} of {name} is not whole\n");
             }
-            RowFault::NotInteger(index) if has_none => {
+            RowFault::NotInteger(index, Some(value)) => {
+                let name = VariableName(problem, index);
+                write!(
+                    page,
+                    "    {name} (variable {index}) is not an integer variable, "
+                );
+                write!(page, "and a listed solution has {value} there\n");
+            }
+            RowFault::NotInteger(index, None) if has_none => {
                 let name = VariableName(problem, index);
                 write!(
                     page,
                     "    {name} (variable {index}) is not an integer variable\n"
                 );
             }
-            RowFault::NotInteger(index) => {
+            RowFault::NotInteger(index, None) => {
                 let name = VariableName(problem, index);
                 write!(page, "    {name} is not an integer variable: ");
                 write!(page, "is its index {index} left out after INT?\n");

@@ -4,12 +4,15 @@ use crate::algebra::{Algebra, sign_of, size_of};
 use crate::decimal::{About, Measured, exact_decimal};
 use crate::excerpt::Excerpt;
 use crate::items::open_problem;
+use crate::left::LeftAssumption;
 use crate::marks::Marks;
-use crate::near::{Join, Near, NearSearch, is_turned, search_to};
+use crate::near::{Join, Near, NearSearch, OpenJoin, is_turned, search_to};
 use crate::page::Page;
+use crate::scaled::{Scaled, find_scaled};
 use crate::shown::{PlacedItems, find_names, write_line};
 use crate::solution::{ListedValues, is_exchanged};
 use crate::text::{Reread, Subject};
+use crate::understated::Understated;
 use std::alloc::AllocError;
 use vipr_cert::{Claim, Derivation, Goal, Problem};
 use vipr_check::{Report, Table};
@@ -120,6 +123,79 @@ pub(crate) struct UnprovedClaim<'a> {
     has_solution: bool,
     /// The strongest bound on the objective that is proved, if infeasibility is claimed.
     proved: Option<ProvedBound>,
+    advice: UnprovedAdvice,
+}
+
+/// What was found out of a claim that no constraint proves.
+#[derive(Clone, Copy)]
+struct UnprovedAdvice {
+    /// A join whose cases rest on each other's assumptions.
+    crossed: Option<OpenJoin>,
+    /// The assumption that is left of a constraint that is strong enough.
+    left: Option<LeftAssumption>,
+    /// A constraint of which a multiple proves the claim.
+    scaled: Option<Scaled>,
+    /// A sum that is absurd and states less, if no constraint is.
+    understated: Option<Understated>,
+}
+
+impl UnprovedAdvice {
+    // Finds it out.
+    fn find(
+        subject: Subject<'_>,
+        problem: &Problem,
+        search: &NearSearch,
+    ) -> Reread<UnprovedAdvice> {
+        let mut advice = UnprovedAdvice {
+            crossed: crossed_join(search),
+            left: None,
+            scaled: None,
+            understated: None,
+        };
+        if advice.crossed.is_none() {
+            advice.left = LeftAssumption::find(subject, problem, search)?;
+        }
+        match &search.target {
+            Target::Bound(bound) | Target::WholeBound(bound) => {
+                advice.scaled = find_scaled(problem, &search.replay.rows, bound);
+            }
+            Target::Absurdity if search.near.is_empty() => {
+                advice.understated = Understated::find(subject)?;
+            }
+            _ => {}
+        }
+        Ok(advice)
+    }
+
+    // The constraints that are shown.
+    fn indices(&self) -> [Option<u32>; 8] {
+        let crossed = match &self.crossed {
+            Some(open) => Some(open.index),
+            None => None,
+        };
+        let [first, second, third, fourth, fifth] = match &self.left {
+            Some(left) => left.indices(),
+            None => [None; 5],
+        };
+        let scaled = match &self.scaled {
+            Some(scaled) => Some(scaled.index),
+            None => None,
+        };
+        let understated = match &self.understated {
+            Some(known) => Some(known.index),
+            None => None,
+        };
+        [
+            crossed,
+            first,
+            second,
+            third,
+            fourth,
+            fifth,
+            scaled,
+            understated,
+        ]
+    }
 }
 
 /// A bound on the objective that a constraint states which rests on no assumption.
@@ -150,7 +226,12 @@ impl<'a> UnprovedClaim<'a> {
             Target::Absurdity => strongest_bound(&problem, &search.replay.rows, best),
             _ => None,
         };
-        match near_names(subject, search.near.as_slice()) {
+        let advice = or_drop!(
+            UnprovedAdvice::find(subject, &problem, &search),
+            search,
+            problem
+        );
+        match near_names(subject, search.near.as_slice(), &advice) {
             Ok(marks) => Ok(UnprovedClaim {
                 search,
                 known: PlacedItems {
@@ -160,6 +241,7 @@ impl<'a> UnprovedClaim<'a> {
                 },
                 has_solution,
                 proved,
+                advice,
             }),
             Err(missing) => {
                 drop(search);
@@ -229,10 +311,43 @@ impl<'a> UnprovedClaim<'a> {
         if let Some(proved) = self.proved {
             write_proved(page, proved);
         }
+        if let (Some(left), false) = (&self.advice.left, self.is_false()) {
+            left.write(page, &self.known, &self.search);
+            return;
+        }
+        if let (Some(scaled), Some(bound)) = (&self.advice.scaled, self.bound()) {
+            scaled.write(page, &self.known, bound);
+            return;
+        }
+        if let (Some(understated), false) = (&self.advice.understated, self.is_false()) {
+            understated.write(page, &self.known);
+            return;
+        }
         page.put("  = help: ");
         write_advice(page, self);
         page.put("\n");
     }
+
+    // Whether the claim can't be true.
+    fn is_false(&self) -> bool {
+        let is_refuted = self.bound().is_none() && self.has_solution;
+        is_refuted || is_exchanged(self.known.problem.claim())
+    }
+}
+
+// The first join of which each case rests on the assumption of the other one, and so does a
+// constraint that is strong enough.
+fn crossed_join(search: &NearSearch) -> Option<OpenJoin> {
+    let strong = search.near.iter().find(|near| near.is_strong)?;
+    let assumptions = &strong.assumptions;
+    for open in &search.joins {
+        let Join { l1, l2, .. } = open.join;
+        let is_crossed = open.first && open.second;
+        if is_crossed && assumptions.contains(l1) && assumptions.contains(l2) {
+            return Some(*open);
+        }
+    }
+    None
 }
 
 // The best objective of the listed solutions.
@@ -305,9 +420,18 @@ fn write_proved(page: &mut Page, proved: ProvedBound) {
     }
 }
 
-// The places of constraints that come near.
-fn near_names(subject: Subject<'_>, near: &[Near]) -> Result<Marks, AllocError> {
-    let wanted: Vec<u32> = near.iter().map(|near| near.index).collect(subject.alloc)?;
+// The places of constraints that come near, and of those of which more is said.
+fn near_names(
+    subject: Subject<'_>,
+    near: &[Near],
+    advice: &UnprovedAdvice,
+) -> Result<Marks, AllocError> {
+    let mut wanted: Vec<u32> = near.iter().map(|near| near.index).collect(subject.alloc)?;
+    for shown in advice.indices() {
+        if let Some(index) = shown {
+            wanted.push(index)?;
+        }
+    }
     find_names(subject, wanted.as_slice())
 }
 
@@ -329,7 +453,10 @@ fn write_advice(page: &mut Page, known: &UnprovedClaim<'_>) {
     }
     for near in near {
         if near.is_strong {
-            write_left(page, &known.search, near);
+            match &known.advice.crossed {
+                Some(crossed) => write_crossed(page, known, crossed),
+                None => write_assumed(page, near.index),
+            }
             return;
         }
     }
@@ -357,7 +484,7 @@ fn write_advice(page: &mut Page, known: &UnprovedClaim<'_>) {
             write!(page, "add the derivation `NAME {sense} {rhs} ");
             page.put("0 { lin 0 } -1`, and 1 to the count after DER");
         }
-        _ => page.put("is its derivation left out, or is more claimed in RTP than is proved?"),
+        _ => page.put("is its derivation left out, or does RTP claim more than is proved?"),
     }
 }
 
@@ -368,7 +495,7 @@ fn write_weak(page: &mut Page, weak: &Near, bound: &Constraint) {
         write!(page, "[{index}] has this bound with the other sign: ");
         page.put("is the sign in the claim wrong?");
     } else {
-        write!(page, "is more claimed in RTP than [{index}] says, ");
+        write!(page, "does RTP claim more than [{index}] proves, ");
         page.put("or is a constant of the objective in the claim? The format has none");
     }
 }
@@ -383,50 +510,27 @@ fn write_turned(page: &mut Page, index: u32, goal: Goal) {
     write!(page, "is `OBJ {other}` meant?");
 }
 
-// Writes why an assumption is left of a constraint that is strong enough.
-fn write_left(page: &mut Page, search: &NearSearch, strong: &Near) {
-    let assumptions = &strong.assumptions;
-    let index = strong.index;
-    if assumptions.contains(index) {
-        write!(page, "[{index}] is an assumption itself: ");
-        page.put("is its reason left out?");
-        return;
-    }
-    for open in &search.joins {
-        let Join { i1, l1, i2, l2 } = open.join;
-        let index = open.index;
-        let first = open.first && assumptions.contains(l1);
-        let second = open.second && assumptions.contains(l2);
-        if first && second {
-            write!(page, "[{i1}] rests on [{l2}] and [{i2}] on [{l1}]: ");
-            let exchanged = Join {
-                i1,
-                l1: l2,
-                i2,
-                l2: l1,
-            };
-            write!(page, "are l1 and l2 exchanged? {exchanged}");
-            return;
-        }
-        if first || second {
-            let (left, case) = if first { (l1, i2) } else { (l2, i1) };
-            let join = open.join;
-            write!(page, "[{index}] is to take [{left}] away by ");
-            write!(
-                page,
-                "{join}, but its other case, [{case}], rests on [{left}], too"
-            );
-            return;
-        }
-    }
-    for left in 0..index {
-        if assumptions.contains(left) {
-            write!(page, "[{left}] is an assumption that is left: ");
-            page.put("is its reason left out, ");
-            page.put("or a `uns i1 l1 i2 l2` that takes it away as l1 or l2?");
-            return;
-        }
-    }
+// Writes that a constraint that is strong enough is an assumption.
+fn write_assumed(page: &mut Page, index: u32) {
+    write!(page, "[{index}] is an assumption itself: ");
+    page.put("is its reason left out?");
+}
+
+// Writes that the assumptions of a join are exchanged.
+fn write_crossed(page: &mut Page, known: &UnprovedClaim<'_>, crossed: &OpenJoin) {
+    let index = crossed.index;
+    let Join { i1, l1, i2, l2 } = crossed.join;
+    let exchanged = Join {
+        i1,
+        l1: l2,
+        i2,
+        l2: l1,
+    };
+    page.put("in ");
+    known.known.write_name(page, index);
+    write_line(page, known.known.marks.place(index));
+    write!(page, " [{i1}] rests on [{l2}], and [{i2}] on [{l1}]: ");
+    write!(page, "are l1 and l2 exchanged? {exchanged}");
 }
 
 // Writes a constraint that comes near, and why it isn't enough.

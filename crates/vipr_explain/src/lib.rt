@@ -15,6 +15,7 @@ macro_rules! or_drop {
 }
 
 mod algebra;
+mod cases;
 mod changes;
 mod decimal;
 mod differences;
@@ -27,7 +28,10 @@ mod hints;
 mod items;
 mod joins;
 mod lasts;
+mod later;
+mod left;
 mod lines;
+mod listed;
 mod marks;
 mod meant;
 mod near;
@@ -36,6 +40,7 @@ mod page;
 mod past;
 mod reason;
 mod rounded;
+mod scaled;
 mod shown;
 mod sketch;
 mod slips;
@@ -47,6 +52,8 @@ mod suspects;
 mod syntax;
 mod text;
 mod token;
+mod understated;
+mod unjoined;
 mod wanted;
 mod wanted_words;
 mod whole;

@@ -74,6 +74,8 @@ pub(crate) struct NearSearch {
     pub(crate) near: Vec<Near>,
     /// The derivations that join two branches and still rest on an assumption of theirs.
     pub(crate) joins: Vec<OpenJoin>,
+    /// The assumptions that derivations take away.
+    pub(crate) removed: Vec<u32>,
     pub(crate) replay: Replay,
 }
 
@@ -131,6 +133,7 @@ impl NearSearch {
             target,
             near: Vec::new(subject.alloc),
             joins: Vec::new(subject.alloc),
+            removed: Vec::new(subject.alloc),
             replay,
         };
         let given = problem.cons();
@@ -199,6 +202,7 @@ impl NearSearch {
         ensures { self.new.replay ≡ self.old.replay }
     {
         keep_join(&mut self.joins, index, join, assumptions)?;
+        keep_removed(&mut self.removed, join)?;
         if !is_like(&self.target, constraint) {
             return Ok(());
         }
@@ -269,8 +273,8 @@ fn place(rows: &mut Table, entry: Entry) -> Reread<()>
     }
 }
 
-// What a reason joins.
-fn join_of(reason: &Reason) -> Option<Join> {
+/// What a reason joins.
+pub(crate) fn join_of(reason: &Reason) -> Option<Join> {
     match reason.references() {
         References::Branches { i1, l1, i2, l2 } => Some(Join { i1, l1, i2, l2 }),
         _ => None,
@@ -295,6 +299,15 @@ fn keep_join(
                 second,
             })?;
         }
+    }
+    Ok(())
+}
+
+// Keeps the assumptions that a derivation takes away by a join.
+fn keep_removed(removed: &mut Vec<u32>, join: Option<Join>) -> Result<(), AllocError> {
+    if let Some(join) = join {
+        removed.push(join.l1)?;
+        removed.push(join.l2)?;
     }
     Ok(())
 }

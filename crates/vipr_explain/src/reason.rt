@@ -5,6 +5,7 @@ use crate::changes::{Change, shifted};
 use crate::excerpt::part_of;
 use crate::marks::ItemPart;
 use crate::page::Page;
+use crate::shown::write_line;
 use crate::step::{RefusedStep, StepAdvice, StepFault};
 use std::alloc::{AllocError, Global};
 use vipr_cert::{Reason, References};
@@ -209,6 +210,9 @@ pub(crate) fn write_reason(
                     write_constraint(page, refused, own, index);
                     if let (true, StepDetail::Entry(_)) = (is_marked, fault.what) {
                         write!(page, " <-- entry {position}");
+                        if refused.advice().entry == Some(position) {
+                            write_other_sense(page, refused.stated().sense);
+                        }
                     }
                     page.put("\n");
                 }
@@ -233,6 +237,14 @@ pub(crate) fn write_reason(
     }
 }
 
+// Writes that an entry gives the other sense than the stated one.
+fn write_other_sense(page: &mut Page, stated: Sense) {
+    page.put(match stated {
+        Sense::L => " gives >=, and <= is stated",
+        _ => " gives <=, and >= is stated",
+    });
+}
+
 // Writes the word of a constraint's reason, `given` if it is of the problem.
 fn write_word(page: &mut Page, refused: &RefusedStep<'_>, index: u32) {
     let known = &refused.known;
@@ -250,6 +262,10 @@ fn write_constraint(page: &mut Page, refused: &RefusedStep<'_>, own: u32, index:
         refused.known.write_constraint(page, index, constraint);
     } else if index == own {
         write!(page, "[{index}], this derivation itself");
+    } else if let Some(place) = refused.known.marks.place(index) {
+        refused.known.write_name(page, index);
+        page.put(", which comes later");
+        write_line(page, Some(place));
     } else {
         write!(page, "[{index}], which is not before this derivation");
     }

@@ -2,7 +2,7 @@
 
 use crate::algebra::{Algebra, ShownName};
 use crate::excerpt::{Excerpt, part_of};
-use crate::lasts::ask_about_last;
+use crate::lasts::{ask_about_last, write_dropped};
 use crate::marks::{ItemPart, ItemPlace, ItemSort, Marks, Sought};
 use crate::page::Page;
 use crate::text::Subject;
@@ -70,17 +70,14 @@ pub(crate) fn find_names(subject: Subject<'_>, wanted: &[u32]) -> Result<Marks, 
 /// Writes the place of the last reference of a constraint that was dropped, and what would do
 /// there.
 pub(crate) fn write_last_use(page: &mut Page, known: &PlacedItems<'_>, index: u32, file: &[u8]) {
-    write!(
-        page,
-        "  constraint {index} was dropped after its stated last reference\n"
-    );
+    write_dropped(page, known, index);
     if let Some(place) = known.part(index) {
         let last = known.marks.user;
         place.write(page, file, format_args!("write {last} or -1 here"));
         if let Some(place) = known.marks.place(index) {
             ask_about_last(page, known, place, last);
         }
-        write!(page, "  = help: or is a constraint other than ");
+        write!(page, "  = help: is a constraint other than ");
         write!(page, "[{index}] meant?\n");
     }
 }

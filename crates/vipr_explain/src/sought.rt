@@ -194,8 +194,8 @@ impl Candidates {
 }
 
 impl Ranking {
-    // No change.
-    fn new() -> Ranking {
+    /// No change.
+    pub(crate) fn new() -> Ranking {
         Ranking([(u64::MAX, None); MOST_TRIED + 1])
     }
 

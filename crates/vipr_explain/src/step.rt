@@ -5,10 +5,12 @@ ghost use Rattle.vipr_table.specs.Table.{DerivedBelow};
 ghost use Rattle.vipr_explain.specs.Replays.{IsReplayOf};
 
 use crate::algebra::{Algebra, ShownName, VariableName, sign_of};
+use crate::cases::write_case_help;
 use crate::changes::{Change, Changes, Replay, changes_of};
 use crate::differences::{Difference, row_differences, write_differences};
 use crate::doubts::Doubts;
-use crate::faults::{RowFault, row_faults, write_faults};
+use crate::faults::{RowFault, has_fraction, has_part, row_faults, write_faults};
+use crate::later::{marks_with_later, write_not_earlier};
 use crate::lines::write_repeated_line;
 use crate::marks::{ItemSort, Marks, Sought};
 use crate::near::{NearSearch, is_turned, search_to};
@@ -19,7 +21,7 @@ use crate::shown::{PlacedItems, write_last_use};
 use crate::solution::PAST_LIMIT;
 use crate::sought::{Refused, constraint_at, inverse, less_sum};
 use crate::text::{Reread, Subject};
-use std::alloc::{AllocError, Global};
+use std::alloc::AllocError;
 use vipr_cert::{Derivation, Problem, Reason, References};
 use vipr_check::{StepDetail, cause};
 use vipr_frac::Frac;
@@ -57,6 +59,8 @@ pub(crate) struct RefusedStep<'a> {
 pub(crate) struct StepAdvice {
     pub(crate) doubts: Doubts,
     pub(crate) changes: Changes,
+    /// Whether it follows by `lin` in place of `rnd`.
+    pub(crate) follows_as_lin: bool,
     /// The entry of a sum that gives another sense than the stated one.
     pub(crate) entry: Option<usize>,
 }
@@ -81,6 +85,7 @@ impl StepAdvice {
         StepAdvice {
             doubts: Doubts::none(),
             changes: Changes::none(),
+            follows_as_lin: false,
             entry: None,
         }
     }
@@ -213,8 +218,11 @@ impl<'a> RefusedStep<'a> {
         advice.doubts.write_order(page, self.known.text);
         write_facts(page, self, &own.reason, fault);
         changes.write(page, &self.known, &own.reason);
+        if let StepDetail::Rows { computed, .. } | StepDetail::Sum(computed) = fault.what {
+            advice.doubts.write_late(page, self, computed);
+        }
         if changes.is_empty() {
-            write_help(page, fault.cause, problem.cons().len());
+            write_help(page, &self.known, fault);
         }
         if let Some(dropped) = used_by(fault) {
             write_last_use(page, &self.known, dropped, file);
@@ -260,13 +268,14 @@ fn find_behind(
         part: part_at_fault(fault, &step.reason, &advice),
         used: used_by(fault),
     };
-    let marks = or_drop!(Marks::find(subject.alloc, subject.text, sought), front);
+    let marks = match fault.cause {
+        cause::NOT_EARLIER => marks_with_later(subject, sought, fault.index, &step.reason),
+        _ => Marks::find(subject.alloc, subject.text, sought),
+    };
+    let marks = or_drop!(marks, front);
     let facts = match front {
         Some(front) => StepFacts::Front(front),
-        None => or_drop!(
-            StepFacts::find(subject.alloc, fault.what, problem.ints()),
-            marks
-        ),
+        None => or_drop!(StepFacts::find(subject, fault.what, problem.ints()), marks),
     };
     Ok((marks, facts, advice))
 }
@@ -291,6 +300,7 @@ fn advice_of(
         | cause::NOT_DOMINATED => {
             let mut doubts = Doubts::find(refused, scratch, fault.what)?;
             let changes = changes_of(refused, scratch)?;
+            advice.follows_as_lin = matches!(changes.exchange, Some(Change::Word));
             let changes = without_lin(changes, fault, refused.problem.ints());
             advice.changes = doubts.weigh(refused, changes);
             advice.doubts = doubts;
@@ -369,14 +379,17 @@ fn used_by(fault: StepFault<'_>) -> Option<u32> {
 
 impl StepFacts {
     // Finds what is behind the fault of a derivation.
-    fn find(alloc: Global, what: &StepDetail, ints: &Ints) -> Result<StepFacts, AllocError> {
+    fn find(subject: Subject<'_>, what: &StepDetail, ints: &Ints) -> Result<StepFacts, AllocError> {
         match what {
             StepDetail::Rows { computed, stated } => {
-                Ok(StepFacts::Rows(row_differences(alloc, &computed.row, &stated.row)?))
+                {
+                    let alloc = subject.alloc;
+                    Ok(StepFacts::Rows(row_differences(alloc, &computed.row, &stated.row)?))
+                }
             }
-            StepDetail::Sum(sum) => Ok(StepFacts::Sum(row_faults(alloc, ints, &sum.row)?)),
+            StepDetail::Sum(sum) => Ok(StepFacts::Sum(row_faults(subject, ints, &sum.row)?)),
             StepDetail::Pair(first, second) => {
-                let faults = row_faults(alloc, ints, &first.row)?;
+                let faults = row_faults(subject, ints, &first.row)?;
                 Ok(StepFacts::Pair(faults, covers(first, second, ints)))
             }
             _ => Ok(StepFacts::Nothing),
@@ -421,7 +434,7 @@ fn words_of(cause: u8) -> (&'static str, &'static str) {
         cause::MIXED_SIGNS => ("has a sum of both senses: entry", ""),
         cause::OVERFLOW => ("passes 2^127 - 1 at entry", " of its sum"),
         cause::NOT_ROUNDABLE => ("has a sum that can't be rounded", ""),
-        cause::NOT_SPLIT => ("has two assumptions that are no split", ""),
+        cause::NOT_SPLIT => ("has two assumptions that don't form a split", ""),
         cause::NOT_DOMINATED => ("does not follow from its reason", ""),
         _ => ("needs a listed solution", ""),
     }
@@ -447,10 +460,7 @@ fn write_facts(page: &mut Page, refused: &RefusedStep<'_>, reason: &Reason, faul
             write_faults(page, problem, faults);
             refused.advice.doubts.write(page, refused, sum);
             if refused.advice.changes.is_empty() && !refused.advice.doubts.has_number() {
-                page.put(
-                    "  = help: a sum is rounded if all coefficients are whole, and all its \
-                     variables are integer ones: is `lin` meant, which doesn't round?\n",
-                );
+                write_rounding(page, refused.advice.follows_as_lin, faults);
             }
         }
         (StepDetail::Pair(first, second), StepFacts::Pair(faults, is_split)) => {
@@ -477,6 +487,23 @@ fn write_facts(page: &mut Page, refused: &RefusedStep<'_>, reason: &Reason, faul
             }
         }
         _ => {}
+    }
+}
+
+// Writes when a sum is rounded, and what is likely if one can't be.
+fn write_rounding(page: &mut Page, follows_as_lin: bool, faults: &[RowFault]) {
+    page.put(
+        "  = help: a sum is rounded if all coefficients are whole, and all its variables are \
+         integer ones",
+    );
+    if follows_as_lin {
+        page.put(": is `lin` meant, which doesn't round?\n");
+    } else if has_fraction(faults) {
+        page.put("; derive a cut over other variables by a split, with `asm`, `lin` and `uns`\n");
+    } else if has_part(faults) {
+        page.put("; multiples of bounds in the sum can make the coefficients whole\n");
+    } else {
+        page.put("\n");
     }
 }
 
@@ -514,17 +541,20 @@ fn write_rows_help(
                  or another number in one of them?\n",
             ),
         },
-        References::Branches { .. } if computed.row.entries().is_empty() => page.put(
-            "  = help: is a case ruled out? Then it gives a contradiction, as 0 >= 1: is its \
-             right-hand side wrong?\n",
-        ),
-        References::Branches { .. } => page.put(
-            "  = help: is what was computed meant, or another constraint as the case?\n",
-        ),
-        References::Nothing => page.put(
-            "  = help: is what was computed meant? `sol` gives the best listed value, and nothing \
-             better\n",
-        ),
+        References::Branches { i1, i2, .. } => write_case_help(page, refused, [i1, i2], stated),
+        References::Nothing => match ratio_of(stated, differences) {
+            Some(ratio) => {
+                write!(
+                    page,
+                    "  = help: each stated coefficient is {ratio} times the computed one: "
+                );
+                page.put("`sol` gives a bound on the objective as OBJ has it\n");
+            }
+            None => page.put(
+                "  = help: is what was computed meant? `sol` gives the best listed value, and \
+                 nothing better\n",
+            ),
+        },
     }
 }
 
@@ -569,16 +599,13 @@ fn write_labelled(page: &mut Page, problem: &Problem, label: &str, constraint: &
     write!(page, "{label}{}\n", Algebra(problem, constraint));
 }
 
-// Writes what is likely to be wrong, by the cause, in a problem of so many constraints.
-fn write_help(page: &mut Page, cause: u8, count: usize) {
-    let help = match cause {
-        cause::NOT_EARLIER => {
-            let plural = if count == 1 { "" } else { "s" };
-            page.put("  = help: indices count from 0: the problem has ");
-            write!(page, "{count} constraint{plural}, ");
-            write!(page, "so the first derivation is {count}; ");
-            "is this line in front of one that it needs?\n"
-        }
+// Writes what is likely to be wrong, by the cause.
+fn write_help(page: &mut Page, known: &PlacedItems<'_>, fault: StepFault<'_>) {
+    if let (cause::NOT_EARLIER, StepDetail::Index(index)) = (fault.cause, fault.what) {
+        write_not_earlier(page, known, fault.index, *index);
+        return;
+    }
+    let help = match fault.cause {
         cause::NOT_ASSUMPTION => {
             "  = help: `uns i1 l1 i2 l2`: l1 and l2 are the assumptions of the two cases, \
              derivations by `asm`; i1 holds if l1 does, and i2 if l2 does\n"

@@ -2,11 +2,14 @@
 
 use crate::algebra::VariableName;
 use crate::differences::Difference;
+use crate::lasts::has_same_digits;
+use crate::listed::FirstSolutions;
 use crate::page::Page;
 use crate::rounded::is_rounded;
 use crate::shown::write_line;
 use crate::sought::{Refused, constraint_at, inverse};
 use crate::step::RefusedStep;
+use std::alloc::AllocError;
 use vipr_frac::Frac;
 use vipr_linear::Row;
 use vipr_rules::Rows;
@@ -22,7 +25,7 @@ pub(crate) struct Suspect {
 /// What is likely to be wrong in a row.
 #[derive(Clone, Copy)]
 enum RowSlip {
-    /// The sign of a variable's coefficient, or the digits of a fraction.
+    /// The sign of a variable's coefficient, the digits of a fraction, or the order of digits.
     Sign(u32),
     /// Another whole number is meant by the coefficient of a variable.
     Digits(u32),
@@ -72,8 +75,71 @@ pub(crate) struct OtherSum<'a> {
 }
 
 impl<'a> OtherSum<'a> {
-    /// The numbers that are likely to be wrong in a row.
-    pub(crate) fn suspects(self) -> Suspects {
+    /// The numbers that are likely to be wrong in a row, without those of which a listed solution
+    /// says that they are right.
+    pub(crate) fn likely_suspects(self) -> Result<Suspects, AllocError> {
+        let suspects = self.suspects();
+        if suspects.0[0].is_none() {
+            return Ok(suspects);
+        }
+        let solutions = FirstSolutions::find(self.refused.subject)?;
+        let mut kept = Suspects::none();
+        for suspect in suspects.0 {
+            if let Some(known) = &suspect {
+                if !self.is_refuted(known, &solutions) {
+                    kept.add(suspect);
+                }
+            }
+        }
+        drop(solutions);
+        Ok(kept)
+    }
+
+    // Whether a listed solution breaks a constraint of the problem with this change.
+    fn is_refuted(self, suspect: &Suspect, solutions: &FirstSolutions) -> bool {
+        let Some(index) = suspect.index else {
+            return false;
+        };
+        let Some(given) = self.refused.problem.cons().get(index as usize) else {
+            return false;
+        };
+        match self.gains_of(suspect, index, &given.item.row) {
+            Some(gains) => solutions.refute(&given.item, gains.as_slice()),
+            None => false,
+        }
+    }
+
+    // What a change of the row of a constraint adds to the coefficients of two variables.
+    fn gains_of(self, suspect: &Suspect, index: u32, row: &Row) -> Option<[(u32, Frac); 2]> {
+        match suspect.slip {
+            RowSlip::Sign(variable) | RowSlip::Digits(variable) => {
+                let difference = self.differences.first()?;
+                let multiplier = self.multiplier_of(index)?;
+                let present = row.coefficient(variable);
+                let meant = meant_for(present, multiplier, *difference)?;
+                let gain = meant.add(present.neg()).ok()?;
+                Some([(variable, gain), (variable, Frac::zero())])
+            }
+            RowSlip::Exchange(one, another) | RowSlip::Variable(one, another) => {
+                let first = row.coefficient(one);
+                let gain = row.coefficient(another).add(first.neg()).ok()?;
+                Some([(one, gain), (another, gain.neg())])
+            }
+        }
+    }
+
+    // The multiplier of the entry of a constraint.
+    fn multiplier_of(self, index: u32) -> Option<Frac> {
+        for entry in self.entries {
+            if entry.0 == index {
+                return Some(entry.1);
+            }
+        }
+        None
+    }
+
+    // The numbers that are likely to be wrong in a row.
+    fn suspects(self) -> Suspects {
         match self.differences {
             [one] => self.coefficients(*one),
             [one, another] => self.exchanges(*one, *another),
@@ -120,6 +186,8 @@ impl<'a> OtherSum<'a> {
         if meant.is_zero() {
             None
         } else if meant == present.neg() || is_rounded(present, meant) {
+            Some(RowSlip::Sign(variable))
+        } else if are_transposed(present, meant) {
             Some(RowSlip::Sign(variable))
         } else if row.entries().len() > 1 && present.is_whole() && meant.is_whole() {
             Some(RowSlip::Digits(variable))
@@ -188,6 +256,17 @@ impl<'a> OtherSum<'a> {
             }
         }
         count == 1
+    }
+}
+
+// Whether two whole numbers have the same digits in another order.
+fn are_transposed(present: Frac, meant: Frac) -> bool {
+    if !present.is_whole() || !meant.is_whole() {
+        return false;
+    }
+    match (u32::try_from(present.numer()), u32::try_from(meant.numer())) {
+        (Ok(one), Ok(other)) => has_same_digits(one, other),
+        _ => false,
     }
 }
 
