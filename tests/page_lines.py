@@ -772,7 +772,9 @@ def rounding(page, lin, bounds, other):
     facts = page.facts
     same("the cause", facts.refused, 36)
     own, row = facts.own(), facts.written("sum")[0]
-    same("whether it follows by lin", lin is not None, facts.accepts(facts.parts(own), "lin"))
+    sides = facts.written("sum")[2], facts.plain(facts.number())[2]
+    if lin or difference(*sides) is not None:
+        same("whether it follows by lin", lin is not None, facts.accepts(facts.parts(own), "lin"))
     if bounds:
         true(any(number.denominator > 1 for number in row.values()), "all are whole")
     if other:
@@ -1008,14 +1010,9 @@ def other_index(page, new, new_name: str, old, old_name: str, at, count, first):
     facts = page.facts
     parts = facts.parts(facts.own())
     true(new < facts.number(), f"[{new}] is not earlier")
-    same(
-        "the names",
-        (new_name, old_name),
-        tuple(
-            shown_name(facts.constraint(index).name) if index <= facts.number() else None
-            for index in (new, old)
-        ),
-    )
+    same("the name", new_name, shown_name(facts.constraint(new).name))
+    if old <= facts.number() or old_name is not None:
+        same("the old name", old_name, shown_name(facts.names["CON", old].bytes))
     same(f"entry {at}", old, parts[at][0])
     page.changed.append(("entry index", at))
     page.mends["entry index", at] = str(new)
