@@ -435,6 +435,22 @@ def long_texts(n):
         con=["c G 0 OBJ"],
         der=[f"d G 0 {n} {ones} {n - 1} 2 {{ lin 1 0 1 }} -1"],
     )
+    rising = " ".join(f"{index} {index + 1}" for index in range(n))
+    listed = " ".join(f"{index} 1" for index in range(0, n, 2))
+    yield "a listed solution of which many changes nearly do", text(
+        f"range -inf {n}",
+        con=[f"a G {n * n} {n} {rising}"]
+        + [f"b G -1 1 {index} 1" for index in range(n)]
+        + [f"c E {2 * n} OBJ"],
+        sol=f"s {(n + 1) // 2} {listed}\n",
+        count=1,
+    )
+    yield "a listed solution and constraints with the objective's row", text(
+        "range -inf inf", con=["c G 1 OBJ"] * n, sol="s 0\n", count=1
+    )
+    yield "a count that is far too small", text("infeas", con=["c G 0 OBJ"] * n).replace(
+        f"CON {n}", "CON 1"
+    )
     sets = overlapping_sets(n)
     last = len(sets) - 1
     yield "the nearest constraints rest on overlapping sets", text(

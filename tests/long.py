@@ -42,6 +42,7 @@ import page_changes
 import page_facts
 import page_model
 import page_texts
+from page_slips import OTHER_FILES, SLIPS, TEXTS, UNTRUE_SLIPS
 from damage import changed, damaged, mistaken, nearly
 from texts import TOP, Checks, examples, fed, may_trace, program, run, traced
 
@@ -82,7 +83,7 @@ MISTAKES = [
         "CON 7 6",
         "CON 6 6",
         ".vipr:18:1\n",
-        "is the first count after `CON` too small?",
+        "`CON` has 7 constraints, and its count is 6: is 7 meant?",
     ),
     # count of constraints one too large
     (
@@ -90,7 +91,7 @@ MISTAKES = [
         "CON 7 6",
         "CON 8 6",
         ".vipr:19:5\n",
-        "`RTP` was read as a name: is the count after `CON`, 8, too large",
+        "`RTP` was read as a name, and 7 constraints before it: is the count after `CON`, 8, too large",
     ),
     # number of bounds forgotten
     ("knapsack", "CON 7 6", "CON 7", ".vipr:12:1\n", "`CON` takes two counts"),
@@ -99,7 +100,7 @@ MISTAKES = [
     # decimal
     ("knapsack", "13/4", "3.25", ".vipr:23:26\n", "write 13/4"),
     # index and count forgotten: rnd 0 13/4 2 1/4 6 1/2 (count p forgotten)
-    ("knapsack", "rnd 3 0", "rnd 0 13/4", ".vipr:23:24\n", "is its number of entries missing"),
+    ("knapsack", "rnd 3 0", "rnd 0 13/4", ".vipr:23:24\n", "3 pairs in line 23 after the count of entries, 0: is 3 meant"),
     # brace glued
     ("knapsack", "{ rnd", "{rnd", ".vipr:23:16\n", "put a space after the brace"),
     # last reference forgotten at the last line
@@ -131,7 +132,7 @@ MISTAKES = [
     # wrong sense of a dual bound under max
     ("knapsack", "bound L 20", "bound G 20", ".vipr:23:7\n", "the sense: computed <=, stated >="),
     # a dense solution vector of n values
-    ("knapsack", "bc 2 1 1 2 1", "bc 3 1 1 1", ".vipr:21:10\n", "is this a list of all values"),
+    ("knapsack", "bc 2 1 1 2 1", "bc 3 1 1 1", ".vipr:21:10\n", "3 numbers in line 21 after the count of values, 3: are the indices left out?"),
     # solution that breaks cap
     (
         "knapsack",
@@ -162,10 +163,10 @@ MISTAKES = [
         "x31 x32\n",
         "x31 x32 x33\n",
         ".vipr:6:9\n",
-        "is the count after `VAR` right, or is a space in a name?",
+        "`VAR` has 7 names, and its count is 6: is that wrong, or is a space in a name?",
     ),
     # comment behind VER
-    ("one_machine", "VER 1.0\n", "VER 1.0\n% a model\n", ".vipr:3:1\n", "remove the comment"),
+    ("one_machine", "VER 1.0\n", "VER 1.0\n% a model\n", ".vipr:3:1\n", "is this a comment?"),
     # forgot to declare y integer
     (
         "one_machine",
@@ -237,7 +238,7 @@ MISTAKES = [
         "[13] all  objective >= 7  (line 25), too weak by 1, rests on no assumption",
     ),
     # count of derivations one too small
-    ("set_cover", "DER 5", "DER 4", ".vipr:25:1\n", "make the count after `DER` larger"),
+    ("set_cover", "DER 5", "DER 4", ".vipr:25:1\n", "`DER` has 5 derivations, and its count is 4"),
     # word of another tool
     (
         "set_cover",
@@ -276,7 +277,7 @@ MISTAKES = [
         "prune G 2 0",
         "prune G 1 0 1 0",
         ".vipr:22:13\n",
-        "is the count of coefficients too small or missing, or is the reason missing?",
+        "1 pair in line 22 after the count of coefficients, 0: is 1 meant",
     ),
     # decimal bounds
     ("diet", "16/5 16/5", "3.2 3.2", ".vipr:12:11\n", "write 16/5"),
@@ -360,9 +361,9 @@ HINTS = [
     ("set_cover", "3 1 4 10 3 5 1 }", "3 1 4 10 3 5 1 1/2 }", "is `1 1/2` a mixed number?"),
     ("diet", "protein G 8", "protein G 8 1/2", "is `8 1/2` a mixed number? Then write 17/2"),
     # a mail
-    ("set_cover", "9 -6", "9 -=\n6", "mail breaks a long line with `=` at its end, as line 23"),
-    ("set_cover", "a G 1", "a=\n_b G 1", "mail breaks a long line with `=` at its end, as line 8"),
-    ("set_cover", "x1 x2", "x1 x=\n2", "mail breaks a long line with `=` at its end, as line 4"),
+    ("set_cover", "9 -6", "9 -=\n6", "mail breaks a long line with `=` at its end, as in line 23"),
+    ("set_cover", "a G 1", "a=\n_b G 1", "mail breaks a long line with `=` at its end, as in line 8"),
+    ("set_cover", "x1 x2", "x1 x=\n2", "mail breaks a long line with `=` at its end, as in line 4"),
     ("set_cover", "a G 1", "a a=3Db G 1", "mail writes `=3D` for `=`: was the file sent"),
     ("set_cover", "9 -6 ", "9 -6=20\n", "mail writes `=20` for a space: was the file sent"),
     # two versions that were put into one
@@ -370,9 +371,9 @@ HINTS = [
         "set_cover",
         "DER 5\n",
         "DER 5\n<<<<<<< HEAD\n",
-        "line 21 looks like a mark of a merge conflict",
+        "line 21 looks like a conflict marker of a merge",
     ),
-    ("set_cover", "SOL 1\n", "=======\nSOL 1\n", "line 18 looks like a mark of a merge conflict"),
+    ("set_cover", "SOL 1\n", "=======\nSOL 1\n", "line 18 looks like a conflict marker of a merge"),
     # what another program printed
     (
         "set_cover",
@@ -512,53 +513,53 @@ HINTS = [
         "diet",
         "bread milk",
         "bread",
-        "`INT` was read as a name: is the count after `VAR`, 2, too large",
+        "`INT` was read as a name, and 1 variable before it: is the count after `VAR`, 2, too large",
     ),
     (
         "diet",
         "bread milk",
         "bread whole milk",
-        "is the count after `VAR` right, or is a space in a name?",
+        "`VAR` has 3 names, and its count is 2: is that wrong, or is a space in a name?",
     ),
     (
         "diet",
         "bread milk",
         "bread milk 3",
-        "is the count after `VAR` right, or is a space in a name?",
+        "`VAR` has 3 names, and its count is 2: is that wrong",
     ),
     (
         "diet",
         "INT 0",
         "INT 1",
-        "`OBJ` is the keyword of a section: is the count after `INT`, 1, too large?",
+        "`OBJ` is the keyword of a section, after 0 indices: is the count after `INT`, 1, too large?",
     ),
-    ("set_cover", "INT 3 0 1 2", "INT 2 0 1 2", "is the count after `INT` too small?"),
+    ("set_cover", "INT 3 0 1 2", "INT 2 0 1 2", "`INT` has 3 indices, and its count is 2"),
     (
         "diet",
         "OBJ min 2 0 3/5",
         "OBJ min 1 0 3/5",
-        "is the count after `min` or `max` too small or missing?",
+        "2 pairs in line 6 after the count of coefficients, 1: is 2 meant",
     ),
-    ("diet", "CON 4 2", "CON 2 4", "is the first count after `CON` too small?"),
+    ("diet", "CON 4 2", "CON 2 4", "`CON` has 4 constraints, and its count is 2: is 4 meant?"),
     (
         "diet",
         "CON 4 2",
         "CON 5 2",
-        "`RTP` was read as a name: is the count after `CON`, 5, too large",
+        "`RTP` was read as a name, and 4 constraints before it: is the count after `CON`, 5, too large",
     ),
     ("diet", "range 16/5 16/5", "range 16/5 16/5 1", "`range` takes two bounds, and `infeas` none"),
     (
         "diet",
         "range 16/5 16/5\nSOL 1",
         "range 16/5 inf\nSOL 0",
-        "is the count after `SOL` too small",
+        "`SOL` has 1 solution, and its count is 0: is 1 meant?",
     ),
-    ("diet", "SOL 1", "SOL 2", "`DER` was read as a name: is the count after `SOL`, 2, too large"),
+    ("diet", "SOL 1", "SOL 2", "`DER` was read as a name, and 1 solution before it: is the count after"),
     (
         "matching",
         "SOL 1\nm 1 0 1\nDER 1\nodd L 1 OBJ { rnd 3 0 1/2 1 1/2 2 1/2 } -1\n",
         "SOL 2\nm 1 0 1\nDER 0\n",
-        "`DER` was read as a name: is the count after `SOL`, 2, too large",
+        "`DER` was read as a name, and 1 solution before it: is the count after `SOL`, 2, too large",
     ),
     ("diet", "DER 1", "DER 2", "is the file cut, or the count after `DER` too large?"),
     # a cut file
@@ -611,14 +612,14 @@ HINTS = [
         "decimals are not in the format: write a fraction",
     ),
     ("diet", "SOL 1", "SOL", "is it missing after the keyword?"),
-    ("diet", "11/50", "22e-2", "exponents are not in the format: write all digits, or a fraction"),
+    ("diet", "11/50", "22e-2", "exponents are not in the format: write 11/50"),
     ("diet", "11/50", "/ 50", "a number has no spaces"),
     ("diet", "11/50", "11/-50", "its sign is in front, as -5/2"),
-    ("diet", "11/50", "\u221211/50", "a byte that is not ASCII, as a minus"),
+    ("diet", "11/50", "\u221211/50", "is `-11/50` meant? The sign here is U+2212"),
     ("diet", "3/5", "3/5;", "is `3/5` meant? Nothing else may be in its token"),
     ("diet", "3/5", "3/5x;", "remove the comma or semicolon"),
     ("diet", "4/25 }", "4/25}", "put a space before the brace"),
-    ("diet", "1 4/25 }", "1 }", "the brace comes before the last entry that is counted"),
+    ("diet", "1 4/25 }", "1 }", "3 numbers in line 16 after the count of entries, 2: is a number lost"),
     ("diet", "dual G 16/5 OBJ", "dual G OBJ", "is the right-hand side missing?"),
     ("diet", "dual G 16/5 OBJ", "dual G DER", "this is the keyword of a section"),
     ("diet", "protein G 8", "protein G eight", "is the count before it right?"),
@@ -658,7 +659,7 @@ HINTS = [
     ("diet", "protein G", '"my protein" G', "a name has no spaces, not even in quotes"),
     ("diet", "iron G", "my iron G", "is a space in the name, or a coefficient missing above?"),
     ("diet", "iron G", "G", "is it the sense, and the name missing?"),
-    ("diet", "protein G 8 2", "protein G 8 1", "the name in front of this is a number"),
+    ("diet", "protein G 8 2", "protein G 8 1", "2 pairs in line 8 after the count of coefficients, 1"),
     # reasons
     ("diet", "{ lin", "lin", "write `{` in front of this reason"),
     ("diet", "{ lin", "( lin", "a reason is between `{` and `}`"),
@@ -673,7 +674,7 @@ HINTS = [
     ("diet", "0 11/50", "0 11 / 50", "is `11/50` meant? A number is one token"),
     ("diet", "0 11/50", "0 11 /50", "is `11/50` meant? A number is one token"),
     ("diet", "opt 2 0 3 1 2", "2 1 1 2", "its name is a number: is the name missing?"),
-    ("diet", "1 4/25 }", "}", "the brace comes before the last entry that is counted"),
+    ("diet", "1 4/25 }", "}", "2 numbers in line 16 after the count of entries, 2: is 1 meant?"),
     ("set_cover", "uns 11 9 12 10", "uns 11 9 12", "`uns` takes four indices"),
     ("set_cover", "{ asm } 13", "{ asm } inf", "write the last reference after `}`"),
     ("set_cover", "uns 11 9 12 10", "uns a 9 12 10", "wanted i1 of `uns`"),
@@ -925,20 +926,20 @@ HINTS = [
     ),
     ("split_cut", "uns 4 2 5 3", "uns 4 3 5 2", "are l1 and l2 exchanged? `uns 4 2 5 3`"),
     ("first_example", "10 14 }", "11 14 }", "14 x [11], this derivation itself\n"),
-    ("diet", "VAR 2", "VAR 5", "`INT` was read as a name: is the count after `VAR`, 5, too large"),
+    ("diet", "VAR 2", "VAR 5", "`INT` was read as a name, and 2 variables before it: is the count"),
     ("set_cover", "10 3 5 1 } 13", "10 3 5 1 -1", "is the brace missing in front of this?"),
     (
         "diet",
         "nm G 0 1 1 1",
         "nm G 0 1 1 1 0 1",
-        "or is the last constraint's count of coefficients too small?",
+        "2 pairs in line 11 after the count of coefficients, 1: is 2 meant",
     ),
     # a solution
     (
         "diet",
         "opt 2 0 3 1 2",
         "opt 2 0 3 1 1999999/1000000",
-        "is a value rounded, as one of floating point is?",
+        "with 2 in place of 1999999/1000000 at milk (variable 1) all constraints hold",
     ),
     (
         "diet",
@@ -952,7 +953,7 @@ HINTS = [
         "2nd 0",
         "the solution lists no value, so each variable is 0: is its count right?",
     ),
-    ("diet", "opt 2 0 3 1 2", "opt 2 0 3 1 1", "change the solution, or leave it out"),
+    ("diet", "range 16/5 16/5\nSOL 1\nopt 2 0 3 1 2", "range 16/5 9\nSOL 1\nopt 2 0 3 1 1", "change the solution, or leave it out"),
     ("diet", "iron G 9 2 0 1 1 3", "iron G 9 0", "no solution meets this constraint"),
     (
         "knapsack",
@@ -1900,7 +1901,7 @@ TRUE = [
     (
         [],
         "VER 1.0 VAR 3 x y z INT 1 1 1 OBJ min 0",
-        ["is the count after `INT` too small? `INT` takes a count and that many indices"],
+        ["`INT` has 2 indices, and its count is 1: is 2 meant?"],
         [],
     ),
     ([], "VER 1.0 VAR 1 x INT 0 x OBJ", ["is the count after `INT` too small?\n"], []),
@@ -2017,8 +2018,8 @@ UNTRUE = [
         (FRONT + "1 s 1 0 0 DER 1 d G 1=\n0", sentence)
         for sentence in (
             "line 2 repeats line 1: was it written twice?",
-            "line 1 looks like a mark of a merge conflict: were two versions of the file put into one?",
-            "mail breaks a long line with `=` at its end, as line 2: was the file sent as the text of a mail?",
+            "line 1 looks like a conflict marker of a merge: were two versions of the file put into one?",
+            "mail breaks a long line with `=` at its end, as in line 2: was the file sent as the text of a mail?",
             "mail writes `=3D` for `=`: was the file sent as the text of a mail?",
             "mail writes `=20` for a space: was the file sent as the text of a mail?",
             "is this line what another program printed, and no part of the certificate?",
@@ -2367,7 +2368,7 @@ def is_true(page, text, name, path="standard input", profile=1):
 
 def untrue_helps():
     """The model finds that a help of another text isn't true of this one."""
-    for text, sentence in UNTRUE:
+    for text, sentence in UNTRUE + UNTRUE_SLIPS:
         page = page_model.Page(page_facts.Facts(text.encode(), 1), "standard input")
         fault = page_model.line_faults(page, f"  = help: {sentence}")
         check(
@@ -2686,7 +2687,7 @@ def main():
             keep(name, page, path)
             check(place in page, f"{name}: the place {place!r}")
             check(change in page, f"{name}: the change {change!r}")
-        for problem, old, new, change in HINTS:
+        for problem, old, new, change in HINTS + SLIPS:
             name = f"{problem}, {old!r} -> {new!r}"
             text = (PROBLEMS / f"{problem}.vipr").read_text()
             check(old in text, f"{name}: the text to be replaced")
@@ -2698,12 +2699,13 @@ def main():
             page = page_of(PROBLEMS / f"{problem}.vipr", problem)
             keep(problem, page, PROBLEMS / f"{problem}.vipr")
             check("proved: " in page and "  goal   [" in page, f"{problem}: the goal")
-        for data, wanted in STRANGE:
+        for data, wanted in STRANGE + OTHER_FILES:
             path.write_bytes(data)
             page = page_of(path, repr(data[:20]))
             check(wanted in page, f"{data[:20]!r}: {wanted!r}")
             keep(ascii(data[:200]), page, path)
-        for words, text, wanted, unwanted in TRUE:
+        slips = [([], text, [wanted], [no] if no else []) for text, wanted, no in TEXTS]
+        for words, text, wanted, unwanted in TRUE + slips:
             path.write_bytes(text.encode("latin-1"))
             page = explained(["--long", *words, path])[0]
             is_true(page, path.read_bytes(), text[:400], path, int(words[1]) if words else 1)

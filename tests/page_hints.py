@@ -120,8 +120,15 @@ def is_prose(facts):
     return len(words) > 1 and not {b"E", b"L", b"G", b"{", b"}"} & set(line)
 
 
+def is_pseudo_boolean(facts):
+    """Whether the first token is that of a proof, or the second one that of a problem."""
+    tokens = facts.text[facts.token.at :].split()
+    return first_is("pseudo-Boolean")(facts) or tokens[1:2] == [b"#variable="]
+
+
 KEYWORD = token_is("|".join(KEYWORDS))
 NUMBERLIKE = token_is(r"[-+]?[0-9.].*")
+COMMENT = r"[%#].*|//.*|/\*.*|;|!|--"
 # the hint without `  = help: `, and of which texts it is true
 HINTS = {
     # what stands in front of the first token, or in its place
@@ -141,6 +148,13 @@ HINTS = {
     "this looks like a page of HTML or XML, and not like a certificate": first_is("<.*"),
     "a comment begins with `%`": first_is("(#|//|/[*]).*"),
     "this looks like JSON, and not like a certificate": first_is("[{[].*"),
+    "this looks like SMT-LIB, and not like a certificate": first_is("[(].*"),
+    "this looks like TeX, and not like a certificate": first_is(r"\\[dbs].*"),
+    "this looks like a file of a SAT solver (DIMACS, DRAT or LRAT), and not like a certificate": first_is(
+        "p|[-0-9]+"
+    ),
+    "this looks like a pseudo-Boolean problem or proof, and not like a certificate": is_pseudo_boolean,
+    "this looks like a file of a solution, and not like a certificate": first_is("solution|objective"),
     "this looks like an MPS file, which has the problem alone: a certificate has the claim and its proof, too": first_is(
         "[*].*|NAME|ROWS"
     ),
@@ -161,7 +175,7 @@ HINTS = {
     "only version 1.0 is read, which is written `1.0`": both(cause_is(3), role_is("version")),
     "the next section comes after the version `1.0`": role_is("keyword", section="VAR"),
     # sections
-    "remove the comment: comments may only be before `VER`": token_is("[%#].*"),
+    "is this a comment? Comments may only be before `VER`, and begin with `%`": token_is(COMMENT),
     "is the count after `INT` too small?": role_is("keyword", section="OBJ"),
     "is the count after `INT` too small? `INT` takes a count and that many indices": both(
         role_is("keyword", section="OBJ"), token_is("[0-9]+")
@@ -186,7 +200,7 @@ HINTS = {
     "is the file cut, or a count too large?": lambda facts: facts.is_end
     and facts.role.wanted != "keyword",
     "a file is one certificate, without comments after `VER`: remove all from here on": both(
-        cause_is(18), token_is("VER|%.*")
+        cause_is(18), token_is("VER|" + COMMENT)
     ),
     "make the count after `DER` larger, or remove all from here on": cause_is(18),
     # what is fixed by the cause
@@ -313,7 +327,7 @@ HINTS = {
     "the name in front of this is `E`, `L` or `G`: is it the sense, and the name missing? NAME SENSE RIGHT-HAND-SIDE COUNT INDEX "
     "COEFFICIENT ..": both(role_is("sense"), lambda facts: facts.name.bytes in (b"G", b"L", b"E")),
     "does the name in front of this begin a comment? Comments may only be before `VER`": both(
-        role_is("sense"), lambda facts: facts.name.bytes[:1] in (b"%", b"#")
+        role_is("sense"), lambda facts: re.fullmatch(COMMENT.encode(), facts.name.bytes) is not None
     ),
     "a sense is the letter `E`, `L` or `G`; or is a space in the name, or a coefficient missing above? The token before this one was "
     "read as a name": role_is("sense"),
@@ -385,7 +399,7 @@ HINTS = {
     "one": both(role_is("lower bound", "upper bound"), number_wanted),
     "a number is digits with or without a sign, or a fraction, as -3 or 13/4; is the count before it right?": number_wanted,
     # solutions
-    "write whole values, or take the variable out of INT": cause_is(21),
+    "write a whole value, or take the variable out of INT": cause_is(21),
     "no solution meets this constraint: change it, or take it out": lambda facts: facts.refused
     == 22
     and not facts.plain(int(facts.details["constraint"].split()[0]))[0],

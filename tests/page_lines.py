@@ -355,13 +355,13 @@ def not_whole(page, name: str, index, value):
 
 
 @form(
-    rf"  = help: write whole values, or take the variable out of INT: did you mean ({NUMBER})\? It is off by ({NUMBER})"
+    rf"  = help: write a whole value, or take the variable out of INT\. Is ({NUMBER}) meant\? It is ({NUMBER}) off"
 )
 def nearest_whole(page, nearest, gap):
     facts = page.facts
     value = Fraction(facts.details["value"])
     same("how far off it is", (facts.refused, gap), (21, abs(value - nearest)))
-    true(nearest.denominator == 1 and gap <= Fraction(1, 2), "another one is nearer")
+    true(nearest.denominator == 1 and gap <= Fraction(1, 10), "it isn't near")
 
 
 @form(r"  constraint (\d+) `(\S+)`: (.+)  \(line (\d+)\)")
@@ -1084,7 +1084,17 @@ def factor_of_all(page, factor):
 
 
 # the kinds of lines that ask about numbers and lines of the text
-ASKED = ("other_order", "rounded_multipliers", "other_side", "other_number", "floating", "swapped")
+ASKED = (
+    "other_order",
+    "rounded_multipliers",
+    "other_side",
+    "other_number",
+    "floating",
+    "swapped",
+    "other_objective",
+    "row_by_name",
+    "row_in_other_order",
+)
 NUMBERS_ASKED = ASKED[1:]
 
 
@@ -1667,17 +1677,24 @@ def no_goal(page):
 
 
 @form(
-    r"  = help: `(\w+)` was read as a name: is the count after `(\w+)`, (\d+), too large, or is something missing in front of `(\w+)`\?"
+    r"  = help: `(\w+)` was read as a name, and (\d+) ([a-z]+) before it: is the count after `(\w+)`, (\d+), too large, or is something "
+    r"missing in front of `(\w+)`\?"
 )
-def read_as_name(page, word, section, count, again: str):
+def read_as_name(page, word, before, what, section, count, again: str):
     facts = page.facts
     same("the name", word, again)
     true(word.encode() in facts.read_names, "it is no name")
-    same(
-        "the count",
-        (section, count),
-        (KEYWORDS[KEYWORDS.index(word) - 1] if word != "RTP" else "CON", facts.counts.get(section)),
-    )
+    known = KEYWORDS[KEYWORDS.index(word) - 1]
+    same("the count", (section, count), (known, facts.counts.get(section)))
+    same("the items", what, ITEMS[section] + ("" if before == 1 else "s"))
+    if section == "VAR":
+        tokens = facts.text.split()
+        first = tokens.index(b"VAR") + 2
+        names = tokens[first : first + count]
+        same("the names", before, max(at for at, name in enumerate(names) if name == b"INT"))
+    else:
+        is_past = facts.role.section != section
+        same("the items", before, count - 1 if is_past else facts.role.item)
 
 
 @form(
@@ -1734,9 +1751,10 @@ def section_missing(page, section, found, words: str):
 
 
 @form(
-    r"  = help: `(\w+)` is the keyword of a section: is the count after `INT`, (\d+), too large\?"
+    r"  = help: `(\w+)` is the keyword of a section, after (\d+) (index|indices): is the count after `INT`, (\d+), too large\?"
 )
-def keyword_as_index(page, word, count):
+def keyword_as_index(page, word, before, what, count):
+    same("the indices", (before, what == "index"), (page.facts.role.item, before == 1))
     same(
         "the token", (word.encode(), count), (page.facts.token.bytes, page.facts.counts.get("INT"))
     )
@@ -1744,10 +1762,17 @@ def keyword_as_index(page, word, count):
 
 
 @form(
-    r"  = help: (?:indices count from 0: that of the last variable is (\d+)|the text has no variables \(VAR 0\))(?:; are the pairs INDEX (COEFFICIENT|VALUE)\?)?((?:;| Or) is this a constant\? An objective has none)?"
+    r"  = help: (?:indices count from 0: that of the last variable is (\d+)|the text has no variables \(VAR 0\))(?:; are the pairs INDEX (COEFFICIENT|VALUE)\?)?((?:;| Or) is this a constant\? An objective has none)?(\. Does INT count variables from 1\? Then each of its indices is 1 too large)?"
 )
-def last_variable(page, index, pairs: str, constant):
+def last_variable(page, index, pairs: str, constant, from_one):
     facts = page.facts
+    if facts.role.wanted == "integer index":
+        integers = facts.text[: facts.token.at].rpartition(b"INT")[2].split()[1:]
+        is_next = int(facts.token.bytes) == facts.counts["VAR"]
+        is_asked = is_next and all(int(other) != 0 for other in integers)
+        same("whether indices may count from 1", from_one is not None, is_asked)
+    else:
+        same("whether indices may count from 1", from_one, None)
     if facts.role.wanted == "row index":
         same("the pairs", pairs, "VALUE" if facts.role.section == "SOL" else "COEFFICIENT")
     same("the last variable", -1 if index is None else index, facts.counts["VAR"] - 1)
@@ -1822,6 +1847,7 @@ SPELLINGS = {
     "rnd": ("reason", "round|rounded|rounding|cg|chvatal"),
     "uns": ("reason", "unsplit|split|join|branch"),
     "sol": ("reason", "solution|cutoff|obj"),
+    "OBJ": ("row count", "obj|objective"),
 }
 
 
@@ -1864,7 +1890,7 @@ def repeated_line(page, line, before):
 
 
 @form(
-    r"  = help: line (\d+) looks like a mark of a merge conflict: were two versions of the file put into one\?"
+    r"  = help: line (\d+) looks like a conflict marker of a merge: were two versions of the file put into one\?"
 )
 def conflict(page, line):
     mark = re.compile(rb"(<{7}|>{7}|\|{7}|={7})([ \r].*)?", re.S)
@@ -1873,7 +1899,7 @@ def conflict(page, line):
 
 
 @form(
-    r"  = help: mail breaks a long line with `=` at its end, as line (\d+): was the file sent as the text of a mail\?"
+    r"  = help: mail breaks a long line with `=` at its end, as in line (\d+): was the file sent as the text of a mail\?"
 )
 def broken_by_mail(page, line):
     facts = page.facts

@@ -16,6 +16,8 @@ from page_facts import (
     Wrong,
     rules,
 )
+import page_places
+import page_points
 from page_hints import HINTS, ends_text, is_near_miss
 from page_lines import (
     FORMS,
@@ -29,6 +31,8 @@ from page_lines import (
 )
 
 NO_FORM = "no line has this form"
+# what adds forms to those of page_lines.py
+MORE_FORMS = page_places, page_points
 
 
 def required(facts, said):
@@ -56,13 +60,17 @@ def required(facts, said):
         yield "hint: the text ends with this token: is the file cut?", int(ends_text(facts))
     elif facts.place.startswith("SOL"):
         kinds = {21: ("not_whole",), 22: ("broken", "left_side"), 23: ("past_limit",)}[cause]
-        yield from dict.fromkeys((*kinds, "solution_error", "label this", "help"), 1).items()
+        yield from dict.fromkeys((*kinds, "solution_error", "label this"), 1).items()
+        yield "help", None
+        yield from [("attained point", None)] if page_points.offers_point(facts) else []
         if cause == 23:
             yield "past_bits", 1
         if (
             cause == 22
             and facts.plain(int(facts.details["constraint"].split()[0]))[0]
             and facts.solutions[facts.number()].values
+            and not said["attained point"]
+            and not said["double_in_row"]
         ):
             yield "hint: is a value rounded, as one of floating point is? Write exact fractions", int(
                 is_near_miss(facts)

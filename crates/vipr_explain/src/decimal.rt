@@ -1,10 +1,15 @@
 //! Numbers with a decimal point, which aren't in the format.
 
+use crate::token::{DIGITS, are_all, parted};
+use crate::wanted::count_of;
 use std::fmt::{self, Display, Formatter, Write};
 use vipr_frac::Frac;
 
 /// Digits are read up to here, and numbers from here on are long.
 const LIMIT: u64 = 1_000_000_000_000_000_000;
+
+/// The largest exponent of a number that is shown as a fraction.
+const MOST_EXPONENT: u32 = 36;
 
 /// How many places a decimal has at most that a number is shown as.
 const MOST_PLACES: u32 = 18;
@@ -24,6 +29,31 @@ pub(crate) fn fraction_of(word: &[u8]) -> Option<Frac> {
         [b'+', size @ ..] => size_of(size),
         _ => size_of(word),
     }
+}
+
+/// The value of a number with an exponent, `None` for other bytes or a large exponent.
+pub(crate) fn exponent_value(word: &[u8]) -> Option<Frac> {
+    let (front, behind) = parted(word, b"eE")?;
+    let (is_small, digits) = match behind {
+        [b'-', digits @ ..] => (true, digits),
+        [b'+', digits @ ..] | digits => (false, digits),
+    };
+    let is_exponent = !digits.is_empty() && digits.len() <= 3 && are_all(digits, DIGITS);
+    let size = count_of(digits);
+    if !is_exponent || size > MOST_EXPONENT || front.contains(&b'/') {
+        return None;
+    }
+    let scale = i128::try_from(10u128.saturating_pow(size)).ok()?;
+    let factor = if is_small {
+        Frac::new(1, scale)
+    } else {
+        Frac::new(scale, 1)
+    };
+    let number = match fraction_of(front) {
+        Some(decimal) => decimal,
+        None => Frac::parse(front).ok()?,
+    };
+    number.mul(factor.ok()?).ok()
 }
 
 // The value of a decimal without a sign.

@@ -2,7 +2,8 @@
 ghost use Rattle.std.specs.Prelude.{◌≡◌, length};
 ghost use Rattle.vipr_spec.specs.Certificate.{variables};
 
-use crate::algebra::ShownName;
+use crate::algebra::{ShownName, VariableName};
+use crate::by_name::OtherOrder;
 use crate::cases::without_strange_case;
 use crate::changes::{Change, Changes, shifted};
 use crate::differences::{Difference, MOST_SHOWN, row_differences};
@@ -17,8 +18,11 @@ use std::alloc::AllocError;
 use vipr_cert::References;
 use vipr_check::StepDetail;
 use vipr_frac::Frac;
-use vipr_linear::{Combination, Constraint, Sense};
+use vipr_linear::{Combination, Constraint, Row, Sense};
 use vipr_rules::Rows;
+
+/// At how many variables the objective is said to be wrong.
+const MOST_OF_OBJECTIVE: usize = 2;
 
 /// What is likely to be wrong but for a reason.
 #[derive(Clone, Copy)]
@@ -33,6 +37,10 @@ pub(crate) struct Doubts {
     is_side: bool,
     /// Numbers in a row, each of which may be wrong.
     suspects: Suspects,
+    /// Whether the stated row is the objective's but for the order of the variables.
+    variables: Option<OtherOrder>,
+    /// Whether the stated row is the objective's, and a coefficient or two of that may be wrong.
+    is_objective: bool,
 }
 
 impl Doubts {
@@ -44,6 +52,8 @@ impl Doubts {
             has_row: false,
             is_side: false,
             suspects: Suspects::none(),
+            variables: None,
+            is_objective: false,
         }
     }
 
@@ -79,6 +89,12 @@ impl Doubts {
             if doubts.rounded.is_none() && !doubts.has_likely_suspect() {
                 doubts.rounded = float_in(refused, entries, &differences);
             }
+            let most = stated.row.entries().len().min(MOST_OF_OBJECTIVE + 1);
+            let is_near = !differences.is_empty() && differences.len() < most;
+            doubts.is_objective = is_near && stated.row.is_same(refused.problem.objective());
+            if !differences.is_empty() {
+                doubts.variables = OtherOrder::find(refused)?;
+            }
         }
         Ok(doubts)
     }
@@ -95,6 +111,14 @@ impl Doubts {
         let References::Entries(entries) = refused.step.reason.references() else {
             return without_strange_case(refused, changes);
         };
+        if let Some(OtherOrder::Named) = self.variables {
+            self.suspects = Suspects::none();
+            return Changes::none();
+        }
+        if !changes.is_empty() {
+            self.variables = None;
+            self.is_objective = false;
+        }
         let is_other = brings_assumption(refused, entries, exchange);
         let has_part = multiplier.is_some() || exchange.is_some();
         if is_sign(multiplier, entries) {
@@ -158,7 +182,11 @@ impl Doubts {
 
     /// Whether a number of a sum is in doubt.
     pub(crate) fn has_number(&self) -> bool {
-        self.rounded.is_some() || self.is_side || self.suspect().is_some()
+        self.is_objective
+            || self.variables.is_some()
+            || self.rounded.is_some()
+            || self.is_side
+            || self.suspect().is_some()
     }
 
     /// Whether anything is asked before a change is offered.
@@ -183,6 +211,12 @@ impl Doubts {
 
     /// Asks about the numbers of a sum with this row.
     pub(crate) fn write(&self, page: &mut Page, refused: &RefusedStep<'_>, computed: &Constraint) {
+        if let Some(order) = self.variables {
+            order.write(page);
+        }
+        if self.is_objective {
+            write_objective(page, refused, &computed.row);
+        }
         if let Some(present) = self.rounded {
             let meant = simple_near(present).unwrap_or(present);
             page.put("  = help: ");
@@ -239,6 +273,41 @@ impl Doubts {
             }
         }
     }
+}
+
+// Asks whether the objective is wrong, if a derivation states its row, and this is computed.
+fn write_objective(page: &mut Page, refused: &RefusedStep<'_>, computed: &Row) {
+    page.put("  = help: the stated row is the objective's: with ");
+    let stated = &refused.stated().row;
+    let mut front = "";
+    for entry in computed.entries() {
+        front = write_meant(page, refused, computed, entry.0, front);
+    }
+    for entry in stated.entries() {
+        if computed.coefficient(entry.0).is_zero() {
+            front = write_meant(page, refused, computed, entry.0, front);
+        }
+    }
+    page.put(" after `OBJ` the rows are the same: is that meant?\n");
+}
+
+// Writes which coefficient of a variable is computed in place of the stated one, if it is another
+// one, and gives what is written in front of the next.
+fn write_meant(
+    page: &mut Page,
+    refused: &RefusedStep<'_>,
+    computed: &Row,
+    variable: u32,
+    front: &'static str,
+) -> &'static str {
+    let meant = computed.coefficient(variable);
+    let present = refused.stated().row.coefficient(variable);
+    if meant == present {
+        return front;
+    }
+    let name = VariableName(&refused.known.problem, variable);
+    write!(page, "{front}{meant} in place of {present} at {name}");
+    ", and "
 }
 
 // The constraint that a number is of.

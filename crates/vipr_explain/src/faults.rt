@@ -4,6 +4,7 @@ use crate::algebra::VariableName;
 use crate::differences::MOST_SHOWN;
 use crate::listed::FirstSolutions;
 use crate::page::Page;
+use crate::shifted_ints::{shift_for_row, write_shift};
 use crate::text::Subject;
 use std::alloc::{AllocError, Global};
 use vipr_cert::Problem;
@@ -17,10 +18,12 @@ pub(crate) enum RowFault {
     NotWhole(u32, Frac),
     /// A variable isn't an integer one, and a value of it in a listed solution that isn't whole.
     NotInteger(u32, Option<Frac>),
+    /// All variables are integer ones if each index after `INT` is so much more, modulo 2^32.
+    Shifted(u32),
 }
 
 /// What keeps a row from being whole: coefficients that aren't, and variables that aren't integer
-/// ones.
+/// ones. If a shift of INT would do for these, it comes first.
 pub(crate) fn row_faults(
     subject: Subject<'_>,
     ints: &Ints,
@@ -40,6 +43,10 @@ fn faults_beside(
     solutions: &FirstSolutions,
 ) -> Result<Vec<RowFault>, AllocError> {
     let mut faults = Vec::new(alloc);
+    let are_integer = row.entries().iter().all(|entry| ints.contains(entry.0));
+    if let (false, Some(by)) = (are_integer, shift_for_row(ints, row)) {
+        faults.push(RowFault::Shifted(by))?;
+    }
     for entry in row.entries() {
         let (variable, coefficient) = *entry;
         if !coefficient.is_whole() {
@@ -84,8 +91,21 @@ pub(crate) fn write_faults(page: &mut Page, problem: &Problem, faults: &[RowFaul
     if has_none {
         page.put("  = help: INT lists no variable: is it left out?\n");
     }
+    let faults = match faults {
+        [RowFault::Shifted(by), others @ ..] => {
+            write_shift(
+                page,
+                problem,
+                *by,
+                "all variables of this row are integer ones",
+            );
+            others
+        }
+        faults => faults,
+    };
     for fault in &faults[..faults.len().min(MOST_SHOWN)] {
         match *fault {
+            RowFault::Shifted(_) => {}
             RowFault::NotWhole(index, value) => {
                 let name = VariableName(problem, index);
                 write!(page, "    the coefficient {value} of {name} is not whole\n");

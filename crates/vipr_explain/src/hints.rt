@@ -1,17 +1,20 @@
 //! Likely mistakes behind a fault of a text, and what to write instead: by the cause, by what is
 //! wanted, what the token looks like, and its bytes. The first hint that fits is printed.
 
+use crate::counted::{ask_about_items, ask_about_pairs};
+use crate::foreign::ask_about_foreign;
 use crate::glued::{ask_about_mixed, ask_about_space};
 use crate::lines::ask_about_lines;
 use crate::meant::ask_whether_meant;
+use crate::misplaced::{ask_about_exchange, ask_about_place};
 use crate::page::Page;
 use crate::stranger::StrangeBytes;
 use crate::syntax::TextFault;
 use crate::token::Look::*;
-use crate::token::{DIGITS, Look, are_all, is_any, is_spelled, keyword_of, parted};
+use crate::token::{DIGITS, Look, are_all, is_any, is_comment, is_spelled, keyword_of, parted};
 use crate::wanted::Section::*;
 use crate::wanted::Wanted::*;
-use crate::wanted::{Section, TextProgress, is_word};
+use crate::wanted::{Section, TextProgress, count_of, is_word};
 use vipr_check::cause::*;
 use vipr_frac::Frac;
 
@@ -23,10 +26,19 @@ pub(crate) fn write_hint(page: &mut Page, cause: u8, fault: &TextFault<'_>) {
     if ask_about_lines(page, cause, fault) {
         return;
     }
+    if ask_about_exchange(page, cause, fault) {
+        return;
+    }
     // A keyword that was read as a name is first: the fault is in front of it, whatever the cause.
-    if let Some((counted, name)) = keyword_as_name(fault) {
-        write!(page, "`{name}` was read as a name: is the count ");
-        write!(page, "after `{counted}`, {items}, too large, ");
+    if let Some((counted, name, before)) = keyword_as_name(fault) {
+        let plural = if before == 1 { "" } else { "s" };
+        let (item, _) = counted.words();
+        let keyword = counted.keyword();
+        write!(
+            page,
+            "`{name}` was read as a name, and {before} {item}{plural} before it: "
+        );
+        write!(page, "is the count after `{keyword}`, {items}, too large, ");
         write!(page, "or is something missing in front of `{name}`?");
         return;
     }
@@ -39,9 +51,13 @@ pub(crate) fn write_hint(page: &mut Page, cause: u8, fault: &TextFault<'_>) {
     let found = keyword_of(fault.word).unwrap_or("");
     let is_begun = !matches!(progress.section, Section::Version);
     if !matches!(cause, TRUNCATED | TOKEN_TOO_LONG)
-        && (ask_about_mixed(page, fault)
+        && (ask_about_foreign(page, fault)
+            || ask_about_mixed(page, fault)
             || ask_about_space(page, fault)
-            || ask_whether_meant(page, progress, fault.word))
+            || ask_whether_meant(page, progress, fault.word)
+            || ask_about_pairs(page, fault)
+            || ask_about_items(page, cause, fault)
+            || ask_about_place(page, cause, fault))
     {
         return;
     }
@@ -62,10 +78,18 @@ pub(crate) fn write_hint(page: &mut Page, cause: u8, fault: &TextFault<'_>) {
         }
         (WRONG_KEYWORD, Heading) => write_missing(page, progress.section, found),
         (BAD_INDEX, Heading) if matches!(progress.wanted, IntegerIndex) => {
-            write!(page, "`{found}` is the keyword of a section: ");
+            let before = progress.item;
+            let indices = if before == 1 { "index" } else { "indices" };
+            write!(
+                page,
+                "`{found}` is the keyword of a section, after {before} {indices}: "
+            );
             write!(page, "is the count after `INT`, {items}, too large?");
         }
-        (BAD_INDEX, Number) if are_all(fault.word, DIGITS) => write_last_index(page, progress),
+        (BAD_INDEX, Number) if are_all(fault.word, DIGITS) => {
+            write_last_index(page, progress);
+            write_first_integer(page, fault);
+        }
         (BAD_NUMBER, Decimal(fraction)) => {
             write!(page, "decimals are not in the format: write {fraction}");
             if places_of(fault.word) >= MANY_PLACES {
@@ -102,13 +126,18 @@ fn split_fraction<'a>(fault: &TextFault<'a>) -> Option<(&'a [u8], &'a [u8])> {
     (are_parts && are_short && !size.is_empty() && !below.is_empty()).then_some((above, below))
 }
 
-// The keyword of a section whose count is too large, and the next one, which was read as a name.
-fn keyword_as_name(fault: &TextFault<'_>) -> Option<(&'static str, &'static str)> {
+// The section whose count is too large, the next keyword, which was read as a name, and how many
+// items of the section were read before it.
+fn keyword_as_name(fault: &TextFault<'_>) -> Option<(Section, &'static str, u32)> {
     let (found, name) = (&fault.found, fault.name);
-    match (found.progress.section, found.progress.wanted) {
-        (Integers, Keyword) if found.has_name_int => Some(("VAR", "INT")),
-        (Constraints, Sense) if is_word(name, "RTP") => Some(("CON", "RTP")),
-        (Solutions, _) | (Derivations, Keyword) if is_word(name, "DER") => Some(("SOL", "DER")),
+    let progress = &found.progress;
+    match (progress.section, progress.wanted) {
+        (Integers, Keyword) => Some((Variables, "INT", found.name_int?)),
+        (Constraints, Sense) if is_word(name, "RTP") => Some((Constraints, "RTP", progress.item)),
+        (Solutions, _) if is_word(name, "DER") => Some((Solutions, "DER", progress.item)),
+        (Derivations, Keyword) if is_word(name, "DER") => {
+            Some((Solutions, "DER", progress.item.saturating_sub(1)))
+        }
         _ => None,
     }
 }
@@ -168,10 +197,20 @@ fn write_last_index(page: &mut Page, progress: &TextProgress) {
     }
 }
 
+// Asks whether INT counts variables from 1, if no index is 0, and this one is the first that is too
+// large.
+fn write_first_integer(page: &mut Page, fault: &TextFault<'_>) {
+    let found = &fault.found;
+    let is_next = count_of(fault.word) == found.progress.variables;
+    if matches!(found.progress.wanted, IntegerIndex) && is_next && !found.has_first_integer {
+        page.put(". Does INT count variables from 1? Then each of its indices is 1 too large");
+    }
+}
+
 // The hint without a value, by the cause.
 fn hint(cause: u8, fault: &TextFault<'_>, look: Look) -> &'static str {
     match cause {
-        WRONG_KEYWORD => keyword_hint(fault.found.progress.section, fault.word),
+        WRONG_KEYWORD => keyword_hint(fault.found.progress.section, fault),
         TRUNCATED => match (fault.found.progress.wanted, fault.found.progress.section) {
             (Keyword, _) if fault.text.is_empty() => "the text is empty: is this another file?",
             (Keyword, _) if fault.text.contains(&b'%') => "nothing is in the text but white space \
@@ -206,8 +245,8 @@ fn hint(cause: u8, fault: &TextFault<'_>, look: Look) -> &'static str {
             `asm` for an assumption, `sol` for a cutoff",
         TOKEN_TOO_LONG => "a token may have 65,535 bytes at most",
         TRAILING_TEXT => match fault.word {
-            b"VER" | [b'%', ..] => "a file is one certificate, without comments after `VER`: \
-                remove all from here on",
+            word if is_word(word, "VER") || is_comment(word) => "a file is one certificate, \
+                without comments after `VER`: remove all from here on",
             _ => "make the count after `DER` larger, or remove all from here on",
         },
         _ => part_hint(cause, fault, look),
@@ -215,10 +254,12 @@ fn hint(cause: u8, fault: &TextFault<'_>, look: Look) -> &'static str {
 }
 
 // The keyword of a section is missing.
-fn keyword_hint(section: Section, word: &[u8]) -> &'static str {
+fn keyword_hint(section: Section, fault: &TextFault<'_>) -> &'static str {
+    let word = fault.word;
     match section {
-        Section::Version => start_hint(word),
-        _ if is_comment(word) => "remove the comment: comments may only be before `VER`",
+        Section::Version => start_hint(fault),
+        _ if is_comment(word) =>
+            "is this a comment? Comments may only be before `VER`, and begin with `%`",
         Integers => "is the count after `VAR` right, or is a space in a name? Names alone are \
             after it, and no types or bounds",
         Objective if are_all(word, DIGITS) =>
@@ -234,11 +275,6 @@ fn keyword_hint(section: Section, word: &[u8]) -> &'static str {
     }
 }
 
-// Whether a token looks like the begin of a comment.
-fn is_comment(word: &[u8]) -> bool {
-    matches!(word, [b'%' | b'#', ..])
-}
-
 // What the first token of other files begins with.
 #[rattlefmt::skip]
 const STARTS: [(&[u8], &str); 6] = [
@@ -251,7 +287,8 @@ const STARTS: [(&[u8], &str); 6] = [
 ];
 
 // The first token isn't `VER`.
-fn start_hint(word: &[u8]) -> &'static str {
+fn start_hint(fault: &TextFault<'_>) -> &'static str {
+    let word = fault.word;
     for start in &STARTS {
         if word.starts_with(start.0) {
             return start.1;
@@ -262,6 +299,14 @@ fn start_hint(word: &[u8]) -> &'static str {
             "this looks like UTF-16: save the file as ASCII or as UTF-8 without a byte order mark",
         [b'#', ..] | [b'/', b'/' | b'*', ..] => "a comment begins with `%`",
         [b'{' | b'[', ..] => "this looks like JSON, and not like a certificate",
+        [b'(', ..] => "this looks like SMT-LIB, and not like a certificate",
+        _ if is_word(word, "p") || are_all(word, b"-0123456789") =>
+            "this looks like a file of a SAT solver (DIMACS, DRAT or LRAT), and not like a certificate",
+        _ if is_word(word, "pseudo-Boolean") || is_word(fault.after, "#variable=") =>
+            "this looks like a pseudo-Boolean problem or proof, and not like a certificate",
+        _ if is_any(word, &[b"solution", b"objective"]) =>
+            "this looks like a file of a solution, and not like a certificate",
+        [b'\\', b'd' | b'b' | b's', ..] => "this looks like TeX, and not like a certificate",
         _ if word.starts_with(b"*") || is_any(word, &[b"NAME", b"ROWS"]) =>
             "this looks like an MPS file, \
             which has the problem alone: a certificate has the claim and its proof, too",

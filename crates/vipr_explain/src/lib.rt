@@ -15,13 +15,17 @@ macro_rules! or_drop {
 }
 
 mod algebra;
+mod by_name;
 mod cases;
 mod changes;
+mod counted;
 mod decimal;
 mod differences;
+mod doubles;
 mod doubts;
 mod excerpt;
 mod faults;
+mod foreign;
 mod glued;
 mod goal;
 mod hints;
@@ -34,6 +38,8 @@ mod lines;
 mod listed;
 mod marks;
 mod meant;
+mod mends;
+mod misplaced;
 mod near;
 mod order;
 mod page;
@@ -41,6 +47,7 @@ mod past;
 mod reason;
 mod rounded;
 mod scaled;
+mod shifted_ints;
 mod shown;
 mod sketch;
 mod slips;

@@ -7,7 +7,7 @@ use crate::marks::ItemPlace;
 use crate::page::Page;
 use crate::syntax::TextFault;
 use crate::text::Span;
-use crate::token::{are_all, is_any, parted};
+use crate::token::{are_all, is_any, is_comment, parted};
 use crate::wanted::Section::*;
 use crate::wanted::Wanted::*;
 use crate::wanted::{KEYWORDS, Section, is_word};
@@ -136,7 +136,10 @@ pub(crate) fn ask_about_lines(page: &mut Page, cause: u8, fault: &TextFault<'_>)
     }
     let found = LinesBefore::find(fault.text, fault.found.word);
     if let Some(line) = found.conflict {
-        write!(page, "line {line} looks like a mark of a merge conflict: ");
+        write!(
+            page,
+            "line {line} looks like a conflict marker of a merge: "
+        );
         page.put("were two versions of the file put into one?");
         return true;
     }
@@ -144,7 +147,7 @@ pub(crate) fn ask_about_lines(page: &mut Page, cause: u8, fault: &TextFault<'_>)
         write!(page, "mail breaks a long line with `=` at its end, ");
         write!(
             page,
-            "as line {line}: was the file sent as the text of a mail?"
+            "as in line {line}: was the file sent as the text of a mail?"
         );
         return true;
     }
@@ -328,10 +331,6 @@ fn looks_like_output(fault: &TextFault<'_>, before: usize) -> bool {
     let least = if before == 0 { 3 } else { 2 };
     let is_solution = matches!(fault.found.progress.section, Solutions);
     count >= least && !(is_solution && is_number)
-}
-
-fn is_comment(word: &[u8]) -> bool {
-    matches!(word, [b'%' | b'#', ..])
 }
 
 // Whether a token is two letters or more, with or without marks of a sentence round it, and no

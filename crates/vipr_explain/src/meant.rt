@@ -4,6 +4,7 @@
 use crate::page::Page;
 use crate::stranger::StrangeBytes;
 use crate::token::{DIGITS, are_all, is_any, is_spelled, parted};
+use crate::wanted::Section::{Constraints, Derivations};
 use crate::wanted::Wanted::*;
 use crate::wanted::{TextProgress, Wanted, count_of, is_word};
 use vipr_frac::Frac;
@@ -13,7 +14,7 @@ const ROUND: &[u8] = b"\"'`()[]<>=,;:";
 
 /// Words of the format, each with other spellings of it.
 #[rattlefmt::skip]
-const SPELLINGS: [(Wanted, &str, &[&[u8]]); 9] = [
+const SPELLINGS: [(Wanted, &str, &[&[u8]]); 10] = [
     (Direction, "min", &[b"min", b"minimize", b"minimise", b"minimum", b"minimization"]),
     (Direction, "max", &[b"max", b"maximize", b"maximise", b"maximum", b"maximization"]),
     (Claim, "infeas", &[b"infeas", b"infeasible", b"infeasibility"]),
@@ -23,7 +24,13 @@ const SPELLINGS: [(Wanted, &str, &[&[u8]]); 9] = [
     (Reason, "rnd", &[b"round", b"rounded", b"rounding", b"cg", b"chvatal"]),
     (Reason, "uns", &[b"unsplit", b"split", b"join", b"branch"]),
     (Reason, "sol", &[b"solution", b"cutoff", b"obj"]),
+    (RowCount, "OBJ", &[b"obj", b"objective"]),
 ];
+
+// The keywords of the sections.
+#[rattlefmt::skip]
+const KEYWORD_BYTES: [&[u8]; 8] =
+    [b"VER", b"VAR", b"INT", b"OBJ", b"CON", b"RTP", b"SOL", b"DER"];
 
 /// Asks whether a token was meant that is accepted here, if one is likely, and answers whether it
 /// did.
@@ -36,12 +43,18 @@ pub(crate) fn ask_whether_meant(page: &mut Page, progress: &TextProgress, word: 
         return true;
     }
     for (wanted, meant, spellings) in SPELLINGS {
-        if wanted as usize == progress.wanted as usize && is_spelled(token, spellings) {
+        let is_here = wanted as usize == progress.wanted as usize && has_rows(progress, wanted);
+        if is_here && is_spelled(token, spellings) {
             write!(page, "is `{meant}` meant?");
             return true;
         }
     }
     false
+}
+
+// Whether a row may be the objective's here, if that is wanted.
+fn has_rows(progress: &TextProgress, wanted: Wanted) -> bool {
+    !matches!(wanted, RowCount) || matches!(progress.section, Constraints | Derivations)
 }
 
 fn is_bound(wanted: Wanted) -> bool {
@@ -63,6 +76,19 @@ fn bare(word: &[u8]) -> &[u8] {
         .take_while(|byte| ROUND.contains(*byte))
         .count();
     &rest[..rest.len().saturating_sub(end)]
+}
+
+/// Whether a token may be the next one: a name is no keyword.
+pub(crate) fn may_be(progress: &TextProgress, token: &[u8]) -> bool {
+    match progress.wanted {
+        Name => !is_any(token, &KEYWORD_BYTES),
+        OpenBrace => is_word(token, "{"),
+        CloseBrace => is_word(token, "}"),
+        RowCount if matches!(progress.section, Constraints | Derivations) => {
+            is_word(token, "OBJ") || is_accepted(progress, token)
+        }
+        _ => is_accepted(progress, token),
+    }
 }
 
 /// Whether a token has the form that is wanted. A name may be any token.

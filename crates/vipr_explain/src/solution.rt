@@ -2,11 +2,14 @@
 
 use crate::algebra::{Algebra, ShownName, VariableName, sign_of, size_of};
 use crate::decimal::Measured;
+use crate::doubles::meant_by_double;
 use crate::excerpt::{Excerpt, part_of};
 use crate::items::{open_problem, read_solution};
 use crate::marks::{ItemPart, ItemPlace, ItemSort, find_item};
+use crate::mends::{MendedPoint, PointMends};
 use crate::page::Page;
 use crate::past::write_past_in_value;
+use crate::shifted_ints::{shift_for_values, write_shift};
 use crate::shown::write_line;
 use crate::text::{Reread, Subject};
 use crate::wanted::count_of;
@@ -21,6 +24,9 @@ use vipr_read::Solutions;
 /// How many values of a solution are shown.
 const MOST_VALUES: usize = 10;
 
+/// A whole number is near another number if it is off by at most one of so many parts of 1.
+const FAR_PARTS: i128 = 10;
+
 /// A listed solution that is refused: its place with that of the value at fault, if it is one, and
 /// that of the constraint that it breaks.
 #[derive(Drop)]
@@ -33,6 +39,7 @@ pub(crate) struct RefusedSolution<'a> {
     broken: Option<ItemPlace>,
     /// Whether its count of values is 0.
     lists_none: bool,
+    mends: PointMends,
 }
 
 impl<'a> RefusedSolution<'a> {
@@ -45,6 +52,11 @@ impl<'a> RefusedSolution<'a> {
         let broken = broken_place(subject, detail)?;
         let lists_none = lists_no_value(subject, number)?;
         let (problem, solution) = read_solution(subject.alloc, subject.text, number)?;
+        let mends = or_drop!(
+            PointMends::find(subject, &problem, &solution.item, detail),
+            solution,
+            problem
+        );
         let part = part_at_fault(&problem, detail);
         match find_item(subject, ItemSort::Solutions, number, part) {
             Ok(place) => Ok(RefusedSolution {
@@ -55,6 +67,7 @@ impl<'a> RefusedSolution<'a> {
                 place,
                 broken,
                 lists_none,
+                mends,
             }),
             Err(error) => {
                 drop(solution);
@@ -62,6 +75,11 @@ impl<'a> RefusedSolution<'a> {
                 Err(error.into())
             }
         }
+    }
+
+    // Writes the changes with which all constraints hold.
+    fn write_mends(&self, page: &mut Page) {
+        self.mends.write(page, &self.problem, &self.solution.item.0);
     }
 
     /// Writes the page of the solution, which is refused so.
@@ -163,9 +181,20 @@ fn write_not_whole(page: &mut Page, known: &RefusedSolution<'_>, index: u32) {
         page,
         "  {name} (variable {index}) is {value} here, and has to be whole (INT)\n"
     );
-    page.put("  = help: write whole values, or take the variable out of INT");
+    known.write_mends(page);
+    if let Some(by) = shift_for_values(problem.ints(), &known.solution.item.0) {
+        write_shift(
+            page,
+            problem,
+            by,
+            "the values of all integer variables are whole",
+        );
+    }
+    page.put("  = help: write a whole value, or take the variable out of INT");
     if let Some((nearest, gap)) = nearest_whole(value) {
-        write!(page, ": did you mean {nearest}? It is off by {gap}");
+        if gap.numer() <= gap.denom() / FAR_PARTS {
+            write!(page, ". Is {nearest} meant? It is {gap} off");
+        }
     }
     page.put("\n");
 }
@@ -201,7 +230,10 @@ fn write_broken(page: &mut Page, known: &RefusedSolution<'_>, index: u32, left: 
         write!(page, ", off by {gap}");
     }
     page.put("\n");
-    write_solution_help(page, known, constraint, left, gap);
+    if !known.mends.attain() || has_number_as_name(known) {
+        write_solution_help(page, known, constraint, left, gap);
+    }
+    known.write_mends(page);
 }
 
 // Writes what is likely to be wrong with a solution that breaks a constraint, with its left side
@@ -214,7 +246,18 @@ fn write_solution_help(
     gap: Option<Frac>,
 ) {
     page.put("  = help: ");
-    match lost_sign(constraint, &known.solution.item, left) {
+    let solution = &known.solution.item;
+    if let Some((variable, meant)) = double_in(constraint, solution, left) {
+        let present = constraint.row.coefficient(variable);
+        let name = VariableName(&known.problem, variable);
+        write!(
+            page,
+            "with {meant} in place of {present} at {name} this constraint holds: "
+        );
+        page.put("is that a number of floating point? Its denominator is a power of 2\n");
+        return;
+    }
+    match lost_sign(constraint, solution, left) {
         Some((variable, present)) => write_lost_sign(page, &known.problem, variable, present),
         None => {
             page.put(solution_hint(known, constraint, gap));
@@ -230,6 +273,22 @@ fn write_lost_sign(page: &mut Page, problem: &Problem, variable: u32, present: F
     write!(page, "is {meant} meant in place of {present} at {name}? ");
     page.put("Then both sides are the same; ");
     page.put("else change the solution, or leave it out\n");
+}
+
+// The first variable whose coefficient is a number of floating point, with the fraction near it, if
+// the constraint holds with that.
+fn double_in(constraint: &Constraint, solution: &Solution, left: Frac) -> Option<(u32, Frac)> {
+    for entry in constraint.row.entries() {
+        let (variable, present) = *entry;
+        if let Some(meant) = meant_by_double(present) {
+            let value = solution.0.coefficient(variable);
+            let gain = meant.add(present.neg()).ok()?.mul(value).ok()?;
+            if compares(constraint.sense, left.add(gain).ok()?, constraint.rhs) {
+                return Some((variable, meant));
+            }
+        }
+    }
+    None
 }
 
 // The one variable, with its coefficient, at which the other sign makes both sides the same.
@@ -263,7 +322,7 @@ fn solution_hint(
         return "no solution meets this constraint: change it, or take it out";
     }
     let values = &known.solution.item.0;
-    let is_number = Frac::parse(known.solution.name.as_bytes()).is_ok();
+    let is_number = has_number_as_name(known);
     match gap {
         _ if known.lists_none && !is_number => {
             "the solution lists no value, so each variable is 0: is its count right?"
@@ -286,6 +345,11 @@ fn solution_hint(
         _ if is_number => "its name is a number: is the name missing?",
         _ => "change the solution, or leave it out; a variable that it doesn't list is 0",
     }
+}
+
+// Whether the name of a solution is a number, as if the name were left out.
+fn has_number_as_name(known: &RefusedSolution<'_>) -> bool {
+    Frac::parse(known.solution.name.as_bytes()).is_ok()
 }
 
 // Whether a value isn't whole.
@@ -329,6 +393,8 @@ pub(crate) struct ListedValues {
     /// Whether the lower bound of the claim is above the upper one.
     is_exchanged: bool,
     sense: Goal,
+    /// The best one, with changes with which it attains the bound that is claimed.
+    mended: Option<MendedPoint>,
 }
 
 impl ListedValues {
@@ -340,6 +406,7 @@ impl ListedValues {
             lists_none: false,
             is_exchanged: is_exchanged(problem.claim()),
             sense: problem.sense(),
+            mended: None,
         };
         let added = known.add_all(subject, &problem, &mut solutions);
         drop(solutions);
@@ -347,6 +414,16 @@ impl ListedValues {
         or_drop!(added, known);
         if let Some(number) = known.number() {
             known.lists_none = or_drop!(lists_no_value(subject, number), known);
+        }
+        Ok(known)
+    }
+
+    /// Reads the listed solutions, none of which attains this bound.
+    pub(crate) fn find_below(subject: Subject<'_>, bound: Frac) -> Reread<ListedValues> {
+        let mut known = ListedValues::find(subject)?;
+        if let Some(number) = known.number() {
+            let mended = or_drop!(MendedPoint::find(subject, number, bound), known);
+            known.mended = Some(mended);
         }
         Ok(known)
     }
@@ -399,6 +476,9 @@ impl ListedValues {
             page.put(
                 "  = help: the lower bound of the claim is above the upper one: are they exchanged?\n",
             );
+        }
+        if let Some(mended) = &self.mended {
+            mended.write(page);
         }
         match &self.best {
             Some((number, name, _)) if self.lists_none => {

@@ -1,11 +1,11 @@
 //! A fault of a text: its place, and what is wanted there.
 
 use crate::algebra::ShownName;
-use crate::excerpt::{Excerpt, part_of};
+use crate::excerpt::{Excerpt, first, part_of};
 use crate::hints::write_hint;
 use crate::page::Page;
 use crate::text::Span;
-use crate::wanted::{Section, TextProgress, Wanted, is_word};
+use crate::wanted::{Section, TextProgress, Wanted, count_of, is_word};
 use crate::wanted_words::write_wanted;
 use crate::words::{TextWord, Words};
 use vipr_check::cause;
@@ -19,10 +19,35 @@ pub(crate) struct FaultToken {
     pub(crate) word: Span,
     /// The token before that one.
     before: Span,
-    /// Whether a variable has the name `INT`.
-    pub(crate) has_name_int: bool,
+    /// The last variable with the name `INT`.
+    pub(crate) name_int: Option<u32>,
+    /// Whether the first variable is an integer one.
+    pub(crate) has_first_integer: bool,
+    /// The last number of pairs, or of entries, and the section and what it is.
+    pub(crate) count: Span,
+    pub(crate) counted: (Section, Wanted),
+    /// The begin of the line of `word`, and that of the line before it, if both have tokens.
+    pub(crate) line: LineBegin,
+    pub(crate) line_before: LineBegin,
     /// Whether the text ends before the token. Then `word` is the last one.
     is_end: bool,
+}
+
+/// The first token of a line: its offset, and how far the text was read before it.
+#[derive(Clone, Copy)]
+pub(crate) struct LineBegin {
+    pub(crate) offset: u64,
+    pub(crate) progress: TextProgress,
+}
+
+impl LineBegin {
+    // The first token of a text.
+    fn start() -> LineBegin {
+        LineBegin {
+            offset: 0,
+            progress: TextProgress::start(),
+        }
+    }
 }
 
 impl FaultToken {
@@ -34,15 +59,27 @@ impl FaultToken {
             name: nothing,
             word: nothing,
             before: nothing,
-            has_name_int: false,
+            name_int: None,
+            has_first_integer: false,
+            count: nothing,
+            counted: (Section::Version, Wanted::Keyword),
+            line: LineBegin::start(),
+            line_before: LineBegin::start(),
             is_end: true,
         }
     }
 
     // Takes the next token, which is passed if it is before this byte.
-    fn take(&mut self, word: TextWord<'_>, offset: u64) {
+    fn take(&mut self, text: &[u8], word: TextWord<'_>, offset: u64) {
         self.before = self.word;
         self.word = word.span;
+        if begins_line(text, word.span.offset) {
+            self.line_before = self.line;
+            self.line = LineBegin {
+                offset: word.span.offset,
+                progress: self.progress,
+            };
+        }
         if word.span.offset >= offset {
             self.is_end = false;
             return;
@@ -50,8 +87,15 @@ impl FaultToken {
         if let Wanted::Name = self.progress.wanted {
             self.name = self.word;
             if is_word(word.bytes, "INT") && matches!(self.progress.section, Section::Variables) {
-                self.has_name_int = true;
+                self.name_int = Some(self.progress.item);
             }
+        }
+        if matches!(self.progress.wanted, Wanted::RowCount | Wanted::EntryCount) {
+            self.count = self.word;
+            self.counted = (self.progress.section, self.progress.wanted);
+        }
+        if matches!(self.progress.wanted, Wanted::IntegerIndex) && count_of(word.bytes) == 0 {
+            self.has_first_integer = true;
         }
         self.progress.pass(word.bytes);
     }
@@ -81,7 +125,7 @@ impl<'a> TextFault<'a> {
             let Some(word) = words.next() else {
                 break;
             };
-            found.take(word, offset);
+            found.take(text, word, offset);
         }
         TextFault {
             found,
@@ -132,6 +176,18 @@ impl<'a> TextFault<'a> {
         write_hint(page, cause, self);
         page.put("\n");
     }
+}
+
+/// Whether a line feed is between a token and the one before it, or nothing is before it.
+pub(crate) fn begins_line(text: &[u8], offset: u64) -> bool {
+    let front = first(text, offset);
+    let blanks = front
+        .iter()
+        .rev()
+        .take_while(|byte| is_blank(**byte) && **byte != b'\n')
+        .count();
+    let end = front.len().saturating_sub(blanks);
+    matches!(&front[..end], [] | [.., b'\n'])
 }
 
 // The token after a place, empty if there is none.

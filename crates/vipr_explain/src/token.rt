@@ -68,6 +68,14 @@ pub(crate) fn parted<'a>(word: &'a [u8], at: &[u8]) -> Option<(&'a [u8], &'a [u8
     None
 }
 
+/// Whether a token looks like the begin of a comment, by the signs of some language.
+pub(crate) fn is_comment(word: &[u8]) -> bool {
+    matches!(
+        word,
+        [b'%' | b'#', ..] | [b'/', b'/' | b'*', ..] | [b';' | b'!'] | [b'-', b'-']
+    )
+}
+
 /// Whether each byte is one of these.
 pub(crate) fn are_all(word: &[u8], allowed: &[u8]) -> bool {
     for byte in word {

@@ -209,8 +209,8 @@ impl TextProgress {
         }
     }
 
-    // Begins the item of this position, if there is one; else the section ends.
-    fn begin_item(&mut self, item: u32) {
+    /// Begins the item of this position, if there is one; else the section ends.
+    pub(crate) fn begin_item(&mut self, item: u32) {
         self.item = item;
         match self.section {
             _ if item >= self.items => self.end_section(),

@@ -101,7 +101,7 @@ fn find<'a>(
             Ok(Findings::NoProof(UnprovedClaim::find(subject)?, place))
         }
         (Place::End, Detail::NoPrimal(bound)) => {
-            let values = ListedValues::find(subject)?;
+            let values = ListedValues::find_below(subject, *bound)?;
             match claim_place(subject, values.part()) {
                 Ok(place) => Ok(Findings::NoPrimal(values, *bound, place)),
                 Err(error) => {
