@@ -451,6 +451,28 @@ def long_texts(n):
     yield "a count that is far too small", text("infeas", con=["c G 0 OBJ"] * n).replace(
         f"CON {n}", "CON 1"
     )
+    yield "a sum that each other order of the constraints gives the stated row", text(
+        "range -inf inf",
+        con=["z G 0 0"] + ["c G 0 1 0 1"] * n,
+        variables=1,
+        der=["d G 5 1 0 2 { lin 2 0 1 1 1 } -1"],
+    )
+    rows = [
+        " ".join(f"{index} {1 + (index + 1) * (at + 1) ** 2 % 97}" for index in range(n // 8))
+        for at in range(12)
+    ]
+    yield "a sum whose multipliers are solved for", text(
+        "range -inf inf",
+        con=[f"c G 0 {n // 8} {row}" for row in rows],
+        variables=n // 8,
+        der=[f"d G 5 {n // 8} {rows[0]} {{ lin 12 {' '.join(f'{at} 1' for at in range(12))} }} -1"],
+    )
+    yield "a sum that lacks eight variables with many bounds", text(
+        "range -inf inf",
+        con=[f"c G 0 1 {index % 8} 1" for index in range(n)],
+        variables=8,
+        der=[f"d G 5 8 {' '.join(f'{index} 1' for index in range(8))} {{ lin 0 }} -1"],
+    )
     sets = overlapping_sets(n)
     last = len(sets) - 1
     yield "the nearest constraints rest on overlapping sets", text(

@@ -208,7 +208,7 @@ MISTAKES = [
         "one_machine",
         "s2_up L 2",
         "s2_up L 3",
-        ".vipr:24:7\n",
+        ".vipr:24:13\n",
         "right-hand side: computed 0, stated 1, which says 1 too much",
     ),
     # forgot the bound x3 >= 0 in the sum (hidden x >= 0)
@@ -310,7 +310,7 @@ MISTAKES = [
         "two_levels",
         "c2 G 1/2",
         "c2 G 0",
-        ".vipr:18:6\n",
+        ".vipr:18:12\n",
         "right-hand side: computed 0, stated 1, which says 1 too much",
     ),
     # y not integer
@@ -1439,6 +1439,219 @@ TRUE = [
         ["  = help: with every index one more the derivation follows (indices count from 0"],
         ["~"],
     ),
+    # multipliers that are all other ones, with what they have in common
+    *[
+        (
+            [],
+            f"VER 1.0 VAR 4 x y z w INT 0 OBJ min 0 CON {rows} RTP range -inf inf SOL 0 DER 1 {step} -1",
+            [f"with `lin {parts}` the derivation follows{question}\n"],
+            [" ~ "],
+        )
+        for rows, step, parts, question in (
+            (
+                "4 0 a E 1 2 0 1 1 1 b E 0 2 0 1 1 -1 c E 1 1 3 1 e G 0 1 2 1",
+                "d G 2 3 0 2 2 1 3 1 { lin 4 0 -1 1 -1 2 -1 3 1 }",
+                "4 0 1 1 1 2 1 3 1",
+                ": do the multipliers of all equations have the other sign?",
+            ),
+            (
+                "3 0 a G 1 2 0 1 1 1 b G 0 2 0 1 1 -1 c G 0 1 2 1",
+                "d G 1 2 0 2 2 1 { lin 3 0 -1 1 -1 2 1 }",
+                "3 0 1 1 1 2 1",
+                ": do these multipliers have the other sign?",
+            ),
+            (
+                "2 0 a G 2 1 0 2 b G 3 1 1 3",
+                "d G 2 2 0 1 1 1 { lin 2 0 2 1 3 }",
+                "2 0 1/2 1 1/3",
+                ": are fractions written upside down?",
+            ),
+            (
+                "2 0 a G 2 1 0 2 b G 3 1 1 3",
+                "d G 2 2 0 1 1 1 { lin 2 0 0 1 0 }",
+                "2 0 1/2 1 1/3",
+                ": are the multipliers rounded, or cut to whole numbers or fewer digits?",
+            ),
+            (
+                "2 0 a G 2 1 0 2 b G 3 1 1 3",
+                "d G 2 2 0 1 1 1 { lin 2 0 5 1 7 }",
+                "2 0 1/2 1 1/3",
+                "",
+            ),
+            # what rounded multipliers of a contradiction are multiples of
+            (
+                "2 0 a G 2 1 0 2 b L 0 1 0 3",
+                "d G 1 0 { lin 2 0 299/100 1 -199/100 }",
+                "2 0 3 1 -2",
+                ": are the multipliers rounded, or cut to whole numbers or fewer digits?",
+            ),
+        )
+    ],
+    # the problem's constraints are counted in another order
+    *[
+        (
+            [],
+            "VER 1.0 VAR 4 x y z w INT 0 OBJ min 0 CON 4 2 a G 1 1 0 1 b G 2 1 1 1 c G 3 1 2 1 e G 4 1 3 1 "
+            f"RTP range -inf inf SOL 0 DER 1 d G {step} }} -1",
+            [f"with `lin {parts}` the derivation follows: {question}?\n"],
+            [],
+        )
+        for step, parts, question in (
+            (
+                "7 2 0 1 2 2 { lin 2 2 1 0 2",
+                "2 0 1 2 2",
+                "are the first 2 constraints counted after the other 2",
+            ),
+            (
+                "5 2 0 1 1 2 { lin 2 3 1 0 2",
+                "2 0 1 1 2",
+                "is the first constraint counted after the other 3",
+            ),
+        )
+    ],
+    (
+        [],
+        "VER 1.0 VAR 4 x y z w INT 0 OBJ min 0 CON 3 0 a G 1 2 0 1 2 1 b G 2 2 1 1 3 1 c G 0 0 RTP range -inf inf SOL 0 DER 1 "
+        "d G 5 4 0 1 1 2 2 1 3 2 { lin 2 0 2 1 1 } -1",
+        ["with `lin 2 1 2 0 1` the derivation follows: are [0] and [1] exchanged?"],
+        [],
+    ),
+    (
+        [],
+        "VER 1.0 VAR 3 x y z INT 0 OBJ min 0 CON 3 0 a E 1 1 0 1 b E 2 1 1 1 c G 3 1 2 1 RTP range -inf inf SOL 0 DER 1 "
+        "d G 6 3 0 1 1 1 2 1 { lin 3 0 1 2 1 4 1 } -1",
+        ["with `lin 3 0 1 1 1 2 1` the derivation follows: is each of the 2 equations of the"],
+        [],
+    ),
+    (
+        [],
+        "VER 1.0 VAR 16 "
+        + " ".join(f"x{index}" for index in range(16))
+        + " INT 0 OBJ min 0 CON 14 0 c0 G 0 2 0 1 14 1 c1 G 1 2 1 1 15 1 "
+        + " ".join(f"c{index} G {index} 1 {index} 1" for index in range(2, 14))
+        + " RTP range -inf inf SOL 0 DER 1 d G 92 16 "
+        + " ".join(f"{index} {1 + (index in (1, 15))}" for index in range(16))
+        + " { lin 14 0 2 "
+        + " ".join(f"{index} 1" for index in range(1, 14))
+        + " } -1",
+        ["10 1 11 1 ..` the derivation follows: are [0] and [1] exchanged?"],
+        [],
+    ),
+    # several lines are left out, or are too many
+    *[
+        (
+            [],
+            "VER 1.0 VAR 5 x y z v w INT 0 OBJ min 0 CON 5 0 a G 1 1 0 1 b G 2 1 1 1 c G 3 1 2 1 e G 4 1 3 1 f G 5 1 4 1 "
+            f"RTP range -inf inf SOL 0 DER 1 d G {step} }} -1",
+            [f"with every index from {words}"],
+            [],
+        )
+        for step, words in (
+            (
+                "6 3 0 1 1 1 2 1 { lin 3 0 1 3 1 4 1",
+                "3 on 2 less the derivation follows: are 2 lines left out before [1] b  (line 1)?",
+            ),
+            (
+                "10 3 0 1 3 1 4 1 { lin 3 0 1 1 1 2 1",
+                "1 on 2 more the derivation follows: are there 2 lines too many before [3] e",
+            ),
+        )
+    ],
+    # bounds of variables are left out
+    (
+        [],
+        "VER 1.0 VAR 4 x y z w INT 0 OBJ min 0 CON 4 0 a G 3 4 0 1 1 1 2 1 3 1 b L 0 1 2 1 c L 0 1 3 1 e L 2 1 3 1 "
+        "RTP range -inf inf SOL 0 DER 1 d G 3 2 0 1 1 1 { lin 1 0 1 } -1",
+        [
+            "with 2 more entries, -1 x [1] b, -1 x [2] c, the derivation follows: are bounds of variables left out?"
+        ],
+        [],
+    ),
+    # a right-hand side or a sense above is another one
+    *[
+        (
+            [],
+            f"VER 1.0 VAR 2 x y INT 0 OBJ min 0 CON 2 0 {rows} RTP range -inf inf SOL 0 DER 1 d {step} }} -1",
+            [f"  = help: with {words} the derivation follows: "],
+            [],
+        )
+        for rows, step, words in (
+            (
+                "a G 1 1 0 1 b G 3/2 1 1 1/2",
+                "G 5 2 0 1 1 1 { lin 2 0 1 1 2",
+                "2 in place of 1 in [0] a  (line 1)",
+            ),
+            (
+                f"a G {5 - 2**32} 1 0 1 b G 0 1 1 1",
+                "G 5 1 0 1 { lin 1 0 1",
+                f"5, which is 2^32 more, in place of {5 - 2**32} in [0] a  (line 1)",
+            ),
+            (
+                f"a L {2**32 - 5} 1 0 1 b G 0 1 1 1",
+                "L -5 1 0 1 { lin 1 0 1",
+                f"-5, which is 2^32 less, in place of {2**32 - 5} in [0] a  (line 1)",
+            ),
+            (
+                "a G 1 1 0 1 b L 2 1 1 1",
+                "L 3 2 0 1 1 1 { lin 2 0 1 1 1",
+                "<= in place of >= in [0] a  (line 1)",
+            ),
+            (
+                "a L 1 1 0 1 b G 2 1 1 1",
+                "G 3 2 0 1 1 1 { lin 2 0 1 1 1",
+                ">= in place of <= in [0] a  (line 1)",
+            ),
+        )
+    ],
+    # a contradiction that isn't one has its caret at the reason
+    (
+        [],
+        "VER 1.0 VAR 1 x INT 0 OBJ min 0 CON 2 0 a G 1 1 0 1 b L 1 1 0 1 RTP infeas SOL 0 DER 1 d G 1 0 { lin 2 0 1 1 -1 } -1",
+        ["^^^ this reason", "the rows cancel, and what is left is no contradiction: is a right-hand"],
+        ["this right-hand side"],
+    ),
+    # two assumptions that are no split: the other side of each, another spelling, a third case, and a number that was cut
+    *[
+        (
+            [],
+            f"VER 1.0 VAR 2 x y INT 2 0 1 OBJ min 0 CON 0 0 RTP infeas SOL 0 DER {cases + 1} {steps} "
+            f"u G 0 0 {{ uns 0 0 {cases - 1} {cases - 1} }} -1",
+            words,
+            [],
+        )
+        for cases, steps, words in (
+            (
+                2,
+                "a L 3 1 0 1 { asm } -1 b G 3 1 0 1 { asm } -1",
+                ["x <= 3 and x >= 4 would be a split", "x >= 3 and x <= 2 would be a split"],
+            ),
+            (
+                2,
+                "a L 3 1 0 1 { asm } -1 b G 4 1 1 1 { asm } -1",
+                ["x <= 3 and x >= 4 would be a split", "y >= 4 and y <= 3 would be a split"],
+            ),
+            (
+                2,
+                "a L 3 1 0 1 { asm } -1 b L -4 1 0 -1 { asm } -1",
+                ["with x >= 4 for -x <= -4, which says the same, they are a split"],
+            ),
+            (
+                2,
+                "a L 3/2 1 0 1/2 { asm } -1 b G 4 1 0 1 { asm } -1",
+                ["with x <= 3 for 1/2 x <= 3/2, which says the same, they are a split"],
+            ),
+            (
+                3,
+                "a L 0 1 0 1 { asm } -1 b G 1 1 0 1 { asm } -1 c G 2 1 0 1 { asm } -1",
+                ["[1] is an assumption between them: is it a third case?"],
+            ),
+            (
+                2,
+                "a L -3 1 0 1 { asm } -1 b G -1 1 0 1 { asm } -1",
+                ["is >= -2 meant in place of >= -1? A negative number that is cut"],
+            ),
+        )
+    ],
     # a vector of the objective has nothing in front of it
     (
         [],
@@ -2036,6 +2249,40 @@ UNTRUE = [
             "are digits exchanged? The last derivation that names it is 3, and 1 is written",
         )
     ],
+    *[
+        (
+            "VER 1.0 VAR 2 x y INT 0 OBJ min 0 CON 4 2 a G 2 1 0 2 b G 3 1 1 3 c G 0 1 0 1 e G 0 1 1 1 RTP range -inf inf SOL 0 "
+            "DER 1 d G 2 2 0 1 1 1 { lin 2 0 5 1 7 } -1",
+            sentence,
+        )
+        for sentence in (
+            # another sum, and other questions about the right one
+            "with `lin 2 0 1/2 1 1/4` the derivation follows",
+            "with `lin 2 0 1/2 1 1/3` the derivation follows: are fractions written upside down?",
+            "with `lin 2 0 1/2 1 1/3` the derivation follows: do these multipliers have the other sign?",
+            "with `lin 2 0 1/2 1 1/3` the derivation follows: do the multipliers of all equations have the other sign?",
+            "with `lin 2 0 1/2 1 1/3` the derivation follows: are the multipliers rounded, or cut to whole numbers or fewer digits?",
+            "with `lin 2 2 5 3 7` the derivation follows: are the first 2 constraints counted after the other 2?",
+            "with `lin 2 1 5 0 7` the derivation follows: are [0] and [1] exchanged?",
+            "with `lin 2 0 1/2 1 1/3` the derivation follows: is each of the 2 equations of the problem counted twice?",
+            "with 2 more entries, -8 x [2] c, -20 x [3] e, the derivation follows: are bounds of variables left out? Variables are free",
+            "with 4 in place of 2 in [0] a  (line 1) the derivation follows: is that meant?",
+            "with <= in place of >= in [0] a  (line 1) the derivation follows: is that meant?",
+            "the rows cancel, and what is left is no contradiction: is a right-hand side below wrong, or is this case not ruled out?",
+        )
+    ],
+    *[
+        (
+            "VER 1.0 VAR 2 x y INT 2 0 1 OBJ min 0 CON 0 0 RTP infeas SOL 0 DER 4 a L 3 1 0 1 { asm } -1 c G 4 1 1 1 { asm } -1 "
+            "b G 5 1 0 1 { asm } -1 u G 0 0 { uns 0 0 2 2 } -1",
+            sentence,
+        )
+        for sentence in (
+            "[1] is an assumption between them: is it a third case? A `uns` joins two, and another one those and the third",
+            "with x <= 4 for x <= 3, which says the same, they are a split",
+            "is >= 4 meant in place of >= 5? A negative number that is cut to a whole one is rounded up",
+        )
+    ],
     (
         FRONT + "1 s 1 0 0 DER 0",
         "the solution lists no value, so each variable is 0: is its count right?",
@@ -2226,7 +2473,7 @@ MORE = [
         + " RTP infeas SOL 0 DER 1 d G 1 0 { lin 30 "
         + " ".join(f"{index} 1" for index in range(30))
         + " } -1",
-        "or another multiplier, another constraint, or another number",
+        "no change of one entry that was tried makes it follow",
         4_097,
     ),
     *[
@@ -2301,6 +2548,11 @@ LEAST_OF_SLIPS = {
     "a scaled row": 0.8,
     "every sign": 0.8,
     "l and i exchanged": 0.8,
+    "two lines left out": 0.6,
+    "bounds counted first": 0.6,
+    "multipliers cut to whole numbers": 0.6,
+    "multipliers of one digit": 0.5,
+    "fractions upside down": 0.6,
 }
 CHECKS = Checks("long")
 check = CHECKS.check
@@ -2578,7 +2830,7 @@ def changes_suffice():
         )
 
 
-def slipped(words, first, given, place):
+def slipped(words, first, given, bounds, place):
     """The reason of a derivation with each slip of a whole file: the indices of its constraints, or its multipliers, are changed."""
     is_sum, end = words[first - 2] != "uns", len(words) - 2
     places = range(first, end, 2) if is_sum else range(first - 1, end)
@@ -2595,6 +2847,8 @@ def slipped(words, first, given, place):
         "derivations from one more": lambda index: index + (index >= given),
         "a line left out": lambda index: index + (index >= place),
         "a line too many": lambda index: index - (index > place),
+        "two lines left out": lambda index: index + 2 * (index >= place),
+        "bounds counted first": lambda index: (index + bounds) % given if index < given else index,
     }
     for kind, change in indices.items():
         yield kind, changed_by(change, 0)
@@ -2603,6 +2857,9 @@ def slipped(words, first, given, place):
     if is_sum:
         yield "a scaled row", changed_by(lambda multiplier: 5 * multiplier, 1)
         yield "every sign", changed_by(lambda multiplier: -multiplier, 1)
+        yield "multipliers cut to whole numbers", changed_by(int, 1)
+        yield "multipliers of one digit", changed_by(lambda one: Fraction(int(10 * one), 10), 1)
+        yield "fractions upside down", changed_by(lambda one: 1 / one if one else one, 1)
     else:
         i1, l1, i2, l2 = words[first - 1 : first + 3]
         yield "l and i exchanged", [*words[: first - 1], l1, i1, l2, i2, *words[first + 3 :]]
@@ -2613,14 +2870,16 @@ def slips_are_named():
     refused, named = collections.Counter(), collections.Counter()
     for path in sorted(PROBLEMS.glob("*.vipr")):
         lines = [line.split() for line in run([PROGRAM, "show", path]).stdout.decode().splitlines()]
-        given = int(next(words for words in lines if words[0] == "CON")[1])
+        given, bounds = map(int, next(words for words in lines if words[0] == "CON")[1:3])
         reasons = [at for at, words in enumerate(lines) if "{" in words]
         kinds = collections.defaultdict(dict)
         for at in reasons:
             words = lines[at]
             first = words.index("{") + 3
             if words[first - 2] in ("lin", "rnd", "uns"):
-                for kind, other in slipped(words, first, given, given + len(reasons) // 2):
+                for kind, other in slipped(
+                    words, first, given, bounds, given + len(reasons) // 2
+                ):
                     kinds[kind][at] = other
         for kind, others in kinds.items():
             text = "\n".join(

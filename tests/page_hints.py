@@ -2,7 +2,7 @@
 import re
 from fractions import Fraction
 
-from page_facts import KEYWORDS, difference
+from page_facts import KEYWORDS, difference, rules
 
 
 def role_is(*wanted_ones, section=None):
@@ -450,7 +450,12 @@ HINTS = {
         facts
     )
     and is_negated(facts),
-    "is what was computed meant, or another multiplier, another constraint, or another number in one of them?": is_entries,
+    "the rows cancel, and what is left is no contradiction: is a right-hand side below wrong, or is this case not ruled out?": lambda facts: is_entries(
+        facts
+    )
+    and not facts.differences()
+    and rules.is_absurd(facts.written("stated")),
+    "no change of one entry that was tried makes it follow: is what was computed meant, or is a number below wrong?": is_entries,
     # the claim
     "the text lists a solution that is feasible, so `infeas` is false: claim `range` and two bounds": lambda facts: facts.refused
     == 51

@@ -76,7 +76,7 @@ class Page:
 
     def is_asked(self):
         """Whether something else is asked before a change of a part is offered: then no change is marked."""
-        return any(self.said[kind] for kind in (*ASKED, "shift_of_all", "factor_of_all"))
+        return any(self.said[kind] for kind in (*ASKED, *OF_ALL))
 
 
 @form(r"error: (\w+): (.*)")
@@ -291,6 +291,8 @@ PARTS = {
 def is_at_fault(facts, kind, part):
     """Whether this part of a derivation is the one at fault, if no change of it is offered."""
     if facts.refused == 38 and not facts.differences():
+        if rules.is_absurd(facts.written("stated")):
+            return kind == "reason"
         computed, stated = facts.written("computed")[1], facts.written("stated")[1]
         return kind == ("right-hand side" if computed in ("E", stated) else "sense")
     if kind == "branch" and "index" in facts.details:
@@ -715,13 +717,7 @@ def source(page, name: str, words: str):
     listed = [
         term for term in re.sub(r" ?\.\.$", "", words).split(", ") if term not in ("", "no entry")
     ]
-    same(
-        "the entries of a coefficient",
-        listed,
-        terms[: len(listed)]
-        if len(listed) == len(terms)
-        else [term for term in terms if term in listed][: len(listed)],
-    )
+    same("the entries of a coefficient", listed, terms[: len(listed)])
     is_cut = words.endswith("..")
     true(is_cut or listed == terms, f"it comes from {terms}")
     true(not is_cut or len(terms) > len(listed), "nothing is left out")
@@ -822,6 +818,65 @@ def split(page, words: str, sign, side, other_sign, other):
         (sign, side, other_sign, other),
         (SIGNS[first[1]], first[2], SIGNS[second[1]], second[2]),
     )
+
+
+def bound_shown(facts, row, text):
+    """The constraint of a row that is shown as this, up to its sense and right-hand side."""
+    sign, side = re.search(rf"(<=|>=|=) ({NUMBER})$", text).groups()
+    constraint = row, {sign: sense for sense, sign in SIGNS.items()}[sign], Fraction(side)
+    same("the constraint", text, algebra(facts, constraint))
+    return constraint
+
+
+@form(r"    (.+) and (.+) would be a split")
+def would_be_split(page, own: str, other: str):
+    facts = page.facts
+    same("the cause", facts.refused, 37)
+    given = [facts.written(label) for label in ("first", "second")]
+    found = [constraint for constraint in given if algebra(facts, constraint) == own]
+    true(found, "it is none of the two")
+    partner = bound_shown(facts, found[0][0], other)
+    true(rules.is_split(found[0], partner, facts.problem.integers), "they are no split")
+
+
+@form(r"  = help: with (.+) for (.+), which says the same, they are a split")
+def respelled(page, meant: str, present: str):
+    facts = page.facts
+    same("the cause", facts.refused, 37)
+    given = [facts.written(label) for label in ("first", "second")]
+    (at,) = [at for at in range(2) if algebra(facts, given[at]) == present]
+    old, other = given[at], given[1 - at]
+    new = bound_shown(facts, other[0], meant)
+    first = min(new[0])
+    factor = Fraction(new[0][first]) / old[0][first]
+    same("the row", new[0], {index: number * factor for index, number in old[0].items()})
+    senses = {"G": "L", "L": "G", "E": "E"} if factor < 0 else {"G": "G", "L": "L", "E": "E"}
+    same("the bound", new[1:], (senses[old[1]], old[2] * factor))
+    true(rules.is_split(new, other, facts.problem.integers), "they are no split")
+
+
+@form(
+    r"  = help: \[(\d+)\] is an assumption between them: is it a third case\? A `uns` joins two, and another one those and the third"
+)
+def third_case(page, index):
+    facts = page.facts
+    given = [facts.written(label) for label in ("first", "second")]
+    row, _, side = facts.plain(index)
+    true(index in facts.checker.assumptions, "it is no assumption")
+    same("the row", [row, row], [other for other, _, _ in given])
+    true(min(other[2] for other in given) < side < max(other[2] for other in given), "it is not")
+
+
+@form(
+    rf"  = help: is >= ({NUMBER}) meant in place of >= ({NUMBER})\? A negative number that is cut to a whole one is rounded up"
+)
+def cut_negative(page, meant, present):
+    facts = page.facts
+    given = sorted((facts.written(label) for label in ("first", "second")), key=lambda one: one[1])
+    (row, sense, side), (other_row, other_sense, low) = given
+    same("the assumptions", (sense, side, other_sense, row), ("G", present, "L", other_row))
+    same("what is meant", (meant, low), (present - 1, present - 2))
+    true(present <= 0, "it is positive")
 
 
 @form(r"  = help: `--profile 2` accepts these")
@@ -957,7 +1012,12 @@ OFFERS = (
     "one_more",
     "shift_of_all",
     "factor_of_all",
+    "other_sum",
+    "more_bounds",
+    "other_bound",
 )
+# those that change all parts of a reason, or add several
+OF_ALL = ("shift_of_all", "factor_of_all", "other_sum", "more_bounds")
 
 
 def offered(page, parts, word=None):
@@ -1058,11 +1118,13 @@ def shift_of_all(page, first, count, way: str, words: str):
         else [(index, multiplier) for index, (_, multiplier) in zip(shifted, facts.parts(own))],
     )
     found = re.fullmatch(
-        rf": is (a line left out|there a line too many) before {LISTED_NAME}\?", words
+        rf": (?:is (?:there )?a line|are (?:there )?(\d+) lines) (left out|too many) before {LISTED_NAME}\?",
+        words,
     )
     if found:
-        index, name, line = int(found[2]), found[3], int(found[4])
-        same("the line", (index, "left" in found[1]), (first + by, by < 0))
+        lines, index, name, line = int(found[1] or 1), int(found[3]), found[4], int(found[5])
+        same("the lines", lines, abs(by))
+        same("the line", (index, "left" in found[2]), (first + by, by < 0))
         constraint_shown(facts, index, name, None, line)
         return
     plural = "" if facts.given == 1 else "s"
@@ -1081,6 +1143,137 @@ def factor_of_all(page, factor):
     parts = facts.parts(facts.own())
     true(len(parts) > 1, "it has one multiplier")
     offered(page, [(index, multiplier * factor) for index, multiplier in parts])
+
+
+def turned(front, given):
+    """The index that is meant if the first constraints, so many, are counted after the others."""
+    return lambda index: (index + front) % given if index < given else index
+
+
+def counted_once(facts):
+    """The index that is meant if each equation of the problem is counted twice."""
+    meant = [
+        index
+        for index in range(facts.given)
+        for _ in range(1 + (facts.constraint(index).sense == "E"))
+    ]
+    more = len(meant) - facts.given
+    return lambda index: meant[index] if index < len(meant) else index - more
+
+
+def exchanged_with(one, other):
+    """The index that is meant if two are exchanged."""
+    return lambda index: {one: other, other: one}.get(index, index)
+
+
+# what is asked if all multipliers are other ones: whether it is so, of an old one and the new one, and whether the constraint is an
+# equation
+RELATIONS = {
+    "do the multipliers of all equations have the other sign": lambda old, new, is_equation: new
+    == (-old if is_equation else old),
+    "do these multipliers have the other sign": lambda old, new, _: new in (old, -old),
+    "are fractions written upside down": lambda old, new, _: new == old or new * old == 1,
+    "are the multipliers rounded, or cut to whole numbers or fewer digits": lambda old, new, _: abs(
+        new - old
+    )
+    < 1,
+}
+
+
+@form(r"  = help: with `(lin|rnd) (\d+) ([-/ \d]*?)( \.\.)?` the derivation follows(?:: (.+)\?)?")
+def other_sum(page, word: str, count, words: str, is_cut: str, question: str):
+    facts = page.facts
+    numbers = words.split()
+    shown_parts = [
+        (int(index), Fraction(multiplier))
+        for index, multiplier in zip(numbers[::2], numbers[1::2])
+    ]
+    parts = facts.parts(facts.own())
+    same("the reason", (word, count), (facts.own().reason, len(parts)))
+    meant = meant_indices(facts, question or "")
+    if meant is None:
+        others = shown_parts
+        true(is_cut is None, "not all multipliers are shown")
+        same("the constraints", [index for index, _ in others], [index for index, _ in parts])
+        test_multipliers(facts, parts, others, question)
+    else:
+        others = [(meant(index), multiplier) for index, multiplier in parts]
+    same("how many are shown", len(shown_parts), min(count, 12))
+    same("the entries", shown_parts, others[: len(shown_parts)])
+    same("whether more are left out", is_cut is not None, count > 12)
+    true(sum(one != other for one, other in zip(parts, others)) > 1, "fewer than two are changed")
+    offered(page, others)
+
+
+def meant_indices(facts, question):
+    """The index that is meant by one, if a question says that the constraints are in another order."""
+    found = re.fullmatch(
+        r"(?:is the first constraint|are the first (\d+) constraints) counted after the other (\d+)",
+        question,
+    )
+    if found:
+        front = int(found[1] or 1)
+        same("the constraints", front + int(found[2]), facts.given)
+        return turned(front, facts.given)
+    found = re.fullmatch(
+        r"is each of the (\d+) equations of the problem counted twice", question
+    )
+    if found:
+        equations = sum(facts.constraint(index).sense == "E" for index in range(facts.given))
+        same("the equations", int(found[1]), equations)
+        return counted_once(facts)
+    found = re.fullmatch(r"are \[(\d+)\] and \[(\d+)\] exchanged", question)
+    return exchanged_with(int(found[1]), int(found[2])) if found else None
+
+
+def test_multipliers(facts, parts, others, question):
+    """Tests that multipliers differ from the written ones as a question says."""
+    if question is not None:
+        is_so = RELATIONS[question]
+        for (index, old), (_, new) in zip(parts, others):
+            is_equation = facts.constraint(index).sense == "E"
+            true(is_so(old, new, is_equation), f"{new} in place of {old} is another change")
+
+
+@form(
+    rf"  = help: with (\d+) more entries,((?: {NUMBER} x \[\d+\] \S+,)+) the derivation follows: are bounds of variables left out\? Variables are free"
+)
+def more_bounds(page, count, words: str):
+    facts = page.facts
+    listed = re.findall(rf"({NUMBER}) x \[(\d+)\] (\S+),", words)
+    same("the entries", len(listed), count)
+    for _, index, name in listed:
+        true(int(index) < facts.given, f"[{index}] is no constraint of the problem")
+        same("the name", name, shown_name(facts.constraint(int(index)).name))
+        true(len(facts.plain(int(index))[0]) == 1, f"[{index}] is no bound of a variable")
+    more = [(int(index), Fraction(multiplier)) for multiplier, index, _ in listed]
+    offered(page, [*facts.parts(facts.own()), *more])
+
+
+@form(
+    rf"  = help: with (\S+?)(, which is 2\^32 (?:more|less),)? in place of (\S+) in {LISTED_NAME} the derivation follows: (was a number cut to 32 bits|is that meant)\?"
+)
+def other_bound(page, meant: str, cut: str, present: str, index, name: str, line, question: str):
+    facts = page.facts
+    constraint_shown(facts, index, name, None, line)
+    row, sense, side = facts.plain(index)
+    is_written = index < facts.given or index in facts.checker.assumptions
+    true(is_written, "it follows from others")
+    if present in (">=", "<="):
+        same("the sense", present, SIGNS[sense])
+        true({meant, present} == {">=", "<="}, "it is the same sense")
+        other = row, "GL"["GL".index(sense) - 1], side
+    else:
+        same("the right-hand side", Fraction(present), side)
+        other = row, sense, Fraction(meant)
+    if cut is not None:
+        same("what was cut", other[2] - side, 2**32 if "more" in cut else -(2**32))
+    same("the question", question == "was a number cut to 32 bits", cut is not None)
+    saved, facts.checker.constraints[index] = facts.checker.constraints[index], other
+    try:
+        true(facts.accepts(facts.parts(facts.own())), "the derivation does not follow with this")
+    finally:
+        facts.checker.constraints[index] = saved
 
 
 # the kinds of lines that ask about numbers and lines of the text

@@ -4,7 +4,7 @@ use crate::stranger::StrangeBytes;
 use std::fmt::{self, Display, Formatter, Write};
 use vipr_cert::Problem;
 use vipr_frac::Frac;
-use vipr_linear::{Constraint, Sense};
+use vipr_linear::{Constraint, Row, Sense};
 
 /// How many terms of a row are shown.
 const MOST_TERMS: usize = 12;
@@ -56,15 +56,37 @@ pub(crate) struct Algebra<'a>(pub(crate) &'a Problem, pub(crate) &'a Constraint)
 
 impl Display for Algebra<'_> {
     fn fmt<W: Write>(&self, f: &mut Formatter<W>) -> fmt::Result {
-        let entries = self.1.row.entries();
+        let Algebra(problem, constraint) = *self;
+        let shown = BoundOn {
+            problem,
+            row: &constraint.row,
+            sense: constraint.sense,
+            bound: constraint.rhs,
+        };
+        write!(f, "{shown}")
+    }
+}
+
+/// A row with a bound, as a constraint is shown.
+#[derive(Clone, Copy)]
+pub(crate) struct BoundOn<'a> {
+    pub(crate) problem: &'a Problem,
+    pub(crate) row: &'a Row,
+    pub(crate) sense: Sense,
+    pub(crate) bound: Frac,
+}
+
+impl Display for BoundOn<'_> {
+    fn fmt<W: Write>(&self, f: &mut Formatter<W>) -> fmt::Result {
+        let entries = self.row.entries();
         let count = entries.len();
-        let sign = sign_of(self.1.sense);
-        let right = self.1.rhs;
+        let sign = sign_of(self.sense);
+        let right = self.bound;
         if count > MOST_TERMS {
-            let terms = Terms(self.0, &entries[..MOST_TERMS]);
+            let terms = Terms(self.problem, &entries[..MOST_TERMS]);
             write!(f, "{terms} .. ({count} terms) {sign} {right}")
         } else {
-            let terms = Terms(self.0, entries);
+            let terms = Terms(self.problem, entries);
             write!(f, "{terms} {sign} {right}")
         }
     }

@@ -10,8 +10,9 @@ ghost use Rattle.vipr_explain.specs.Replays.{IsReplayOf};
 
 use crate::near::Join;
 use crate::page::Page;
+use crate::rounded::may_be_rounded;
 use crate::shown::{PlacedItems, write_line};
-use crate::slips::{ONE_LESS, ONE_MORE};
+use crate::slips::{MOST_LEFT_OUT, ONE_LESS, ONE_MORE};
 use crate::sought::{Candidates, Ranking, Refused};
 use std::alloc::{AllocError, Global};
 use vipr_cert::{Derivation, Problem, Reason, References};
@@ -139,6 +140,15 @@ impl Changes {
         has_none && self.slip.is_none() && self.addition.is_none()
     }
 
+    /// Whether nothing but another multiplier would do, which looks like a rounded number.
+    pub(crate) fn has_rounded_alone(&self) -> bool {
+        if let Some(Change::Entry(_, _, multiplier)) = self.multiplier {
+            self.exchange.is_none() && self.slip.is_none() && may_be_rounded(multiplier)
+        } else {
+            false
+        }
+    }
+
     /// Writes a line for each change of a reason, at most two.
     pub(crate) fn write(&self, page: &mut Page, known: &PlacedItems<'_>, reason: &Reason) {
         let mut count: usize = 0;
@@ -177,9 +187,11 @@ fn write_shift(page: &mut Page, known: &PlacedItems<'_>, from: u32, by: u32) {
     if from > 0 {
         write!(page, "from {from} on ");
     }
+    let less = 0_u32.wrapping_sub(by);
     match by {
         ONE_LESS => page.put("one less"),
         ONE_MORE => page.put("one more"),
+        _ if less <= MOST_LEFT_OUT => write!(page, "{less} less"),
         more => write!(page, "{more} more"),
     }
     page.put(" the derivation follows");
@@ -188,10 +200,12 @@ fn write_shift(page: &mut Page, known: &PlacedItems<'_>, from: u32, by: u32) {
         page.put("\n");
     } else {
         let moved = shifted(from, from, by);
-        page.put(match by {
-            ONE_LESS => ": is a line left out before ",
-            _ => ": is there a line too many before ",
-        });
+        match by {
+            ONE_LESS => page.put(": is a line left out before "),
+            ONE_MORE => page.put(": is there a line too many before "),
+            _ if less <= MOST_LEFT_OUT => write!(page, ": are {less} lines left out before "),
+            more => write!(page, ": are there {more} lines too many before "),
+        }
         known.write_name(page, moved);
         write_line(page, known.marks.place(moved));
         page.put("?\n");

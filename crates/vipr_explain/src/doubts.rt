@@ -13,7 +13,7 @@ use crate::page::Page;
 use crate::rounded::{is_float, simple_near, unrounded};
 use crate::sought::{Refused, constraint_at, less_sum};
 use crate::step::RefusedStep;
-use crate::suspects::{OtherSum, Suspect, Suspects};
+use crate::suspects::{DifferingSum, Suspect, Suspects};
 use std::alloc::AllocError;
 use vipr_cert::References;
 use vipr_check::StepDetail;
@@ -78,7 +78,7 @@ impl Doubts {
             let differences = row_differences(refused.subject.alloc, &computed.row, &stated.row)?;
             doubts.rounded = rounded_in(refused, scratch, entries, &differences)?;
             doubts.has_row = doubts.rounded.is_some();
-            let sum = OtherSum {
+            let sum = DifferingSum {
                 refused,
                 entries,
                 differences: differences.as_slice(),
@@ -138,7 +138,7 @@ impl Doubts {
         if multiplier.is_some() {
             self.rounded = None;
         }
-        if self.has_likely_suspect() && names_absurdity(refused, entries, slip) {
+        if names_absurdity(refused, entries, slip) {
             slip = None;
         }
         if let Some(suspect) = self.suspect() {
@@ -146,7 +146,7 @@ impl Doubts {
                 multiplier = None;
             } else if suspect.is_likely() && multiplier.is_none() && is_other {
                 exchange = None;
-            } else if has_part || slip.is_some() {
+            } else if has_part || slip.is_some() || addition.is_some() {
                 self.suspects = Suspects::none();
             }
         }
@@ -159,6 +159,13 @@ impl Doubts {
             slip,
             addition,
         }
+    }
+
+    /// Those about the order of lines alone.
+    pub(crate) fn of_order(&self) -> Doubts {
+        let mut left = Doubts::none();
+        left.order = self.order;
+        left
     }
 
     /// The constraints whose rows are in doubt.

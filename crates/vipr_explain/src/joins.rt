@@ -90,6 +90,11 @@ fn add_join(ranking: &mut Ranking, refused: Refused<'_>, rank: u32, join: Join) 
     }
 }
 
+/// Whether each case of a join rests on its own assumption.
+pub(crate) fn rest_on_own(refused: Refused<'_>, join: Join) -> bool {
+    rests_on(refused, join.i1, join.l1) && rests_on(refused, join.i2, join.l2)
+}
+
 /// Whether a join looks like one that follows.
 pub(crate) fn is_likely(refused: Refused<'_>, sketches: &Sketches, join: Join) -> bool {
     are_sides(refused, sketches, join.l1, join.l2)

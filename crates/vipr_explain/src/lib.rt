@@ -15,6 +15,7 @@ macro_rules! or_drop {
 }
 
 mod algebra;
+mod bounds;
 mod by_name;
 mod cases;
 mod changes;
@@ -49,12 +50,16 @@ mod rounded;
 mod scaled;
 mod shifted_ints;
 mod shown;
+mod sides;
 mod sketch;
 mod slips;
 mod solution;
+mod solved;
 mod sought;
+mod splits;
 mod step;
 mod stranger;
+mod sums;
 mod suspects;
 mod syntax;
 mod text;

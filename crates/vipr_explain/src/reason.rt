@@ -29,6 +29,7 @@ pub(crate) fn step_indices(
     let StepAdvice {
         doubts,
         changes,
+        side,
         ..
     } = advice;
     let mut wanted = Vec::new(alloc);
@@ -56,6 +57,9 @@ pub(crate) fn step_indices(
         if let Some(Change::Entry(_, index, _)) = change {
             add_earlier(&mut wanted, fault.index, index)?;
         }
+    }
+    if let Some(slip) = side {
+        add_earlier(&mut wanted, fault.index, slip.index())?;
     }
     for doubtful in doubts.indices() {
         if let Some(index) = doubtful {
@@ -154,6 +158,7 @@ pub(crate) fn part_at_fault(
         (StepDetail::Rows { computed, stated }, ..) if !computed.row.is_same(&stated.row) => {
             ItemPart::Name
         }
+        (StepDetail::Rows { stated, .. }, ..) if stated.is_absurd() => ItemPart::Reason,
         (StepDetail::Rows { computed, stated }, ..)
             if computed.sense == Sense::E || computed.sense == stated.sense => {
             ItemPart::RightHandSide

@@ -16,6 +16,11 @@ const LEAST_OF_FLOAT: i128 = 0x10_0000;
 /// In a sum of more entries than these no multiplier counts as rounded.
 const MOST_ROUNDED: usize = 1_000;
 
+/// Whether a number may be a rounded one.
+pub(crate) fn may_be_rounded(number: Frac) -> bool {
+    number.denom() >= LEAST_DENOMINATOR
+}
+
 /// The fraction with the least denominator that is nearer to a number than one part of that
 /// number's large denominator.
 pub(crate) fn simple_near(number: Frac) -> Option<Frac> {

@@ -2,7 +2,7 @@
 //! from 1, or that scales a row.
 
 use crate::changes::{Change, shifted};
-use crate::joins::is_likely;
+use crate::joins::{is_likely, rest_on_own};
 use crate::near::Join;
 use crate::sketch::{Residue, Sketches};
 use crate::sought::{Missing, Ranking, Refused, factor_between, inverse};
@@ -14,11 +14,22 @@ pub(crate) const ONE_LESS: u32 = u32::MAX;
 
 pub(crate) const ONE_MORE: u32 = 1;
 
+/// How many lines it is asked for that are left out.
+pub(crate) const MOST_LEFT_OUT: u32 = 4;
+
 // How many indices are shifted at least: another one in the place of one is no slip of all.
 const LEAST: usize = 2;
 
 // The place of a factor among the slips: behind a shift of all indices.
 const OF_FACTOR: u64 = 3;
+
+// How many shifts there are of the indices from one on.
+const SHIFTS: usize = 9;
+
+// The place of the first shift by several, and what such a shift is ranked behind.
+const FIRST_OF_SEVERAL: usize = 3;
+
+const OF_SEVERAL: u64 = 1 << 32;
 
 // A search for shifts of indices with which the rows of a sum look the same.
 #[derive(Clone, Copy)]
@@ -78,20 +89,47 @@ pub(crate) fn add_shifts(
         given: refused.problem.cons().len() as u32,
     };
     for (place, by) in shifts(search.given).iter().enumerate() {
-        search.add(ranking, place as u64, *by);
+        search.add(ranking, place, *by);
     }
     Ok(())
 }
 
 // By how much indices are shifted that a program counts from 1, without the first one, or in DER
-// from 0.
-fn shifts(given: u32) -> [u32; 3] {
-    [ONE_LESS, ONE_MORE, given]
+// from 0; or if up to four lines are left out, or are too many.
+fn shifts(given: u32) -> [u32; SHIFTS] {
+    [
+        ONE_LESS,
+        ONE_MORE,
+        given,
+        less_by(2),
+        2,
+        less_by(3),
+        3,
+        less_by(4),
+        4,
+    ]
+}
+
+// The shift by so many less.
+fn less_by(count: u32) -> u32 {
+    0_u32.wrapping_sub(count)
+}
+
+// The rank of a shift, by its place among all and how many indices are before the first one that is
+// shifted.
+fn rank_of(place: usize, passed: usize) -> u64 {
+    let several = if place < FIRST_OF_SEVERAL {
+        0
+    } else {
+        OF_SEVERAL
+    };
+    let rank = (place as u64).saturating_add((passed as u64).saturating_mul(SHIFTS as u64));
+    rank.saturating_add(several)
 }
 
 impl ShiftSearch<'_> {
     // Adds the shifts by so much, those of the most entries first.
-    fn add(&self, ranking: &mut Ranking, place: u64, by: u32) {
+    fn add(&self, ranking: &mut Ranking, place: usize, by: u32) {
         let mut gain = Residue::zero();
         let mut unknown: usize = 0;
         for term in self.terms {
@@ -106,8 +144,7 @@ impl ShiftSearch<'_> {
             let is_enough = self.terms.len().saturating_sub(passed) >= LEAST;
             if before != Some(index) && is_enough && unknown == 0 && gain == self.missing {
                 let from = start_of(index, before, self.given);
-                let rank = place.saturating_add((passed as u64).saturating_mul(4));
-                ranking.add(rank, Change::Shift(from, by));
+                ranking.add(rank_of(place, passed), Change::Shift(from, by));
             }
             before = Some(index);
             match self.gain_of(*term, by) {
@@ -157,8 +194,23 @@ pub(crate) fn add_shifted_joins(
             let from = start_of(first, before, given);
             let meant = shifted_join(join, from, *by);
             if passed.saturating_add(LEAST) <= named.len() && is_likely(refused, sketches, meant) {
-                let rank = (place as u64).saturating_add((passed as u64).saturating_mul(4));
-                ranking.add(rank, Change::Shift(from, *by));
+                ranking.add(rank_of(place, passed), Change::Shift(from, *by));
+            }
+        }
+        let Join { i1, l1, i2, l2 } = join;
+        let cases = Join {
+            i1: i1.wrapping_add(*by),
+            i2: i2.wrapping_add(*by),
+            ..join
+        };
+        let assumptions = Join {
+            l1: l1.wrapping_add(*by),
+            l2: l2.wrapping_add(*by),
+            ..join
+        };
+        for meant in [cases, assumptions] {
+            if is_likely(refused, sketches, meant) && rest_on_own(refused, meant) {
+                ranking.add(rank_of(place, named.len()), Change::Join(meant));
             }
         }
     }

@@ -18,8 +18,11 @@ use crate::page::Page;
 use crate::past::write_past_in_sum;
 use crate::reason::{label_of, part_at_fault, step_indices, write_reason, write_sources};
 use crate::shown::{PlacedItems, write_last_use};
+use crate::sides::SideSlip;
 use crate::solution::PAST_LIMIT;
 use crate::sought::{Refused, constraint_at, inverse, less_sum};
+use crate::splits::{write_gap_help, write_partners};
+use crate::sums::OtherSum;
 use crate::text::{Reread, Subject};
 use std::alloc::AllocError;
 use vipr_cert::{Derivation, Problem, Reason, References};
@@ -61,6 +64,10 @@ pub(crate) struct StepAdvice {
     pub(crate) changes: Changes,
     /// Whether it follows by `lin` in place of `rnd`.
     pub(crate) follows_as_lin: bool,
+    /// A sum with which it follows that has all entries changed.
+    other: Option<OtherSum>,
+    /// A right-hand side or a sense above that is likely to be wrong.
+    pub(crate) side: Option<SideSlip>,
     /// The entry of a sum that gives another sense than the stated one.
     pub(crate) entry: Option<usize>,
 }
@@ -86,13 +93,35 @@ impl StepAdvice {
             doubts: Doubts::none(),
             changes: Changes::none(),
             follows_as_lin: false,
+            other: None,
+            side: None,
             entry: None,
         }
     }
 
     // Whether a change of one part comes first, so that the part is marked.
     fn begins_with_part(&self) -> bool {
-        !self.doubts.are_first() && !self.changes.begin_with_slip()
+        !self.doubts.are_first() && !self.changes.begin_with_slip() && self.other.is_none()
+    }
+
+    // Takes a sum with all entries changed, if it is likelier than other changes and the doubts.
+    fn take_other(&mut self, refused: Refused<'_>, other: Option<OtherSum>) {
+        let has_part = !self.changes.is_empty() && !self.changes.has_rounded_alone();
+        let is_open = !has_part && !self.doubts.has_number();
+        let mut is_likely = false;
+        if let Some(found) = &other {
+            is_likely = is_open || found.slip.is_of_count(refused);
+        }
+        if is_likely && !self.changes.begin_with_slip() {
+            self.other = other;
+            self.changes = Changes::none();
+            self.doubts = self.doubts.of_order();
+        }
+    }
+
+    // Whether it follows with no change that was tried.
+    fn has_no_change(&self) -> bool {
+        self.changes.is_empty() && self.other.is_none() && self.side.is_none()
     }
 
     /// The other multiplier and the exchange of which the part is marked.
@@ -152,6 +181,12 @@ impl<'a> RefusedStep<'a> {
     /// What is said of it.
     pub(crate) fn advice(&self) -> &StepAdvice {
         &self.advice
+    }
+
+    /// An assumption.
+    pub(crate) fn assumption(&self, index: u32) -> Option<&Constraint> {
+        let entry = self.search.replay.rows.get(index)?;
+        entry.is_assumption.then_some(&entry.constraint)
     }
 
     /// What it states.
@@ -217,11 +252,19 @@ impl<'a> RefusedStep<'a> {
         write_repeated_line(page, self.known.text, self.known.marks.place(index));
         advice.doubts.write_order(page, self.known.text);
         write_facts(page, self, &own.reason, fault);
+        if let Some(other) = &advice.other {
+            other.write(page, &self.known, &own.reason);
+        }
+        if let Some(slip) = &advice.side {
+            if let Some(constraint) = self.constraint(slip.index()) {
+                slip.write(page, &self.known, constraint.rhs, constraint.sense);
+            }
+        }
         changes.write(page, &self.known, &own.reason);
         if let StepDetail::Rows { computed, .. } | StepDetail::Sum(computed) = fault.what {
             advice.doubts.write_late(page, self, computed);
         }
-        if changes.is_empty() {
+        if advice.has_no_change() {
             write_help(page, &self.known, fault);
         }
         if let Some(dropped) = used_by(fault) {
@@ -299,16 +342,27 @@ fn advice_of(
         | cause::NOT_SPLIT
         | cause::NOT_DOMINATED => {
             let mut doubts = Doubts::find(refused, scratch, fault.what)?;
+            let other = OtherSum::find(refused, scratch)?;
+            let side = SideSlip::find(refused, scratch)?;
             let changes = changes_of(refused, scratch)?;
             advice.follows_as_lin = matches!(changes.exchange, Some(Change::Word));
             let changes = without_lin(changes, fault, refused.problem.ints());
             advice.changes = doubts.weigh(refused, changes);
             advice.doubts = doubts;
+            advice.take_other(refused, other);
+            if advice.has_no_change() && has_sum_of_rows(fault.cause) {
+                advice.side = side;
+            }
             advice.entry = entry_of_other_sense(refused, fault);
             Ok(advice)
         }
         _ => Ok(advice),
     }
+}
+
+// Whether a derivation with this cause might follow with another right-hand side or sense above.
+fn has_sum_of_rows(cause: u8) -> bool {
+    matches!(cause, cause::MIXED_SIGNS | cause::NOT_DOMINATED)
 }
 
 // The first entry that gives another sense than the stated one, if a sum has both.
@@ -459,7 +513,7 @@ fn write_facts(page: &mut Page, refused: &RefusedStep<'_>, reason: &Reason, faul
             write_labelled(page, problem, "    sum        ", sum);
             write_faults(page, problem, faults);
             refused.advice.doubts.write(page, refused, sum);
-            if refused.advice.changes.is_empty() && !refused.advice.doubts.has_number() {
+            if refused.advice.has_no_change() && !refused.advice.doubts.has_number() {
                 write_rounding(page, refused.advice.follows_as_lin, faults);
             }
         }
@@ -471,8 +525,13 @@ fn write_facts(page: &mut Page, refused: &RefusedStep<'_>, reason: &Reason, faul
                 if refused.advice.changes.is_empty() {
                     write_other_variable(page, problem, &first.row, &second.row);
                 }
+                write_partners(page, problem, first, second);
             } else if faults.is_empty() {
                 write_gap(page, refused.profile, *is_split, first, second);
+                write_partners(page, problem, first, second);
+                if let References::Branches { l1, l2, .. } = reason.references() {
+                    write_gap_help(page, refused, (l1, l2), first, second);
+                }
             } else {
                 write_faults(page, problem, faults);
             }
@@ -527,7 +586,7 @@ fn write_rows_help(
         References::Entries(_) if refused.advice.doubts.has_number() => {
             refused.advice.doubts.write(page, refused, computed);
         }
-        _ if !refused.advice.changes.is_empty() => {}
+        _ if !refused.advice.has_no_change() => {}
         References::Entries(_) => match ratio_of(stated, differences) {
             Some(ratio) => {
                 write!(
@@ -536,9 +595,13 @@ fn write_rows_help(
                 );
                 page.put("one: was the objective, or a row, multiplied by that?\n");
             }
+            None if stated.is_absurd() && differences.is_empty() => page.put(
+                "  = help: the rows cancel, and what is left is no contradiction: is a right-hand \
+                 side below wrong, or is this case not ruled out?\n",
+            ),
             None => page.put(
-                "  = help: is what was computed meant, or another multiplier, another constraint, \
-                 or another number in one of them?\n",
+                "  = help: no change of one entry that was tried makes it follow: is what was \
+                 computed meant, or is a number below wrong?\n",
             ),
         },
         References::Branches { i1, i2, .. } => write_case_help(page, refused, [i1, i2], stated),

@@ -67,14 +67,14 @@ impl Suspects {
 
 /// A sum whose row isn't the stated one.
 #[derive(Clone, Copy)]
-pub(crate) struct OtherSum<'a> {
+pub(crate) struct DifferingSum<'a> {
     pub(crate) refused: Refused<'a>,
     pub(crate) entries: &'a [(u32, Frac)],
     /// The variables at which the rows differ.
     pub(crate) differences: &'a [Difference],
 }
 
-impl<'a> OtherSum<'a> {
+impl<'a> DifferingSum<'a> {
     /// The numbers that are likely to be wrong in a row, without those of which a listed solution
     /// says that they are right.
     pub(crate) fn likely_suspects(self) -> Result<Suspects, AllocError> {
