@@ -50,7 +50,7 @@ PROGRAM = program(sys.argv[1:])
 MEMORY = b"", b"fault memory\n", 3
 READ = b"", b"fault read\n", 3
 ROOM = 64 << 20
-STACK = 64 << 10
+STACK, LONG_STACK = 64 << 10, 96 << 10
 # families whose sets of assumptions the rules ask for, each anew
 GROWS = {"growing"}
 CHECKS = Checks("hostile", "runs")
@@ -524,6 +524,14 @@ def little_stack(commands):
 
     every = families.FAMILIES + families.HOSTILE + families.KEPT
     each(one, itertools.product(every, commands))
+    text = (TOP / "examples/problems/set_cover.vipr").read_bytes()
+    for old, new in ((b"10 3 5 1 }", b"10 4 5 2 }"), (b"11 9 12 10", b"12 9 11 9")):
+        got = run(
+            [PROGRAM, "explain", "--long"],
+            text.replace(old, new),
+            preexec_fn=lambda: resource.setrlimit(resource.RLIMIT_STACK, (LONG_STACK,) * 2),
+        )
+        expect(f"explain --long with {new} in {LONG_STACK} bytes of stack", got.returncode, 1)
 
 
 # ---- texts
