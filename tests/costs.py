@@ -50,7 +50,7 @@ COMPACT = "show --compact", "tighten --compact"
 # how much more a text of four times the length may cost
 GROWTH = 5
 # how many times the instructions of `check` an explanation of these texts takes at most
-MOST_CHECKS = 6
+MOST_CHECKS = 8
 # bytes of memory for a byte of text, and what is free beside them
 MOST = {"check": 50, "explain": 50, "show": 50, "tighten": 50}
 ROOM = 2 << 20

@@ -100,7 +100,13 @@ MISTAKES = [
     # decimal
     ("knapsack", "13/4", "3.25", ".vipr:23:26\n", "write 13/4"),
     # index and count forgotten: rnd 0 13/4 2 1/4 6 1/2 (count p forgotten)
-    ("knapsack", "rnd 3 0", "rnd 0 13/4", ".vipr:23:24\n", "3 pairs in line 23 after the count of entries, 0: is 3 meant"),
+    (
+        "knapsack",
+        "rnd 3 0",
+        "rnd 0 13/4",
+        ".vipr:23:24\n",
+        "3 pairs in line 23 after the count of entries, 0: is 3 meant",
+    ),
     # brace glued
     ("knapsack", "{ rnd", "{rnd", ".vipr:23:16\n", "put a space after the brace"),
     # last reference forgotten at the last line
@@ -132,7 +138,13 @@ MISTAKES = [
     # wrong sense of a dual bound under max
     ("knapsack", "bound L 20", "bound G 20", ".vipr:23:7\n", "the sense: computed <=, stated >="),
     # a dense solution vector of n values
-    ("knapsack", "bc 2 1 1 2 1", "bc 3 1 1 1", ".vipr:21:10\n", "3 numbers in line 21 after the count of values, 3: are the indices left out?"),
+    (
+        "knapsack",
+        "bc 2 1 1 2 1",
+        "bc 3 1 1 1",
+        ".vipr:21:10\n",
+        "3 numbers in line 21 after the count of values, 3: are the indices left out?",
+    ),
     # solution that breaks cap
     (
         "knapsack",
@@ -362,7 +374,12 @@ HINTS = [
     ("diet", "protein G 8", "protein G 8 1/2", "is `8 1/2` a mixed number? Then write 17/2"),
     # a mail
     ("set_cover", "9 -6", "9 -=\n6", "mail breaks a long line with `=` at its end, as in line 23"),
-    ("set_cover", "a G 1", "a=\n_b G 1", "mail breaks a long line with `=` at its end, as in line 8"),
+    (
+        "set_cover",
+        "a G 1",
+        "a=\n_b G 1",
+        "mail breaks a long line with `=` at its end, as in line 8",
+    ),
     ("set_cover", "x1 x2", "x1 x=\n2", "mail breaks a long line with `=` at its end, as in line 4"),
     ("set_cover", "a G 1", "a a=3Db G 1", "mail writes `=3D` for `=`: was the file sent"),
     ("set_cover", "9 -6 ", "9 -6=20\n", "mail writes `=20` for a space: was the file sent"),
@@ -554,7 +571,12 @@ HINTS = [
         "range 16/5 inf\nSOL 0",
         "`SOL` has 1 solution, and its count is 0: is 1 meant?",
     ),
-    ("diet", "SOL 1", "SOL 2", "`DER` was read as a name, and 1 solution before it: is the count after"),
+    (
+        "diet",
+        "SOL 1",
+        "SOL 2",
+        "`DER` was read as a name, and 1 solution before it: is the count after",
+    ),
     (
         "matching",
         "SOL 1\nm 1 0 1\nDER 1\nodd L 1 OBJ { rnd 3 0 1/2 1 1/2 2 1/2 } -1\n",
@@ -619,7 +641,12 @@ HINTS = [
     ("diet", "3/5", "3/5;", "is `3/5` meant? Nothing else may be in its token"),
     ("diet", "3/5", "3/5x;", "remove the comma or semicolon"),
     ("diet", "4/25 }", "4/25}", "put a space before the brace"),
-    ("diet", "1 4/25 }", "1 }", "3 numbers in line 16 after the count of entries, 2: is a number lost"),
+    (
+        "diet",
+        "1 4/25 }",
+        "1 }",
+        "3 numbers in line 16 after the count of entries, 2: is a number lost",
+    ),
     ("diet", "dual G 16/5 OBJ", "dual G OBJ", "is the right-hand side missing?"),
     ("diet", "dual G 16/5 OBJ", "dual G DER", "this is the keyword of a section"),
     ("diet", "protein G 8", "protein G eight", "is the count before it right?"),
@@ -659,7 +686,12 @@ HINTS = [
     ("diet", "protein G", '"my protein" G', "a name has no spaces, not even in quotes"),
     ("diet", "iron G", "my iron G", "is a space in the name, or a coefficient missing above?"),
     ("diet", "iron G", "G", "is it the sense, and the name missing?"),
-    ("diet", "protein G 8 2", "protein G 8 1", "2 pairs in line 8 after the count of coefficients, 1"),
+    (
+        "diet",
+        "protein G 8 2",
+        "protein G 8 1",
+        "2 pairs in line 8 after the count of coefficients, 1",
+    ),
     # reasons
     ("diet", "{ lin", "lin", "write `{` in front of this reason"),
     ("diet", "{ lin", "( lin", "a reason is between `{` and `}`"),
@@ -953,7 +985,12 @@ HINTS = [
         "2nd 0",
         "the solution lists no value, so each variable is 0: is its count right?",
     ),
-    ("diet", "range 16/5 16/5\nSOL 1\nopt 2 0 3 1 2", "range 16/5 9\nSOL 1\nopt 2 0 3 1 1", "change the solution, or leave it out"),
+    (
+        "diet",
+        "range 16/5 16/5\nSOL 1\nopt 2 0 3 1 2",
+        "range 16/5 9\nSOL 1\nopt 2 0 3 1 1",
+        "change the solution, or leave it out",
+    ),
     ("diet", "iron G 9 2 0 1 1 3", "iron G 9 0", "no solution meets this constraint"),
     (
         "knapsack",
@@ -1607,7 +1644,10 @@ TRUE = [
     (
         [],
         "VER 1.0 VAR 1 x INT 0 OBJ min 0 CON 2 0 a G 1 1 0 1 b L 1 1 0 1 RTP infeas SOL 0 DER 1 d G 1 0 { lin 2 0 1 1 -1 } -1",
-        ["^^^ this reason", "the rows cancel, and what is left is no contradiction: is a right-hand"],
+        [
+            "^^^ this reason",
+            "the rows cancel, and what is left is no contradiction: is a right-hand",
+        ],
         ["this right-hand side"],
     ),
     # two assumptions that are no split: the other side of each, another spelling, a third case, and a number that was cut
@@ -2877,9 +2917,7 @@ def slips_are_named():
             words = lines[at]
             first = words.index("{") + 3
             if words[first - 2] in ("lin", "rnd", "uns"):
-                for kind, other in slipped(
-                    words, first, given, bounds, given + len(reasons) // 2
-                ):
+                for kind, other in slipped(words, first, given, bounds, given + len(reasons) // 2):
                     kinds[kind][at] = other
         for kind, others in kinds.items():
             text = "\n".join(

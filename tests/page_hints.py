@@ -154,7 +154,9 @@ HINTS = {
         "p|[-0-9]+"
     ),
     "this looks like a pseudo-Boolean problem or proof, and not like a certificate": is_pseudo_boolean,
-    "this looks like a file of a solution, and not like a certificate": first_is("solution|objective"),
+    "this looks like a file of a solution, and not like a certificate": first_is(
+        "solution|objective"
+    ),
     "this looks like an MPS file, which has the problem alone: a certificate has the claim and its proof, too": first_is(
         "[*].*|NAME|ROWS"
     ),

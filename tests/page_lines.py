@@ -1000,9 +1000,7 @@ def comes_later(page, index, name: str, line):
 
 NAMED = r"\[(\d+)\] (\S+)"
 # behind a change of one index, if that was counted from the first derivation on
-FROM_ZERO = (
-    r"(?: \(indices count from 0: the problem has (\d+) constraints?, so the first derivation is (\d+)\))?"
-)
+FROM_ZERO = r"(?: \(indices count from 0: the problem has (\d+) constraints?, so the first derivation is (\d+)\))?"
 # the kinds of lines that offer a change
 OFFERS = (
     "other_join",
@@ -1185,8 +1183,7 @@ def other_sum(page, word: str, count, words: str, is_cut: str, question: str):
     facts = page.facts
     numbers = words.split()
     shown_parts = [
-        (int(index), Fraction(multiplier))
-        for index, multiplier in zip(numbers[::2], numbers[1::2])
+        (int(index), Fraction(multiplier)) for index, multiplier in zip(numbers[::2], numbers[1::2])
     ]
     parts = facts.parts(facts.own())
     same("the reason", (word, count), (facts.own().reason, len(parts)))
@@ -1215,9 +1212,7 @@ def meant_indices(facts, question):
         front = int(found[1] or 1)
         same("the constraints", front + int(found[2]), facts.given)
         return turned(front, facts.given)
-    found = re.fullmatch(
-        r"is each of the (\d+) equations of the problem counted twice", question
-    )
+    found = re.fullmatch(r"is each of the (\d+) equations of the problem counted twice", question)
     if found:
         equations = sum(facts.constraint(index).sense == "E" for index in range(facts.given))
         same("the equations", int(found[1]), equations)
@@ -1410,9 +1405,7 @@ def swapped(
     def changed(row):
         same("whether both are there", all(at in row for at in places), one is not None)
         if one is None:
-            same(
-                "what is there", [variable(facts, at) for at in places if at in row], [present]
-            )
+            same("what is there", [variable(facts, at) for at in places if at in row], [present])
         rest = {at: number for at, number in row.items() if at not in places}
         turned = dict(zip(places, reversed(places)))
         return rest | {turned[at]: row[at] for at in places if at in row}
@@ -1722,7 +1715,7 @@ def follows(facts, index, parts, stated=None):
 @form(
     rf"  = help: \[(\d+)\] follows with {NAMED} in place of \[(\d+)\], too: is \[(\d+)\] a bound of another branch\?"
 )
-def other_bound(page, user, bound, name: str, left, again):
+def bound_of_own_branch(page, user, bound, name: str, left, again):
     facts = page.facts
     known = page.user, page.left, page.left
     same("the derivation and the assumption", (user, left, again), known)

@@ -91,7 +91,7 @@ def required(facts, said):
             "near": count,
         }.items()
         is_proved = strongest_bound(facts) is not None
-        helps = 1 + is_proved + said["other_bound"]
+        helps = 1 + is_proved + said["bound_of_own_branch"]
         yield from {"proved_bound": int(is_proved), "help": helps}.items()
         yield from required_advice(facts, said)
     else:

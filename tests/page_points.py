@@ -148,9 +148,7 @@ def offers_point(facts):
     values = point_of(facts)
     row = facts.plain(int(facts.details["constraint"].split()[0]))[0]
     points = [
-        {index + by: value for index, value in values.items()}
-        for by in (-1, 1)
-        if len(values) > 1
+        {index + by: value for index, value in values.items()} for by in (-1, 1) if len(values) > 1
     ]
     for index in row.keys() & values.keys():
         points.append(values | {index: -values[index]})

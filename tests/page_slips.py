@@ -365,7 +365,9 @@ TEXTS = [
     ),
     # INT counted from 1, at a sum that is rounded and at a solution
     (
-        RANGE.format(0, "1 x G 1 2 0 1 1 1 { rnd 1 0 1 } -1").replace("4 0 1 1 1 2 1 3 1 RTP", "2 0 1 1 1 RTP"),
+        RANGE.format(0, "1 x G 1 2 0 1 1 1 { rnd 1 0 1 } -1").replace(
+            "4 0 1 1 1 2 1 3 1 RTP", "2 0 1 1 1 RTP"
+        ),
         "does INT count variables from 1? With each of its indices 1 less",
         "",
     ),
@@ -451,7 +453,10 @@ UNTRUE_SLIPS = [
         )
     ],
     *[
-        ("VER 1.0\nVAR 2\na b\nINT 0\nOBJ min 0\nCON 2 0\nc L 1 1 0 1\nd M 2 1 0 1\nRTP infeas\n", sentence)
+        (
+            "VER 1.0\nVAR 2\na b\nINT 0\nOBJ min 0\nCON 2 0\nc L 1 1 0 1\nd M 2 1 0 1\nRTP infeas\n",
+            sentence,
+        )
         for sentence in (
             "`VAR` has 3 names, and its count is 2: is that wrong, or is a space in a name?",
             "`CON` has 3 constraints, and its count is 2: is 3 meant? It counts all constraints, bounds included",
