@@ -218,7 +218,7 @@ def double_in_row(page, meant, present, name: str):
 
 
 @form(
-    r"  = help: the stated row is the objective's: with (.+) after `OBJ` the rows are the same: is that meant\?"
+    r"  = help: the stated row is the objective's: with (.+) in both the rows are the same: is that meant after `OBJ`\?"
 )
 def other_objective(page, words: str):
     facts = page.facts

@@ -360,7 +360,7 @@ TEXTS = [
     (
         "VER 1.0 VAR 3 truck van parts INT 0 OBJ max 2 0 17 1 11 CON 3 3 a L 1 1 0 1 b L 7 1 1 1 c L 8 2 1 2 2 1 RTP range -inf inf "
         "SOL 0 DER 1 d L 76 OBJ { lin 3 0 17 1 5 2 3 } -1",
-        "the stated row is the objective's: with 3 in place of 0 at parts after `OBJ` the rows are the same: is that meant?",
+        "the stated row is the objective's: with 3 in place of 0 at parts in both the rows are the same: is that meant after `OBJ`?",
         "",
     ),
     # INT counted from 1, at a sum that is rounded and at a solution
@@ -449,7 +449,7 @@ UNTRUE_SLIPS = [
             "with variables counted in the order of their names the stated row is the objective's: are those of DER in that order, and "
             "not in VAR's?",
             "the stated row has the objective's coefficients at other variables: are those of DER in another order than in VAR?",
-            "the stated row is the objective's: with 3 in place of 4 at parts after `OBJ` the rows are the same: is that meant?",
+            "the stated row is the objective's: with 3 in place of 4 at parts in both the rows are the same: is that meant after `OBJ`?",
         )
     ],
     *[

@@ -295,7 +295,7 @@ fn write_objective(page: &mut Page, refused: &RefusedStep<'_>, computed: &Row) {
             front = write_meant(page, refused, computed, entry.0, front);
         }
     }
-    page.put(" after `OBJ` the rows are the same: is that meant?\n");
+    page.put(" in both the rows are the same: is that meant after `OBJ`?\n");
 }
 
 // Writes which coefficient of a variable is computed in place of the stated one, if it is another
