@@ -50,7 +50,7 @@ PROGRAM = program(sys.argv[1:])
 MEMORY = b"", b"fault memory\n", 3
 READ = b"", b"fault read\n", 3
 ROOM = 64 << 20
-STACK, LONG_STACK = 64 << 10, 128 << 10
+STACK, LONG_STACK = 64 << 10, 96 << 10
 # families whose sets of assumptions the rules ask for, each anew
 GROWS = {"growing"}
 CHECKS = Checks("hostile", "runs")
