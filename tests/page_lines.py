@@ -1245,6 +1245,12 @@ def more_bounds(page, count, words: str):
     offered(page, [*facts.parts(facts.own()), *more])
 
 
+def gap_of_sum(facts):
+    """How much the stated right-hand side is above that of the sum, before a rounding."""
+    sides = (multiplier * facts.plain(at)[2] for at, multiplier in facts.parts(facts.own()))
+    return facts.plain(facts.number())[2] - sum(sides)
+
+
 @form(
     rf"  = help: with (\S+?)(, which is 2\^32 (?:more|less),)? in place of (\S+) in {LISTED_NAME} the derivation follows: (was a number cut to 32 bits|is that meant)\?"
 )
@@ -1254,6 +1260,7 @@ def other_bound(page, meant: str, cut: str, present: str, index, name: str, line
     row, sense, side = facts.plain(index)
     is_written = index < facts.given or index in facts.checker.assumptions
     true(is_written, "it follows from others")
+    parts = facts.parts(facts.own())
     if present in (">=", "<="):
         same("the sense", present, SIGNS[sense])
         true({meant, present} == {">=", "<="}, "it is the same sense")
@@ -1261,12 +1268,14 @@ def other_bound(page, meant: str, cut: str, present: str, index, name: str, line
     else:
         same("the right-hand side", Fraction(present), side)
         other = row, sense, Fraction(meant)
+        if cut is None:
+            same("what is meant", Fraction(meant), side + gap_of_sum(facts) / dict(parts)[index])
     if cut is not None:
         same("what was cut", other[2] - side, 2**32 if "more" in cut else -(2**32))
     same("the question", question == "was a number cut to 32 bits", cut is not None)
     saved, facts.checker.constraints[index] = facts.checker.constraints[index], other
     try:
-        true(facts.accepts(facts.parts(facts.own())), "the derivation does not follow with this")
+        true(facts.accepts(parts), "the derivation does not follow with this")
     finally:
         facts.checker.constraints[index] = saved
 
