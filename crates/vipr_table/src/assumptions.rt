@@ -27,6 +27,9 @@ use vipr_shared::Shared;
 // Up to how many indices are one list.
 const SHORT: usize = 256;
 
+// From how many indices on a set in pages stays so.
+const STILL_LONG: usize = 241;
+
 // How many indices a word of a page has at least, on average.
 const DENSE: usize = 2;
 
@@ -279,7 +282,7 @@ impl Assumptions {
     fn of_pages(alloc: Global, pages: IndexPages) -> Result<Self, AllocError>
         ensures { IfOk result (λ s. s ≡ pages) }
     {
-        if pages.len() <= SHORT / 2 || !is_dense(pages.words(), pages.len()) {
+        if pages.len() < STILL_LONG || !is_dense(pages.words(), pages.len()) {
             let indices = pages.indices(alloc);
             drop(pages);
             return Assumptions::of_indices(alloc, indices?);

@@ -90,7 +90,12 @@ impl IndexPage {
         ensures { IfOk result (λ page. page ≡ set.remove self.now index) }
     {
         let words = words_without(alloc, self.first, self.words.as_slice(), index)?;
-        Ok(IndexPage::of(self.first, words))
+        let was_there = self.contains(index);
+        Ok(IndexPage {
+            first: self.first,
+            words,
+            len: self.len.saturating_sub(was_there as usize),
+        })
     }
 
     /// Whether both have the same words. `true` says that they are equal.

@@ -208,6 +208,9 @@ fn union_of(
     if page.is_one(other) {
         return page.clone();
     }
+    if page.as_ref().is_same(other.as_ref()) {
+        return page.clone();
+    }
     let union = page.as_ref().union(alloc, other.as_ref())?;
     if union.is_same(page.as_ref()) {
         return page.clone();
