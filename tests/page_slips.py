@@ -204,6 +204,13 @@ SLIPS = [
         "3 0 10 1 13 2 7\nOBJ max\n",
         "with lines 9 and 10 exchanged the text can be read on: are they in the wrong order?",
     ),
+    # a vector whose entries aren't added up: another order of the lines doesn't mend it
+    (
+        "knapsack",
+        "cap L 6",
+        "twice L 6 2 0 1 0 1\ncap L 6",
+        "a variable may be in a vector once: are its coefficients to be added up?",
+    ),
     (
         "knapsack",
         "c_up L 1 1 2 1\nRTP range 20 20\n",

@@ -12,7 +12,7 @@ use crate::wanted::Section::*;
 use crate::wanted::Wanted::*;
 use crate::wanted::{Section, TextProgress, Wanted, is_word};
 use crate::words::Words;
-use vipr_check::cause::{TRUNCATED, WRONG_KEYWORD};
+use vipr_check::cause::{REPEATED_INDEX, TRUNCATED, WRONG_KEYWORD};
 
 /// How many bytes a line has at most that is read in another place.
 const MOST_OF_LINE: u64 = 1_024;
@@ -84,7 +84,7 @@ fn line_of_keyword(fault: &TextFault<'_>, keyword: &str) -> Option<u64> {
 /// whether it did.
 pub(crate) fn ask_about_exchange(page: &mut Page, cause: u8, fault: &TextFault<'_>) -> bool {
     let found = &fault.found;
-    if cause == TRUNCATED {
+    if matches!(cause, TRUNCATED | REPEATED_INDEX) {
         return false;
     }
     for begin in [found.line_before, found.line] {
